@@ -1,0 +1,6 @@
+-- What diagrams mean: functions of bits, trees, tables of trees, room.
+pub mod Bits
+pub mod Tree
+pub mod Table
+pub mod Room
+pub mod Kept
