@@ -1,0 +1,49 @@
+-- Disguised logs: demand 3's renaming. Assumes nothing: these are definitions.
+use Prim.Native.Nat.{ℕ}
+use mathlib.Core.Path.{_≡_}
+use mathlib.Core.Bool.{Bool, true, false, _||_}
+use mathlib.Core.List.{List, [], _∷_, _++_, map}
+use lib.Dec.{eqb}
+use Rattle.meaning.specs.declared.Event.{Event}
+use Rattle.meaning.specs.Qtl.{Argument, variable, constant, Fact}
+use Rattle.meaning.specs.Rows.{Row, truth, atom, both, neg, since, previous, exists}
+use Rattle.meaning.specs.Outcome.{factOf}
+
+-- whether a value is in a list
+unfoldable pub among : ℕ → List ℕ → Bool
+among x [] = false
+among x (y ∷ ys) = eqb x y || among x ys
+
+-- the values that the events use
+unfoldable pub used : List Event → List ℕ
+used [] = []
+used (e ∷ es) = factOf e .values ++ used es
+
+-- the rule's constants
+unfoldable pub constantsIn : List Argument → List ℕ
+constantsIn [] = []
+constantsIn (variable v ∷ gs) = constantsIn gs
+constantsIn (constant c ∷ gs) = c ∷ constantsIn gs
+
+unfoldable pub constants : List Row → List ℕ
+constants [] = []
+constants (truth ∷ rs) = constants rs
+constants (atom p gs ∷ rs) = constantsIn gs ++ constants rs
+constants (both l r ∷ rs) = constants rs
+constants (neg r ∷ rs) = constants rs
+constants (since l r ∷ rs) = constants rs
+constants (previous r ∷ rs) = constants rs
+constants (exists x r ∷ rs) = constants rs
+
+-- "rename values one to one, each constant of the rule to itself and nothing else to a constant"
+pub record Disguise (rule : List Row) (es : List Event) (π : ℕ → ℕ) : Type 0 where
+  pub one : (x y : ℕ) → among x (used es) ≡ true → among y (used es) ≡ true → π x ≡ π y → x ≡ y
+  pub keeps : (c : ℕ) → among c (constants rule) ≡ true → π c ≡ c
+  pub else : (x c : ℕ) → among x (used es) ≡ true → among c (constants rule) ≡ true → π x ≡ c → x ≡ c
+
+-- an event and its fact, disguised
+unfoldable pub disguised : (ℕ → ℕ) → Event → Event
+disguised π e = record { predicate = e .predicate; count = e .count; values = map (λ v. record { 0 = π (v .0) }) (e .values) }
+
+unfoldable pub disguisedFact : (ℕ → ℕ) → Fact → Fact
+disguisedFact π f = record { predicate = f .predicate; values = map π (f .values) }

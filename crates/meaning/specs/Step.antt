@@ -1,0 +1,81 @@
+-- One step of the meaning, read over numbers: the function of each row after an event, and the functions counted for room.
+-- Assumes nothing: these are definitions.
+use Prim.Native.Nat.{ℕ, zero, suc, _+_, _*_}
+use mathlib.Core.Bool.{Bool, true, false, not, _&&_, _||_}
+use mathlib.Core.List.{List, [], _∷_, _++_, map}
+use lib.Dec.{eqb}
+use lib.ListN.{length, getD, replicate}
+use Rattle.trees.specs.Bits.{Function, number, drop, drops}
+use Rattle.trees.specs.Tree.{Tree, off, eval, treeOf}
+use Rattle.trees.specs.Table.{addTrees}
+use Rattle.meaning.specs.Qtl.{Argument, variable, constant, Fact}
+use Rattle.meaning.specs.Rows.{Row, truth, atom, both, neg, since, previous, exists}
+use Rattle.meaning.specs.Numbering.{Lists, place, listed, askRows}
+
+-- an atom's arguments: each constant is the value there, and each variable's bits show the number of the value there
+unfoldable pub argumentsSay : ℕ → Lists → List Argument → List ℕ → Function
+argumentsSay k L [] [] s = true
+argumentsSay k L [] (y ∷ ys) s = false
+argumentsSay k L (g ∷ gs) [] s = false
+argumentsSay k L (variable v ∷ gs) (y ∷ ys) s = (listed (L v) y && eqb (number s (v * k) k) (place (L v) y)) && argumentsSay k L gs ys s
+argumentsSay k L (constant c ∷ gs) (y ∷ ys) s = eqb c y && argumentsSay k L gs ys s
+
+-- What the row at place i says after the event: old j and now j are the functions of the row j before and after it.
+unfoldable pub rowSays : ℕ → Lists → Fact → (ℕ → Function) → (ℕ → Function) → ℕ → Row → Function
+rowSays k L e old now i truth s = true
+rowSays k L e old now i (atom p gs) s = eqb (e .predicate) p && argumentsSay k L gs (e .values) s
+rowSays k L e old now i (both l r) s = now l s && now r s
+rowSays k L e old now i (neg r) s = not (now r s)
+rowSays k L e old now i (since l r) s = now r s || (now l s && old i s)
+rowSays k L e old now i (previous r) s = old r s
+rowSays k L e old now i (exists x r) s = drops (x * k) k (now r) s
+
+-- the function of the diagram at a place
+unfoldable pub saysAt : List Tree → ℕ → Function
+saysAt ts i = eval (getD ts i off)
+
+-- the diagrams after the event, row by row: ts are those of the rows before
+unfoldable pub rowTree : ℕ → Lists → Fact → List Tree → List Tree → Row → Tree
+rowTree k L e old ts r = treeOf (4 * k) (rowSays k L e (saysAt old) (saysAt ts) (length ts) r)
+
+unfoldable pub rowTrees : ℕ → Lists → Fact → List Tree → List Tree → List Row → List Tree
+rowTrees k L e old ts [] = ts
+rowTrees k L e old ts (r ∷ rs) = rowTrees k L e old (ts ++ rowTree k L e old ts r ∷ []) rs
+
+-- what the tables show: the values that have numbers, and the diagram of each row
+pub record Shown : Type 0 where
+  pub lists : Lists
+  pub trees : List Tree
+
+-- before the first event: no values, and no for every row
+unfoldable pub fresh : List Row → Shown
+fresh rule = record { lists = λ v. []; trees = replicate (length rule) off }
+
+-- one event
+unfoldable pub step : ℕ → List Row → Shown → Fact → Shown
+step k rule s e =
+    let L = askRows e (s .lists) rule in
+    record { lists = L; trees = rowTrees k L e (s .trees) [] rule }
+
+-- "the functions met when its variable's bits are removed one at a time, from bit k − 1 down to bit 0"
+unfoldable pub removals : ℕ → ℕ → Function → List Function
+removals base zero g = []
+removals base (suc n) g = drop (base + n) g ∷ removals base n (drop (base + n) g)
+
+unfoldable pub removed : ℕ → List Tree → List Row → List Function
+removed k ts [] = []
+removed k ts (truth ∷ rs) = removed k ts rs
+removed k ts (atom p gs ∷ rs) = removed k ts rs
+removed k ts (both l r ∷ rs) = removed k ts rs
+removed k ts (neg r ∷ rs) = removed k ts rs
+removed k ts (since l r ∷ rs) = removed k ts rs
+removed k ts (previous r ∷ rs) = removed k ts rs
+removed k ts (exists x r ∷ rs) = removals (x * k) k (saysAt ts r) ++ removed k ts rs
+
+-- "Counted functions: each row's before the event; each row's after it; and for each exists row the functions met .."
+unfoldable pub counted : ℕ → List Row → List Tree → List Tree → List Function
+counted k rule old new = map eval old ++ (map eval new ++ removed k new rule)
+
+-- The room of an event. That it is the room of `Room` over the counted functions is a theorem.
+unfoldable pub roomOf : ℕ → List Row → List Tree → List Tree → ℕ
+roomOf k rule old new = length (addTrees [] (map (treeOf (4 * k)) (counted k rule old new)))
