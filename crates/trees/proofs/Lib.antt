@@ -7,3 +7,7 @@ pub mod TableLaws
 pub mod ShowLaws
 pub mod RoomLaws
 pub mod KeptLaws
+pub mod ReadLaws
+pub mod CanonicalLaws
+pub mod LayoutLaws
+pub mod IgnoreLaws
