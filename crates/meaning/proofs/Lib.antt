@@ -4,4 +4,9 @@ pub mod ValuesLaws
 pub mod AskingLaws
 pub mod StepLaws
 pub mod Simulation
+pub mod FreeLaws
+pub mod VerdictLaws
+pub mod ShownLaws
+pub mod PartsLaws
+pub mod ProperLaws
 pub mod Cases

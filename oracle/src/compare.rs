@@ -1,0 +1,122 @@
+//! One case on two monitors, call by call: state, answer and every number of the slices must be the same.
+
+use crate::case::{Begin, Case, DIRT};
+use crate::coverage::Coverage;
+use crate::enumerating::Oracle;
+use crate::event::{Answer, State};
+use crate::monitor::Monitor;
+use crate::reached::{at_event, at_start, Handed};
+
+/// What one call left.
+#[derive(Clone, Debug, PartialEq, Eq)]
+pub struct Left {
+    pub state: State,
+    pub answer: Answer,
+    pub nodes: Vec<u32>,
+    pub values: Vec<u32>,
+    pub work: Vec<u32>,
+}
+
+/// Runs a case on the oracle and on the subject, and gives what the oracle's calls left.
+pub fn compare(
+    case: &Case,
+    subject: &mut dyn Monitor,
+    coverage: &mut Coverage,
+) -> Result<Vec<Left>, String> {
+    let mut oracle = Oracle::default();
+    let mut transcript: Vec<Left> = Vec::new();
+    let mut now = Left::before(case);
+    if let Begin::Start { k } = case.begin {
+        let left = both(&now, &mut oracle, subject, |monitor, left| {
+            monitor.start(k, &case.rows, &mut left.nodes, &mut left.values)
+        })
+        .map_err(|differs| format!("start: {differs}"))?;
+        at_start(coverage, &now.handed(&case.rows), left.answer);
+        now = left.clone();
+        transcript.push(left);
+    }
+    let fresh = matches!(case.begin, Begin::Start { .. });
+    for (ordinal, event) in case.events.iter().enumerate() {
+        // The work slice can hold anything before a call.
+        now.work.fill(DIRT);
+        let left = both(&now, &mut oracle, subject, |monitor, left| {
+            let (nodes, values) = (&mut left.nodes, &mut left.values);
+            monitor.event(left.state, &case.rows, nodes, values, &mut left.work, event)
+        })
+        .map_err(|differs| format!("event {} {event:?}: {differs}", ordinal + 1))?;
+        let handed = now.handed(&case.rows);
+        at_event(coverage, &handed, &now.state, fresh, event, left.answer);
+        now = left.clone();
+        transcript.push(left);
+    }
+    Ok(transcript)
+}
+
+impl Left {
+    /// What stands before a case's first call.
+    fn before(case: &Case) -> Left {
+        Left {
+            state: match case.begin {
+                Begin::Given(state) => state,
+                Begin::Start { .. } => State::ZERO,
+            },
+            answer: Answer::Started,
+            nodes: case.nodes.clone(),
+            values: case.values.clone(),
+            work: case.work.clone(),
+        }
+    }
+
+    fn handed<'a>(&'a self, rows: &'a [u32]) -> Handed<'a> {
+        Handed {
+            rows,
+            nodes: &self.nodes,
+            values: &self.values,
+            work: &self.work,
+        }
+    }
+}
+
+/// Makes a call on both monitors, each with its own copy of what is handed in.
+fn both(
+    handed: &Left,
+    oracle: &mut dyn Monitor,
+    subject: &mut dyn Monitor,
+    call: impl Fn(&mut dyn Monitor, &mut Left) -> (State, Answer),
+) -> Result<Left, String> {
+    let (mut one, mut two) = (handed.clone(), handed.clone());
+    (one.state, one.answer) = call(oracle, &mut one);
+    (two.state, two.answer) = call(subject, &mut two);
+    match difference(&one, &two) {
+        None => Ok(one),
+        Some(differs) => Err(differs),
+    }
+}
+
+/// The first thing that differs, in words.
+fn difference(oracle: &Left, subject: &Left) -> Option<String> {
+    if oracle.answer != subject.answer {
+        return Some(format!(
+            "answer {:?} is {:?} by the oracle",
+            subject.answer, oracle.answer
+        ));
+    }
+    if oracle.state != subject.state {
+        return Some(format!(
+            "state {:?} is {:?} by the oracle",
+            subject.state, oracle.state
+        ));
+    }
+    let slices = [
+        ("node", &oracle.nodes, &subject.nodes),
+        ("value", &oracle.values, &subject.values),
+        ("work", &oracle.work, &subject.work),
+    ];
+    slices.iter().find_map(|(name, one, two)| {
+        let place = (0..one.len()).find(|&place| one[place] != two[place])?;
+        Some(format!(
+            "number {place} of the {name} slice is {} and {} by the oracle",
+            two[place], one[place]
+        ))
+    })
+}

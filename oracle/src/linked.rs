@@ -1,0 +1,187 @@
+//! The proved monitor's static library behind the two calls.
+
+use crate::event::{Answer, Event, State};
+use crate::monitor::Monitor;
+use crate::rows::{MOST_ROWS, VARIABLES};
+
+#[link(name = "moheguzari", kind = "static")]
+extern "C" {
+    fn moheguzari_start(
+        k: u32,
+        rows: *const u32,
+        rows_len: usize,
+        nodes: *mut u32,
+        nodes_len: usize,
+        values: *mut u32,
+        values_len: usize,
+        state: *mut u32,
+        state_len: usize,
+        answer: *mut u32,
+        answer_len: usize,
+    ) -> bool;
+
+    fn moheguzari_event(
+        rows: *const u32,
+        rows_len: usize,
+        nodes: *mut u32,
+        nodes_len: usize,
+        values: *mut u32,
+        values_len: usize,
+        work: *mut u32,
+        work_len: usize,
+        predicate: u32,
+        count: u32,
+        first: u32,
+        second: u32,
+        third: u32,
+        state: *mut u32,
+        state_len: usize,
+        answer: *mut u32,
+        answer_len: usize,
+    ) -> bool;
+}
+
+/// k, rows, kept, four counts and 64 references.
+const STATE_NUMBERS: usize = 3 + VARIABLES + MOST_ROWS;
+
+pub struct Linked;
+
+fn packed(state: &State) -> [u32; STATE_NUMBERS] {
+    let mut numbers = [0; STATE_NUMBERS];
+    numbers[..3].copy_from_slice(&[state.k, state.rows, state.kept]);
+    numbers[3..3 + VARIABLES].copy_from_slice(&state.counts);
+    numbers[3 + VARIABLES..].copy_from_slice(&state.refs);
+    numbers
+}
+
+fn unpacked(numbers: &[u32; STATE_NUMBERS]) -> State {
+    let mut state = State {
+        k: numbers[0],
+        rows: numbers[1],
+        kept: numbers[2],
+        ..State::ZERO
+    };
+    state.counts.copy_from_slice(&numbers[3..3 + VARIABLES]);
+    state.refs.copy_from_slice(&numbers[3 + VARIABLES..]);
+    state
+}
+
+impl Monitor for Linked {
+    fn start(
+        &mut self,
+        k: u32,
+        rows: &[u32],
+        nodes: &mut [u32],
+        values: &mut [u32],
+    ) -> (State, Answer) {
+        // What the library leaves as it was shows up as a state that is not the oracle's.
+        let mut state = [u32::MAX; STATE_NUMBERS];
+        let mut answer = [u32::MAX; 4];
+        let called = unsafe {
+            moheguzari_start(
+                k,
+                rows.as_ptr(),
+                rows.len(),
+                nodes.as_mut_ptr(),
+                nodes.len(),
+                values.as_mut_ptr(),
+                values.len(),
+                state.as_mut_ptr(),
+                state.len(),
+                answer.as_mut_ptr(),
+                answer.len(),
+            )
+        };
+        assert!(called, "the state and the answer have the right lengths");
+        let answer = match answer {
+            [0, 0, 0, 0] => Answer::Started,
+            [number, place, 0, 0] => Answer::Refused { number, place },
+            other => panic!("start answers {other:?}"),
+        };
+        (unpacked(&state), answer)
+    }
+
+    fn event(
+        &mut self,
+        state: State,
+        rows: &[u32],
+        nodes: &mut [u32],
+        values: &mut [u32],
+        work: &mut [u32],
+        event: &Event,
+    ) -> (State, Answer) {
+        let mut state = packed(&state);
+        let mut answer = [u32::MAX; 4];
+        let [first, second, third] = event.values;
+        let called = unsafe {
+            moheguzari_event(
+                rows.as_ptr(),
+                rows.len(),
+                nodes.as_mut_ptr(),
+                nodes.len(),
+                values.as_mut_ptr(),
+                values.len(),
+                work.as_mut_ptr(),
+                work.len(),
+                event.predicate,
+                event.count,
+                first,
+                second,
+                third,
+                state.as_mut_ptr(),
+                state.len(),
+                answer.as_mut_ptr(),
+                answer.len(),
+            )
+        };
+        assert!(called, "the state and the answer have the right lengths");
+        let answer = match answer {
+            [0, yes @ 0..=1, kept, room] => Answer::Verdict {
+                yes: yes == 1,
+                kept,
+                room,
+            },
+            [number, place, 0, 0] => Answer::Refused { number, place },
+            other => panic!("event answers {other:?}"),
+        };
+        (unpacked(&state), answer)
+    }
+}
+
+#[cfg(test)]
+mod tests {
+    use super::*;
+
+    /// Calls start with a state and an answer of some lengths, and gives what it says and whether it wrote.
+    fn start_with(state_len: usize, answer_len: usize) -> (bool, bool) {
+        const LEFT: u32 = 77;
+        let rows = [1, 0, 0, 0, 0, 0, 0, 0, 0];
+        let (mut nodes, mut values) = ([LEFT; 3], [LEFT; 4]);
+        let (mut state, mut answer) = (vec![LEFT; state_len], vec![LEFT; answer_len]);
+        let called = unsafe {
+            moheguzari_start(
+                1,
+                rows.as_ptr(),
+                rows.len(),
+                nodes.as_mut_ptr(),
+                nodes.len(),
+                values.as_mut_ptr(),
+                values.len(),
+                state.as_mut_ptr(),
+                state.len(),
+                answer.as_mut_ptr(),
+                answer.len(),
+            )
+        };
+        let mut all = nodes.iter().chain(&values).chain(&state).chain(&answer);
+        (called, all.any(|&number| number != LEFT))
+    }
+
+    #[test]
+    fn a_state_or_an_answer_of_another_length_is_turned_down() {
+        for (state_len, answer_len) in [(0, 4), (70, 4), (72, 4), (71, 0), (71, 3), (71, 5)] {
+            assert_eq!(start_with(state_len, answer_len), (false, false));
+        }
+        assert_eq!(start_with(71, 4), (true, true));
+    }
+}

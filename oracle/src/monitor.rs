@@ -1,0 +1,206 @@
+//! What a monitor is, over slices of any numbers, and the one that works on truth tables.
+
+use crate::event::{Answer, Event, State};
+use crate::layout::{lay_out, shown};
+use crate::numbering::Lists;
+use crate::refusals::{at_event, at_start, in_state, work_used, Refusal};
+use crate::room::room;
+use crate::rows::Rule;
+use crate::table::{met_by_exists, step, Shape, Table};
+
+/// The two calls. A compared monitor stands behind these.
+pub trait Monitor {
+    fn start(
+        &mut self,
+        k: u32,
+        rows: &[u32],
+        nodes: &mut [u32],
+        values: &mut [u32],
+    ) -> (State, Answer);
+
+    fn event(
+        &mut self,
+        state: State,
+        rows: &[u32],
+        nodes: &mut [u32],
+        values: &mut [u32],
+        work: &mut [u32],
+        event: &Event,
+    ) -> (State, Answer);
+}
+
+/// An event that refusals 1 to 6 let through.
+pub struct Asked<'a> {
+    pub rule: &'a Rule,
+    pub shape: Shape,
+    pub state: &'a State,
+    pub nodes: &'a [u32],
+    pub event: &'a Event,
+    pub lists_before: Lists,
+    pub lists_after: Lists,
+}
+
+/// The rows' functions before and after an event.
+pub struct Functions {
+    pub before: Vec<Table>,
+    pub after: Vec<Table>,
+}
+
+/// What a verdict leaves.
+struct Judged {
+    state: State,
+    answer: Answer,
+    nodes: Vec<u32>,
+    lists: Lists,
+}
+
+pub fn start(k: u32, rows: &[u32], nodes: &mut [u32], values: &mut [u32]) -> (State, Answer) {
+    match at_start(k, rows, nodes, values) {
+        Err(refusal) => (State::ZERO, refused(refusal)),
+        Ok(rule) => {
+            nodes.fill(0);
+            values.fill(0);
+            let state = State {
+                k,
+                rows: rule.rows.len() as u32,
+                ..State::ZERO
+            };
+            (state, Answer::Started)
+        }
+    }
+}
+
+/// An event, from any state: the functions before it are read from the nodes, and one step is worked on them.
+pub fn event(
+    state: State,
+    rows: &[u32],
+    nodes: &mut [u32],
+    values: &mut [u32],
+    work: &mut [u32],
+    event: &Event,
+) -> (State, Answer) {
+    event_by(by_step, state, rows, nodes, values, work, event)
+}
+
+/// An event whose functions are worked out in a given way.
+pub fn event_by(
+    functions: impl FnOnce(&Asked) -> Functions,
+    state: State,
+    rows: &[u32],
+    nodes: &mut [u32],
+    values: &mut [u32],
+    work: &mut [u32],
+    event: &Event,
+) -> (State, Answer) {
+    let rule = match at_event(&state, rows, nodes, values, work) {
+        Ok(rule) => rule,
+        Err(refusal) => return (state, refused(refusal)),
+    };
+    work[..work_used(nodes)].fill(0);
+    match judge(functions, &state, &rule, nodes, values, event) {
+        Err(refusal) => (state, refused(refusal)),
+        Ok(judged) => {
+            nodes.fill(0);
+            nodes[..judged.nodes.len()].copy_from_slice(&judged.nodes);
+            judged.lists.write(state.k, values);
+            (judged.state, judged.answer)
+        }
+    }
+}
+
+fn judge(
+    functions: impl FnOnce(&Asked) -> Functions,
+    state: &State,
+    rule: &Rule,
+    nodes: &[u32],
+    values: &[u32],
+    event: &Event,
+) -> Result<Judged, Refusal> {
+    let (lists_before, lists_after) = in_state(state, rule, nodes, values, event)?;
+    let asked = Asked {
+        rule,
+        shape: Shape::new(state.k, rule),
+        state,
+        nodes,
+        event,
+        lists_before,
+        lists_after,
+    };
+    let Functions { before, after } = functions(&asked);
+    let met = met_by_exists(rule, &asked.shape, &after);
+    let counted: Vec<&Table> = before.iter().chain(&after).chain(&met).collect();
+    let room = room(&asked.shape, &counted);
+    if room as usize > nodes.len() / 3 {
+        return Err((7, 0));
+    }
+    Ok(judged(asked, &after, room))
+}
+
+fn judged(asked: Asked, after: &[Table], room: u32) -> Judged {
+    let (nodes, references) = lay_out(&asked.shape, after);
+    let mut state = State {
+        kept: nodes.len() as u32 / 3,
+        counts: asked.lists_after.counts(),
+        refs: State::ZERO.refs,
+        ..*asked.state
+    };
+    state.refs[..references.len()].copy_from_slice(&references);
+    let answer = Answer::Verdict {
+        yes: references[references.len() - 1] == 1,
+        kept: state.kept,
+        room,
+    };
+    Judged {
+        state,
+        answer,
+        nodes,
+        lists: asked.lists_after,
+    }
+}
+
+fn by_step(asked: &Asked) -> Functions {
+    let references = &asked.state.refs[..asked.rule.rows.len()];
+    let before: Vec<Table> = references
+        .iter()
+        .map(|&reference| shown(&asked.shape, asked.nodes, reference))
+        .collect();
+    let after = step(
+        asked.rule,
+        &asked.shape,
+        &before,
+        asked.event,
+        &asked.lists_after,
+    );
+    Functions { before, after }
+}
+
+fn refused((number, place): Refusal) -> Answer {
+    Answer::Refused { number, place }
+}
+
+/// The monitor that works every event by a step on truth tables.
+pub struct Stepping;
+
+impl Monitor for Stepping {
+    fn start(
+        &mut self,
+        k: u32,
+        rows: &[u32],
+        nodes: &mut [u32],
+        values: &mut [u32],
+    ) -> (State, Answer) {
+        start(k, rows, nodes, values)
+    }
+
+    fn event(
+        &mut self,
+        state: State,
+        rows: &[u32],
+        nodes: &mut [u32],
+        values: &mut [u32],
+        work: &mut [u32],
+        fact: &Event,
+    ) -> (State, Answer) {
+        event(state, rows, nodes, values, work, fact)
+    }
+}

@@ -1,0 +1,68 @@
+//! The refusals that need no function of a row: 1 to 6, in order, each with its place.
+
+use crate::event::{Event, State};
+use crate::numbering::{numbers, Lists};
+use crate::rows::{Rule, VARIABLES};
+use crate::well_formed;
+
+/// A refusal number and its place.
+pub type Refusal = (u32, u32);
+
+/// How many numbers of the work slice an event uses, for a node slice of the right length.
+pub fn work_used(nodes: &[u32]) -> usize {
+    16 * (nodes.len() / 3) + 1024
+}
+
+/// Refusals 1 to 3 as start gives them.
+pub fn at_start(k: u32, rows: &[u32], nodes: &[u32], values: &[u32]) -> Result<Rule, Refusal> {
+    if !(1..=10).contains(&k) {
+        return Err((1, 0));
+    }
+    let rule = Rule::read(rows).map_err(|place| (2, place))?;
+    let right = nodes.len().is_multiple_of(3)
+        && (1..=4096).contains(&(nodes.len() / 3))
+        && values.len() == VARIABLES * numbers(k);
+    if right {
+        Ok(rule)
+    } else {
+        Err((3, 0))
+    }
+}
+
+/// Refusals 1 to 3 as an event gives them: the state carries k, and there is a work slice.
+pub fn at_event(
+    state: &State,
+    rows: &[u32],
+    nodes: &[u32],
+    values: &[u32],
+    work: &[u32],
+) -> Result<Rule, Refusal> {
+    let rule = at_start(state.k, rows, nodes, values)?;
+    if work.len() < work_used(nodes) {
+        return Err((3, 0));
+    }
+    Ok(rule)
+}
+
+/// Refusals 4 to 6, or the lists of values before the event and with what it asks.
+pub fn in_state(
+    state: &State,
+    rule: &Rule,
+    nodes: &[u32],
+    values: &[u32],
+    event: &Event,
+) -> Result<(Lists, Lists), Refusal> {
+    if !well_formed::broken(state, rule, nodes, values).is_empty() {
+        return Err((4, 0));
+    }
+    let count = rule.count_of(event.predicate);
+    if event.count > 3 || count.is_some_and(|count| count != event.count as usize) {
+        return Err((5, 0));
+    }
+    let before = Lists::read(state.k, &state.counts, values);
+    let after = before.asked(rule, event);
+    match after.short(state.k) {
+        Some(variable) => Err((6, variable)),
+        None => Ok((before, after)),
+    }
+}

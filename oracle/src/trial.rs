@@ -1,0 +1,118 @@
+//! A trial: one case, or two that belong together, and what must hold between them.
+
+use crate::case::{Begin, Case};
+use crate::compare::{compare, Left};
+use crate::coverage::Coverage;
+use crate::event::Answer;
+use crate::generate::disguise::Renaming;
+use crate::monitor::Monitor;
+use crate::rows::Rule;
+use crate::well_formed::{broken, Clause};
+
+#[derive(Debug)]
+pub enum Trial {
+    Alone(Case),
+    /// A well-formed state, and one that breaks a clause of refusal 4.
+    Disturbed {
+        neighbour: Case,
+        disturbed: Case,
+    },
+    /// C is the most room that an event needs, and one less.
+    AtRoom {
+        enough: Case,
+        short: Case,
+    },
+    /// A log, and the same with its values renamed.
+    Disguised {
+        plain: Case,
+        disguised: Case,
+        renaming: Renaming,
+    },
+}
+
+impl Trial {
+    /// Runs the trial on the oracle and on the subject.
+    pub fn run(&self, subject: &mut dyn Monitor, coverage: &mut Coverage) -> Result<(), String> {
+        match self {
+            Trial::Alone(case) => {
+                compare(case, subject, coverage)?;
+            }
+            Trial::Disturbed {
+                neighbour,
+                disturbed,
+            } => {
+                compare(neighbour, subject, coverage)?;
+                compare(disturbed, subject, coverage)?;
+                if let ([], [clause]) = (&clauses(neighbour)[..], &clauses(disturbed)[..]) {
+                    coverage.add(&format!("event refused 4, {clause:?} alone"));
+                }
+            }
+            Trial::AtRoom { enough, short } => {
+                let enough = compare(enough, subject, coverage)?;
+                let short = compare(short, subject, coverage)?;
+                if !enough.iter().any(full) && short.iter().any(full) {
+                    coverage.add("C at the room");
+                    coverage.add("C at the room - 1");
+                }
+            }
+            Trial::Disguised {
+                plain,
+                disguised,
+                renaming,
+            } => {
+                let plain = compare(plain, subject, coverage)?;
+                let disguised = compare(disguised, subject, coverage)?;
+                seen_alike(&plain, &disguised, renaming, coverage)?;
+            }
+        }
+        Ok(())
+    }
+}
+
+fn full(left: &Left) -> bool {
+    matches!(left.answer, Answer::Refused { number: 7, .. })
+}
+
+/// The clauses that a case's own state breaks.
+fn clauses(case: &Case) -> Vec<Clause> {
+    match (case.begin, Rule::read(&case.rows)) {
+        (Begin::Given(state), Ok(rule)) => {
+            let found = broken(&state, &rule, &case.nodes, &case.values);
+            found.into_iter().collect()
+        }
+        _ => unreachable!("a disturbed case has a state and a right rule"),
+    }
+}
+
+fn seen_alike(
+    plain: &[Left],
+    disguised: &[Left],
+    renaming: &Renaming,
+    coverage: &mut Coverage,
+) -> Result<(), String> {
+    for (one, two) in plain.iter().zip(disguised) {
+        same_but_renamed(one, two, renaming)?;
+        match one.answer {
+            Answer::Verdict { .. } => coverage.add("disguised log with a verdict"),
+            Answer::Refused { .. } => coverage.add("disguised log with a refusal"),
+            Answer::Started => {}
+        }
+    }
+    Ok(())
+}
+
+/// The oracle's answers, states, nodes and work to two logs are the same, and the values are renamed.
+fn same_but_renamed(one: &Left, two: &Left, renaming: &Renaming) -> Result<(), String> {
+    let mut renamed = one.clone();
+    let most = one.values.len() / one.state.counts.len();
+    for (list, count) in renamed.values.chunks_mut(most).zip(one.state.counts) {
+        for value in &mut list[..count as usize] {
+            *value = renaming.of(*value);
+        }
+    }
+    if renamed == *two {
+        Ok(())
+    } else {
+        Err(format!("a disguise was seen through: {one:?} and {two:?}"))
+    }
+}

@@ -1,0 +1,254 @@
+//! The oracle's two calls with a fault in them.
+
+use oracle::event::{Answer, Event, State};
+use oracle::monitor::{event, start, Monitor};
+use oracle::numbering::Lists;
+use oracle::refusals::{at_event, at_start, work_used};
+use oracle::rows::{Rule, FIELDS};
+use oracle::well_formed::broken;
+
+use crate::fault::Fault;
+use crate::step::Step;
+
+pub struct Mutant {
+    pub fault: Fault,
+    pub first: Option<Event>,
+}
+
+/// An event call as it was handed in.
+struct Call<'a> {
+    state: &'a State,
+    rows: &'a [u32],
+    nodes: &'a [u32],
+    values: &'a [u32],
+    event: &'a Event,
+}
+
+impl Call<'_> {
+    fn lists(&self) -> Lists {
+        Lists::read(self.state.k, &self.state.counts, self.values)
+    }
+}
+
+/// What stands where a fault leaves something.
+const LEFT: u32 = 77;
+
+impl Monitor for Mutant {
+    fn start(
+        &mut self,
+        k: u32,
+        rows: &[u32],
+        nodes: &mut [u32],
+        values: &mut [u32],
+    ) -> (State, Answer) {
+        self.first = None;
+        let held = (nodes.to_vec(), values.to_vec());
+        let (mut state, mut answer) = start(k, rows, nodes, values);
+        match (self.fault, &mut answer) {
+            (Fault::StartLeavesTables, Answer::Started) => {
+                nodes.copy_from_slice(&held.0);
+                values.copy_from_slice(&held.1);
+            }
+            (Fault::RefusedStartWrites, Answer::Refused { .. }) => nodes.fill(0),
+            (Fault::RefusedStartKeepsState, Answer::Refused { .. }) => state.k = k,
+            (Fault::RowPlaceOneMore, Answer::Refused { number: 2, place }) => *place += 1,
+            (_, Answer::Refused { number, place })
+                if self.overlooks(k, rows, nodes, *number, *place) =>
+            {
+                answer = Answer::Started;
+            }
+            _ => {}
+        }
+        (state, answer)
+    }
+
+    fn event(
+        &mut self,
+        state: State,
+        rows: &[u32],
+        nodes: &mut [u32],
+        values: &mut [u32],
+        work: &mut [u32],
+        fact: &Event,
+    ) -> (State, Answer) {
+        let held = (nodes.to_vec(), values.to_vec(), work.to_vec());
+        let repeated = *self.first.get_or_insert(*fact);
+        let fact = if self.fault == Fault::FirstEventRepeated {
+            &repeated
+        } else {
+            fact
+        };
+        let (mut next, mut answer) = self.stepped(state, rows, nodes, values, work, fact);
+        match (self.fault, &mut answer) {
+            (Fault::AlwaysYes, Answer::Verdict { yes, .. }) => *yes = true,
+            (Fault::AlwaysNo, Answer::Verdict { yes, .. }) => *yes = false,
+            (Fault::EveryEventRefused, _) => {
+                answer = Answer::Refused {
+                    number: 5,
+                    place: 0,
+                }
+            }
+            (Fault::TablesUntouched, Answer::Verdict { .. }) => {
+                nodes.copy_from_slice(&held.0);
+                values.copy_from_slice(&held.1);
+            }
+            (Fault::KeptNodesLeftOver, Answer::Verdict { kept, .. }) => {
+                let first = 3 * *kept as usize;
+                nodes[first..].copy_from_slice(&held.0[first..]);
+            }
+            (Fault::NodesLeftByRefusedEvent, Answer::Refused { number: 7, .. }) => {
+                nodes[3 * state.kept as usize..].fill(LEFT);
+            }
+            (Fault::NumberGivenByRefusedEvent, Answer::Refused { number: 7, .. }) => {
+                let rule = Rule::read(rows).expect("refusal 2 was not given");
+                let lists = Lists::read(state.k, &state.counts, values).asked(&rule, fact);
+                lists.write(state.k, values);
+                next.counts = lists.counts();
+            }
+            (Fault::UnknownPredicateSkipped, Answer::Verdict { .. }) => {
+                let rule = Rule::read(rows).expect("refusal 2 was not given");
+                if rule.count_of(fact.predicate).is_none() {
+                    nodes.copy_from_slice(&held.0);
+                    next = state;
+                }
+            }
+            (Fault::WorkNotCleanAfterVerdict, Answer::Verdict { .. }) => {
+                work[..9].copy_from_slice(&held.2[..9])
+            }
+            (Fault::WorkNotCleanAfterRefusal, Answer::Refused { number: 4.., .. }) => {
+                work[..9].copy_from_slice(&held.2[..9])
+            }
+            (Fault::WorkCleanedPastUse, Answer::Verdict { .. }) => work.fill(0),
+            (Fault::WorkCleanedOnEarlyRefusal, Answer::Refused { number: 1..=3, .. }) => {
+                work.fill(0)
+            }
+            (_, Answer::Refused { number, place }) => {
+                let call = Call {
+                    state: &state,
+                    rows,
+                    nodes: &held.0,
+                    values: &held.1,
+                    event: fact,
+                };
+                let (number, place) = (*number, *place);
+                answer = self.other_refusal(&call, number, place).unwrap_or(answer);
+            }
+            _ => {}
+        }
+        (next, answer)
+    }
+}
+
+impl Mutant {
+    /// The call by the faulty step, after the right refusals 1 to 3.
+    fn stepped(
+        &self,
+        state: State,
+        rows: &[u32],
+        nodes: &mut [u32],
+        values: &mut [u32],
+        work: &mut [u32],
+        fact: &Event,
+    ) -> (State, Answer) {
+        let Ok(rule) = at_event(&state, rows, nodes, values, work) else {
+            return event(state, rows, nodes, values, work, fact);
+        };
+        work[..work_used(nodes)].fill(0);
+        let step = Step {
+            fault: self.fault,
+            rule: &rule,
+            state: &state,
+            nodes,
+            values,
+            event: fact,
+        };
+        if !broken(&state, &rule, nodes, values).is_empty() || fact.count > 3 {
+            return event(state, rows, nodes, values, work, fact);
+        }
+        match step.work() {
+            Err((number, place)) => (state, Answer::Refused { number, place }),
+            Ok(stepped) => {
+                nodes.fill(0);
+                let kept = stepped.nodes.len().min(nodes.len());
+                nodes[..kept].copy_from_slice(&stepped.nodes[..kept]);
+                let mut lists = stepped.lists;
+                let most = values.len() / lists.0.len();
+                lists.0.iter_mut().for_each(|list| list.truncate(most));
+                lists.write(state.k, values);
+                (stepped.state, stepped.answer)
+            }
+        }
+    }
+
+    /// What a fault gives in place of a refusal of an event.
+    fn other_refusal(&self, call: &Call, number: u32, place: u32) -> Option<Answer> {
+        let taken = Answer::Verdict {
+            yes: false,
+            kept: call.state.kept,
+            room: call.state.kept,
+        };
+        let refused = |number, place| Some(Answer::Refused { number, place });
+        let rule = Rule::read(call.rows);
+        match (self.fault, number, rule) {
+            (Fault::RowsLookedAtBeforeK, 1, Err(row)) => refused(2, row),
+            (Fault::RowPlaceOneMore, 2, _) => refused(2, place + 1),
+            (Fault::SlicesLookedAtBeforeRows, 2, _) if !call.nodes.len().is_multiple_of(3) => {
+                refused(3, 0)
+            }
+            (Fault::StateLookedAtBeforeSlices, 3, Ok(rule)) => {
+                let differs = call.state.rows as usize != rule.rows.len();
+                differs.then_some(Answer::Refused {
+                    number: 4,
+                    place: 0,
+                })
+            }
+            (Fault::ClauseSkipped(clause), 4, Ok(rule)) => {
+                let found = broken(call.state, &rule, call.nodes, call.values);
+                (found.len() == 1 && found.contains(&clause)).then_some(taken)
+            }
+            (Fault::CountLookedAtBeforeState, 4, _) if call.event.count > 3 => refused(5, 0),
+            (Fault::NumbersLookedAtBeforeCount, 5, Ok(rule)) => {
+                let mut short = *call.event;
+                short.count = short.count.min(3);
+                let lists = call.lists().asked(&rule, &short);
+                let variable = lists.short(call.state.k)?;
+                refused(6, variable)
+            }
+            (Fault::HighestShortVariableNamed, 6, Ok(rule)) => {
+                let lists = call.lists().asked(&rule, call.event);
+                let most = call.values.len() / lists.0.len();
+                let highest = lists.0.iter().rposition(|list| list.len() > most)?;
+                refused(6, highest as u32)
+            }
+            (Fault::ShortWorkTaken, 3, _) => {
+                let right = at_start(call.state.k, call.rows, call.nodes, call.values);
+                right.is_ok().then_some(taken)
+            }
+            _ => self
+                .overlooks(call.state.k, call.rows, call.nodes, number, place)
+                .then_some(taken),
+        }
+    }
+
+    /// Whether the fault lets through what refusal 1, 2 or 3 is given for.
+    fn overlooks(&self, k: u32, rows: &[u32], nodes: &[u32], number: u32, place: u32) -> bool {
+        let count = rows.len() / FIELDS;
+        let fields = || rows.chunks(FIELDS).nth(place as usize);
+        match (self.fault, number) {
+            (Fault::ElevenBitsTaken, 1) => k == 11,
+            (Fault::LastRowMayBeFree, 2) => {
+                count > 0
+                    && place as usize == count - 1
+                    && fields().is_some_and(|row| row == [2, 9, 1, 0, 2, 0, 0, 0, 0])
+            }
+            (Fault::CountsMayDisagree, 2) => {
+                place > 0
+                    && fields().is_some_and(|row| {
+                        row[0] == 2 && row[2] <= 3 && row[3..].iter().all(|&field| field == 0)
+                    })
+            }
+            (Fault::NodesPastMostTaken, 3) => nodes.len() == 3 * 4097,
+            _ => false,
+        }
+    }
+}
