@@ -9,4 +9,7 @@ pub mod VerdictLaws
 pub mod ShownLaws
 pub mod PartsLaws
 pub mod ProperLaws
+pub mod RoomOfLaws
+pub mod StepProper
+pub mod ExactLaws
 pub mod Cases
