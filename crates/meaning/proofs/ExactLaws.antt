@@ -136,7 +136,7 @@ pub values-bad : (k : ℕ) (values : List ℕ) → (valuesRight k values ≡ fal
 unfolding valuesRight
 values-bad k values = (eqb-false (length values) (4 * most k), ne-eqb (length values) (4 * most k))
 
-either-bad : (a b : Bool) (P Q : Type 0) → ((a ≡ false) ↔ P) → ((b ≡ false) ↔ Q) → ((a && b) ≡ false) ↔ (P ⊎ Q)
+pub either-bad : (a b : Bool) (P Q : Type 0) → ((a ≡ false) ↔ P) → ((b ≡ false) ↔ Q) → ((a && b) ≡ false) ↔ (P ⊎ Q)
 either-bad a b P Q p q = (
   λ e. ⊎-elim (λ z. inl (p .0 z)) (λ z. inr (q .0 z)) (and-false a b e),
   ⊎-elim (λ z. and-false-l a b (p .1 z)) (λ z. and-false-r a b (q .1 z)),

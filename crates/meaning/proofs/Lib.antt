@@ -12,4 +12,6 @@ pub mod ProperLaws
 pub mod RoomOfLaws
 pub mod StepProper
 pub mod ExactLaws
+pub mod RefusalLaws
+pub mod RunLaws
 pub mod Cases

@@ -115,7 +115,7 @@ pub record Machine : Type 0 where
 
 -- what the machine shows of a rule
 unfoldable pub shows : List ℕ → Machine → Shown
-shows rows m = read (m .state .k) (rowCount rows) (m .state) (m .nodes) (m .values)
+shows rows m = read (m .state .k) (length (ruleOf rows)) (m .state) (m .nodes) (m .values)
 
 unfoldable pub decideEvent : List ℕ → Machine → Event → Decision
 decideEvent rows m e =
