@@ -14,4 +14,8 @@ pub mod StepProper
 pub mod ExactLaws
 pub mod RefusalLaws
 pub mod RunLaws
+pub mod StartLaws
+pub mod AnyState
+pub mod RenameLaws
+pub mod DisguiseLaws
 pub mod Cases

@@ -25,14 +25,14 @@ use Rattle.meaning.specs.Qtl
 use Rattle.meaning.specs.Rows.{Row, ruleOf, formulas, formulaAt, firstBelow, Found, right, fault, checkRows, rowCount, rowsUpTo}
 use Rattle.meaning.specs.Numbering.{askRows, shown}
 use Rattle.meaning.specs.Step.{saysAt, Shown, fresh, step, roomOf, counted}
-use Rattle.meaning.specs.Tables.{most, padded, keptTable, layState, layNodes, layValues}
+use Rattle.meaning.specs.Tables.{most, padded, keptTable, layState, layNodes, layValues, wellFormed}
 use Rattle.meaning.specs.Outcome.{kRight, capacity, nodesRight, valuesRight, workSize, cleared, factOf, countRight, shortest, Decision, taken, refused, judgeStart, judgeEvent, stateOf, settleStart, decideStart, startOutcome, Machine, shows, decideEvent, verdictOf, settleEvent, eventOutcome, runs, withTaken, takenOf, log, machineOf}
 use Rattle.meaning.proofs.RowsLaws.{Checked, checked, first-none, rows-length, free-beyond}
 use Rattle.meaning.proofs.Simulation.{Sims, Sim, Enough, Faithful, fresh-faithful, step-faithful}
 use Rattle.meaning.proofs.VerdictLaws.{AlikeTo, holds-reads, sentence}
 use Rattle.meaning.proofs.ShownLaws.{shown-shows}
 use Rattle.meaning.proofs.PartsLaws.{padded-length}
-use Rattle.meaning.proofs.ProperLaws.{Proper, read-lay}
+use Rattle.meaning.proofs.ProperLaws.{Proper, read-lay, well-formed-lay}
 use Rattle.meaning.proofs.StepProper.{fresh-proper, step-proper}
 
 -- the facts so far, and one more
@@ -58,14 +58,14 @@ faithful-alike k rule σ τ i s t g = record {
 }
 
 -- what a decision to take tells
-start-taken : (a : Bool) (f : Found) (b : Bool) → judgeStart a f b ≡ taken → (a ≡ true) × (f ≡ right) × (b ≡ true)
+pub start-taken : (a : Bool) (f : Found) (b : Bool) → judgeStart a f b ≡ taken → (a ≡ true) × (f ≡ right) × (b ≡ true)
 unfolding judgeStart
 start-taken false f b e = let z : _≡_ {A = ℕ} 0 1 = cc in absurd (omega arith)
 start-taken true (fault p) b e = let z : _≡_ {A = ℕ} 0 1 = cc in absurd (omega arith)
 start-taken true right false e = let z : _≡_ {A = ℕ} 0 1 = cc in absurd (omega arith)
 start-taken true right true e = (refl, refl, refl)
 
-event-taken : (d : Decision) (f c s : Bool) (v : ℕ) (r : Bool) → judgeEvent d f c s v r ≡ taken → (d ≡ taken) × (f ≡ true) × (c ≡ true) × (s ≡ false) × (r ≡ true)
+pub event-taken : (d : Decision) (f c s : Bool) (v : ℕ) (r : Bool) → judgeEvent d f c s v r ≡ taken → (d ≡ taken) × (f ≡ true) × (c ≡ true) × (s ≡ false) × (r ≡ true)
 unfolding judgeEvent
 event-taken (refused n p) f c s v r e = let z : _≡_ {A = ℕ} 0 1 = cc in absurd (omega arith)
 event-taken taken false c s v r e = let z : _≡_ {A = ℕ} 0 1 = cc in absurd (omega arith)
@@ -84,114 +84,107 @@ lay-capacity k C rule s p =
 
 -- the rule and the sizes of a run
 module _ (rows : List ℕ) (k C : ℕ) (kr : kRight k ≡ true) (cr : checkRows rows ≡ right) where
-  rule : List Row
-  rule = ruleOf rows
-
-  positive : 0 < k
+  pub positive : 0 < k
   unfolding kRight
   positive = ltb-true 0 k (and-true-l (ltb 0 k) (leb k 10) kr)
 
-  few : length (ruleOf rows) ≤ 64
+  pub few : length (ruleOf rows) ≤ 64
   unfolding ruleOf
   few = rw (rows-length rows (rowCount rows)) (checked rows cr .most)
 
-  -- the machine's numbers are the layout of s, which shows the meaning of the facts fs
-  pub record Running (m : Machine) (fs : List Fact) : Type 0 where
-    pub s : Shown
+  -- the machine's numbers are the layout of s
+  pub record Laid (m : Machine) (s : Shown) : Type 0 where
     pub state-is : m .state ≡ layState k s
     pub nodes-are : m .nodes ≡ layNodes C s
     pub values-are : m .values ≡ layValues k (s .lists)
     pub proper : Proper k C (ruleOf rows) s
-    pub faithful : Faithful k (ruleOf rows) (log fs) (length fs) s
 
-  module _ (m : Machine) (fs : List Fact) (run : Running m fs) where
-    k-is : m .state .k ≡ k
+  module _ (m : Machine) (s : Shown) (l : Laid m s) where
+    pub k-is : m .state .k ≡ k
     unfolding layState
-    k-is = ap (λ (t : State). t .k) (run .state-is)
+    k-is = ap (λ (t : State). t .k) (l .state-is)
 
-    C-is : capacity (m .nodes) ≡ C
-    C-is = ap capacity (run .nodes-are) ∙ lay-capacity k C (ruleOf rows) (run .s) (run .proper)
+    pub C-is : capacity (m .nodes) ≡ C
+    C-is = ap capacity (l .nodes-are) ∙ lay-capacity k C (ruleOf rows) s (l .proper)
 
-    -- the machine shows s
-    pub shows-is : shows rows m ≡ run .s
+    -- so it shows s, and is well formed
+    pub shows-is : shows rows m ≡ s
     unfolding shows
-    shows-is = rw (run .state-is, run .nodes-are, run .values-are) (unfold layState in read-lay k C (ruleOf rows) (run .s) few (run .proper))
+    shows-is = rw (l .state-is, l .nodes-are, l .values-are) (unfold layState in read-lay k C (ruleOf rows) s few (l .proper))
+
+    pub formed-is : wellFormed (m .state .k) (capacity (m .nodes)) (ruleOf rows) (m .state) (m .nodes) (m .values) ≡ true
+    formed-is = rw (C-is, l .state-is, l .nodes-are, l .values-are) (unfold layState in well-formed-lay k C (ruleOf rows) s few (l .proper))
 
     module _ (e : Event) where
-      after : Shown
-      after = step k (ruleOf rows) (run .s) (factOf e)
-
-      after-is : step (m .state .k) (ruleOf rows) (shows rows m) (factOf e) ≡ step k (ruleOf rows) (run .s) (factOf e)
-      after-is = rw (shows-is, k-is)
-
       -- the tests that a taken event passed
-      tests : decideEvent rows m e ≡ taken → (ltb (shortest k (ruleOf rows) (run .s) (factOf e)) 4 ≡ false)
-          × (leb (roomOf k (ruleOf rows) (run .s .trees) (step k (ruleOf rows) (run .s) (factOf e) .trees)) C ≡ true)
+      tests : decideEvent rows m e ≡ taken → (ltb (shortest k (ruleOf rows) s (factOf e)) 4 ≡ false)
+          × (leb (roomOf k (ruleOf rows) (s .trees) (step k (ruleOf rows) s (factOf e) .trees)) C ≡ true)
       unfolding decideEvent
       tests d =
           let t = event-taken _ _ _ _ _ _ d in
           (rw (shows-is, k-is) at (t .3), rw (shows-is, C-is, k-is) at (t .4))
 
-      pub enough : decideEvent rows m e ≡ taken → Enough k (step k (ruleOf rows) (run .s) (factOf e) .lists)
+      pub enough : decideEvent rows m e ≡ taken → Enough k (step k (ruleOf rows) s (factOf e) .lists)
       unfolding shortest step
-      enough d v h = unfold most in ltb-false (most k) (length (askRows (factOf e) (run .s .lists) (ruleOf rows) v)) (first-none 4 f v less)
+      enough d v h = unfold most in ltb-false (most k) (length (askRows (factOf e) (s .lists) (ruleOf rows) v)) (first-none 4 f v less)
         where
           f : ℕ → Bool
-          f w = ltb (most k) (length (askRows (factOf e) (run .s .lists) (ruleOf rows) w))
+          f w = ltb (most k) (length (askRows (factOf e) (s .lists) (ruleOf rows) w))
 
           less : v < firstBelow 4 f
           less = let t = ltb-false (firstBelow 4 f) 4 (tests d .0) in omega arith
 
-      pub after-proper : decideEvent rows m e ≡ taken → Proper k C (ruleOf rows) (step k (ruleOf rows) (run .s) (factOf e))
-      after-proper d =
-          step-proper k C (ruleOf rows) (run .s) (factOf e) positive (checked rows cr .rows) (run .proper) (enough d) (leb-true _ C (tests d .1))
-
-      pub after-faithful : decideEvent rows m e ≡ taken
-          → Faithful k (ruleOf rows) (log (fs ++ factOf e ∷ [])) (suc (length fs)) (step k (ruleOf rows) (run .s) (factOf e))
-      after-faithful d =
-          let was = faithful-alike k (ruleOf rows) (log fs) (log (fs ++ factOf e ∷ [])) (length fs) (run .s) (log-old fs (factOf e)) (run .faithful) in
-          let n = log-new fs (factOf e) in
-          rw n at (step-faithful k (ruleOf rows) (log (fs ++ factOf e ∷ [])) (length fs) (run .s) (checked rows cr .rows) was (rw n (enough d)))
-
-      -- a taken event runs on, with one fact more
-      pub runs-on : decideEvent rows m e ≡ taken → Running (eventOutcome rows m e .left) (fs ++ factOf e ∷ [])
+      -- a taken event leaves the layout of the step
+      pub laid-on : decideEvent rows m e ≡ taken → Laid (eventOutcome rows m e .left) (step k (ruleOf rows) s (factOf e))
       unfolding eventOutcome settleEvent
-      runs-on d = rw d (record {
-        s = step k (ruleOf rows) (run .s) (factOf e);
+      laid-on d = rw d (record {
         state-is = rw (shows-is, k-is);
         nodes-are = rw (shows-is, C-is, k-is);
         values-are = rw (shows-is, k-is);
-        proper = after-proper d;
-        faithful = (let z : length (fs ++ factOf e ∷ []) ≡ suc (length fs) = length-append fs (factOf e ∷ []) ∙ omega arith in rw z (after-faithful d));
+        proper = step-proper k C (ruleOf rows) s (factOf e) positive (checked rows cr .rows) (l .proper) (enough d) (leb-true _ C (tests d .1));
       })
 
-      -- a refused event changes nothing
-      pub stays : (n p : ℕ) → decideEvent rows m e ≡ refused n p → Running (eventOutcome rows m e .left) fs
+      -- a refused one leaves what was there
+      pub laid-stays : (n p : ℕ) → decideEvent rows m e ≡ refused n p → Laid (eventOutcome rows m e .left) s
       unfolding eventOutcome settleEvent
-      stays n p d = rw d (record {
-        s = run .s;
-        state-is = run .state-is;
-        nodes-are = run .nodes-are;
-        values-are = run .values-are;
-        proper = run .proper;
-        faithful = run .faithful;
-      })
+      laid-stays n p d = rw d (record { state-is = l .state-is; nodes-are = l .nodes-are; values-are = l .values-are; proper = l .proper })
 
-  -- one event
-  pub turns : (m : Machine) (fs : List Fact) (e : Event) → Running m fs → Running (eventOutcome rows m e .left) (fs ++ withTaken (decideEvent rows m e) e [])
-  unfolding withTaken
-  turns m fs e r = go (decideEvent rows m e) refl
-    where
-      go : (d : Decision) → decideEvent rows m e ≡ d → Running (eventOutcome rows m e .left) (fs ++ withTaken d e [])
-      go taken q = runs-on m fs r e q
-      go (refused n p) q = rw append-nil (stays m fs r e n p q)
+  -- and s shows the meaning of the facts fs
+  pub record Running (m : Machine) (fs : List Fact) : Type 0 where
+    pub s : Shown
+    pub laid : Laid m s
+    pub faithful : Faithful k (ruleOf rows) (log fs) (length fs) s
+
+  module _ (m : Machine) (fs : List Fact) (run : Running m fs) (e : Event) where
+    pub after-faithful : decideEvent rows m e ≡ taken
+        → Faithful k (ruleOf rows) (log (fs ++ factOf e ∷ [])) (suc (length fs)) (step k (ruleOf rows) (run .s) (factOf e))
+    after-faithful d =
+        let was = faithful-alike k (ruleOf rows) (log fs) (log (fs ++ factOf e ∷ [])) (length fs) (run .s) (log-old fs (factOf e)) (run .faithful) in
+        let n = log-new fs (factOf e) in
+        rw n at (step-faithful k (ruleOf rows) (log (fs ++ factOf e ∷ [])) (length fs) (run .s) (checked rows cr .rows) was (rw n (enough m (run .s) (run .laid) e d)))
+
+    runs-on : decideEvent rows m e ≡ taken → Running (eventOutcome rows m e .left) (fs ++ factOf e ∷ [])
+    runs-on d = record {
+      s = step k (ruleOf rows) (run .s) (factOf e);
+      laid = laid-on m (run .s) (run .laid) e d;
+      faithful = (let z : length (fs ++ factOf e ∷ []) ≡ suc (length fs) = length-append fs (factOf e ∷ []) ∙ omega arith in rw z (after-faithful d));
+    }
+
+    -- one event
+    pub turns : Running (eventOutcome rows m e .left) (fs ++ withTaken (decideEvent rows m e) e [])
+    unfolding withTaken
+    turns = go (decideEvent rows m e) refl
+      where
+        go : (d : Decision) → decideEvent rows m e ≡ d → Running (eventOutcome rows m e .left) (fs ++ withTaken d e [])
+        go taken q = runs-on q
+        go (refused n p) q = rw append-nil (record { s = run .s; laid = laid-stays m (run .s) (run .laid) e n p q; faithful = run .faithful })
 
   -- a whole run
   pub runs-all : (es : List Event) (m : Machine) (fs : List Fact) → Running m fs → Running (runs rows m es) (fs ++ takenOf rows m es)
   unfolding runs takenOf withTaken
   runs-all [] m fs r = rw append-nil r
   runs-all (e ∷ es) m fs r =
-      rw (joins (decideEvent rows m e)) (rw append-assoc at (runs-all es (eventOutcome rows m e .left) (fs ++ withTaken (decideEvent rows m e) e []) (turns m fs e r)))
+      rw (joins (decideEvent rows m e)) (rw append-assoc at (runs-all es (eventOutcome rows m e .left) (fs ++ withTaken (decideEvent rows m e) e []) (turns m fs r e)))
     where
       rest : List Fact
       rest = takenOf rows (eventOutcome rows m e .left) es
@@ -199,3 +192,28 @@ module _ (rows : List ℕ) (k C : ℕ) (kr : kRight k ≡ true) (cr : checkRows 
       joins : (d : Decision) → withTaken d e rest ≡ withTaken d e [] ++ rest
       joins taken = refl
       joins (refused n p) = refl
+
+-- the start
+pub record Begun (k : ℕ) (rows nodes values : List ℕ) : Type 0 where
+  pub k-right : kRight k ≡ true
+  pub rows-right : checkRows rows ≡ right
+  pub nodes-right : nodesRight nodes ≡ true
+  pub values-right : valuesRight k values ≡ true
+
+-- an answer of Started tells that nothing was refused
+pub begun : (k : ℕ) (rows nodes values : List ℕ) → startOutcome k rows nodes values .answer ≡ Started → Begun k rows nodes values × (decideStart k rows nodes values ≡ taken)
+unfolding startOutcome settleStart decideStart
+begun k rows nodes values e = go (decideStart k rows nodes values) refl e
+  where
+    go : (d : Decision) → decideStart k rows nodes values ≡ d → settleStart d k (rowCount rows) nodes values .answer ≡ Started → Begun k rows nodes values × (decideStart k rows nodes values ≡ taken)
+    go taken q z =
+        let t = start-taken (kRight k) (checkRows rows) (nodesRight nodes && valuesRight k values) q in (
+          record {
+            k-right = t .0;
+            rows-right = t .1;
+            nodes-right = and-true-l (nodesRight nodes) (valuesRight k values) (t .2);
+            values-right = and-true-r (nodesRight nodes) (valuesRight k values) (t .2);
+          },
+          q,
+        )
+    go (refused n p) q z = let y : _≡_ {A = ℕ} 0 1 = cc in absurd (omega arith)

@@ -55,7 +55,7 @@ unfolding ask
 ask-beyond L v y h b w q = rw (ne-eqb w v (λ e. omega arith)) (b w q)
 
 -- the fresh start
-nothing-kept : (n : ℕ) → addTrees [] (replicate n off) ≡ []
+pub nothing-kept : (n : ℕ) → addTrees [] (replicate n off) ≡ []
 unfolding addTrees addTree
 nothing-kept zero = refl
 nothing-kept (suc n) = nothing-kept n

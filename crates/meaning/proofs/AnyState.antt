@@ -1,0 +1,143 @@
+-- Any well-formed state: the functions shown go to those that one step of the meaning gives, and the new state is well formed.
+-- What tables show determines them. Assumes nothing.
+use Prim.Native.Nat.{ℕ, zero, suc, _+_, _-_, _*_, _/_, _%_, _≤_, _<_}
+use mathlib.Core.Path.{_≡_, refl, ap, ap₂, sym, _∙_}
+use mathlib.Core.Bool.{Bool, true, false, _&&_}
+use mathlib.Core.List.{List, [], _∷_, _++_}
+use mathlib.Core.Logic.{⊎-elim}
+use native.Mathlib.Omega.{arith}
+use lib.Dec.{eqb, ltb, leb}
+use lib.ListN.{length, getD, length-append, List·getD-append}
+use lib.Seq.{ext-getD, getD-append-seam}
+use borrow.Author.Tests.{eqb-true}
+use Rattle.trees.specs.Bits.{Function, Same}
+use Rattle.trees.specs.Tree.{Tree, off, eval}
+use Rattle.trees.proofs.Tests.{and-true-l, and-true-r, lt-or-ge}
+use Rattle.trees.proofs.BitsLaws.{drops-same}
+use Rattle.trees.proofs.TreeLaws.{canon, fine-off}
+use Rattle.meaning.specs.declared.Event.{Event}
+use Rattle.meaning.specs.Qtl.{Fact}
+use Rattle.meaning.specs.Rows.{Row, truth, atom, both, neg, since, previous, exists, ruleOf, right, checkRows}
+use Rattle.meaning.specs.Numbering.{Lists, askRows}
+use Rattle.meaning.specs.Step.{rowSays, saysAt, rowTree, rowTrees, Shown, step}
+use Rattle.meaning.specs.Tables.{most, read, layState, layNodes, layValues, wellFormed}
+use Rattle.meaning.specs.Outcome.{kRight, capacity, nodesRight, valuesRight, workSize, factOf, Decision, taken, judgeStart, judgeEvent, Machine, shows, decideEvent, eventOutcome}
+use Rattle.meaning.proofs.RowsLaws.{RowOk, RowsOk, Checked, checked}
+use Rattle.meaning.proofs.StepLaws.{AllFine, fine-snoc, fine-row, eval-row, trees-keep}
+use Rattle.meaning.proofs.ProperLaws.{Proper, Shaped, proper-read, lay-nodes, lay-state, lay-values}
+use Rattle.meaning.proofs.RunLaws.{start-taken, event-taken, positive, few, Laid, shows-is, formed-is, laid-on}
+
+-- a row reads the functions of earlier rows only
+row-now : (k : ℕ) (L : Lists) (e : Fact) (old now new : ℕ → Function) (i n : ℕ) (r : Row) → RowOk n r → ((j : ℕ) → j < n → Same (now j) (new j))
+    → Same (rowSays k L e old now i r) (rowSays k L e old new i r)
+unfolding rowSays
+row-now k L e old now new i n truth o h s = refl
+row-now k L e old now new i n (atom p gs) o h s = refl
+row-now k L e old now new i n (both a b) o h s = rw (h a (o .0) s, h b (o .1) s)
+row-now k L e old now new i n (neg a) o h s = rw (h a o s)
+row-now k L e old now new i n (since a b) o h s = rw (h a (o .0) s, h b (o .1) s)
+row-now k L e old now new i n (previous a) o h s = refl
+row-now k L e old now new i n (exists x a) o h s = drops-same (x * k) k (now a) (new a) (h a (o .1)) s
+
+-- each diagram after the event says what its row says of those before and after
+module _ (k : ℕ) (L : Lists) (e : Fact) (old : List Tree) (wold : AllFine (4 * k) old) where
+  trees-say : (rs : List Row) (ts : List Tree) → RowsOk (length ts) rs → AllFine (4 * k) ts → (i : ℕ) → i < length rs
+      → Same (saysAt (rowTrees k L e old ts rs) (length ts + i)) (rowSays k L e (saysAt old) (saysAt (rowTrees k L e old ts rs)) (length ts + i) (getD rs i truth))
+  unfolding rowTrees saysAt
+  trees-say [] ts o w i h s = absurd (omega arith)
+  trees-say (r ∷ rs) ts o w zero h s =
+      let t : Tree = rowTree k L e old ts r in
+      let m : length (ts ++ t ∷ []) ≡ suc (length ts) = length-append ts (t ∷ []) ∙ omega arith in
+      let z : length ts + 0 ≡ length ts = omega arith in
+      let here : getD (rowTrees k L e old (ts ++ t ∷ []) rs) (length ts) off ≡ t =
+      trees-keep k L e old wold rs (ts ++ t ∷ []) (length ts) (omega arith) ∙ getD-append-seam ts t [] off in
+      rw (z, here)
+      (eval-row k L e old wold ts r (length ts) w (o .0) s
+      ∙ row-now k L e (saysAt old) (saysAt ts) (saysAt (rowTrees k L e old (ts ++ t ∷ []) rs)) (length ts) (length ts) r (o .0)
+      (λ j q u. ap (λ (d : Tree). eval d u) (sym (trees-keep k L e old wold (r ∷ rs) ts j q))) s)
+  trees-say (r ∷ rs) ts o w (suc i) h s =
+      let t : Tree = rowTree k L e old ts r in
+      let m : length (ts ++ t ∷ []) ≡ suc (length ts) = length-append ts (t ∷ []) ∙ omega arith in
+      let z : length ts + suc i ≡ length (ts ++ t ∷ []) + i = omega arith in
+      rw z (trees-say rs (ts ++ t ∷ []) (rw m (o .1)) (fine-snoc (4 * k) ts t w (fine-row k L e old wold ts r)) i (omega arith) s)
+
+-- "one step of the meaning, read over numbers": s′ is got from s by the fact e
+pub record OneStep (k : ℕ) (rule : List Row) (s : Shown) (e : Fact) (s′ : Shown) : Type 0 where
+  pub lists-are : s′ .lists ≡ askRows e (s .lists) rule
+  pub rows-say : (i : ℕ) → i < length rule
+      → Same (saysAt (s′ .trees) i) (rowSays k (s′ .lists) e (saysAt (s .trees)) (saysAt (s′ .trees)) i (getD rule i truth))
+
+pub one-step : (k C : ℕ) (rule : List Row) (s : Shown) (e : Fact) → RowsOk 0 rule → Proper k C rule s → OneStep k rule s e (step k rule s e)
+unfolding step
+one-step k C rule s e o p = record {
+  lists-are = refl;
+  rows-say = λ i h b.
+      let z : 0 + i ≡ i = omega arith in
+      rw z at (trees-say k (askRows e (s .lists) rule) e (s .trees) (p .fine) rule [] o (λ j. fine-off 0 (4 * k)) i h b);
+}
+
+-- the lengths that the arrays of a state have
+abbrev pub Arrays : Machine → Type 0
+Arrays m = (length (m .state .counts) ≡ 4) × (length (m .state .refs) ≡ 64)
+
+module _ (rows : List ℕ) (m : Machine) (e : Event) (arrays : Arrays m) (d : decideEvent rows m e ≡ taken) where
+  -- the tests that were passed
+  pub passed : (kRight (m .state .k) ≡ true) × (checkRows rows ≡ right)
+      × ((nodesRight (m .nodes) && (valuesRight (m .state .k) (m .values) && leb (workSize (capacity (m .nodes))) (length (m .work)))) ≡ true)
+      × (wellFormed (m .state .k) (capacity (m .nodes)) (ruleOf rows) (m .state) (m .nodes) (m .values) ≡ true)
+  unfolding decideEvent
+  passed = let t = event-taken _ _ _ _ _ _ d in let u = start-taken _ _ _ (t .0) in (u .0, u .1, u .2, t .1)
+
+  shaped : Shaped (m .state .k) (capacity (m .nodes)) (m .state) (m .nodes) (m .values)
+  unfolding nodesRight valuesRight capacity
+  shaped =
+      let all = passed .2 in
+      let nr : Bool = eqb (length (m .nodes) % 3) 0 && (ltb 0 (length (m .nodes) / 3) && leb (length (m .nodes) / 3) 4096) in
+      let vr : Bool = eqb (length (m .values)) (4 * most (m .state .k)) in
+      let wr : Bool = leb (workSize (length (m .nodes) / 3)) (length (m .work)) in
+      let a : length (m .nodes) % 3 ≡ 0 = eqb-true (length (m .nodes) % 3) 0 (and-true-l (eqb (length (m .nodes) % 3) 0) (ltb 0 (length (m .nodes) / 3) && leb (length (m .nodes) / 3) 4096) (and-true-l nr (vr && wr) all)) in
+      record {
+        counts = arrays .0;
+        refs = arrays .1;
+        nodes-are = omega arith;
+        values-are = eqb-true (length (m .values)) (4 * most (m .state .k)) (and-true-l vr wr (and-true-r nr (vr && wr) all));
+      }
+
+  -- the state and the tables are the layout of what they show
+  pub laid-of : Laid rows (m .state .k) (capacity (m .nodes)) (passed .0) (passed .1) m (shows rows m)
+  unfolding shows read
+  laid-of =
+      let pos = positive rows (m .state .k) (capacity (m .nodes)) (passed .0) (passed .1) in
+      let lt = few rows (m .state .k) (capacity (m .nodes)) (passed .0) (passed .1) in
+      let ok = checked rows (passed .1) .rows in
+      record {
+        state-is = sym (lay-state (m .state .k) (capacity (m .nodes)) (ruleOf rows) (m .state) (m .nodes) (m .values) pos lt ok shaped (passed .3) refl);
+        nodes-are = sym (lay-nodes (m .state .k) (capacity (m .nodes)) (ruleOf rows) (m .state) (m .nodes) (m .values) pos lt ok shaped (passed .3));
+        values-are = sym (lay-values (m .state .k) (capacity (m .nodes)) (ruleOf rows) (m .state) (m .nodes) (m .values) pos lt ok shaped (passed .3));
+        proper = proper-read (m .state .k) (capacity (m .nodes)) (ruleOf rows) (m .state) (m .nodes) (m .values) pos lt ok shaped (passed .3);
+      }
+
+  left-laid : Laid rows (m .state .k) (capacity (m .nodes)) (passed .0) (passed .1) (eventOutcome rows m e .left) (step (m .state .k) (ruleOf rows) (shows rows m) (factOf e))
+  left-laid = laid-on rows (m .state .k) (capacity (m .nodes)) (passed .0) (passed .1) m (shows rows m) laid-of e d
+
+  -- the functions shown go to those that one step of the meaning gives
+  pub any-step : OneStep (m .state .k) (ruleOf rows) (shows rows m) (factOf e) (shows rows (eventOutcome rows m e .left))
+  any-step =
+      rw (shows-is rows (m .state .k) (capacity (m .nodes)) (passed .0) (passed .1) (eventOutcome rows m e .left) _ left-laid)
+      (one-step (m .state .k) (capacity (m .nodes)) (ruleOf rows) (shows rows m) (factOf e) (checked rows (passed .1) .rows) (laid-of .proper))
+
+  -- the new state is well formed
+  pub any-formed : let n = eventOutcome rows m e .left in wellFormed (n .state .k) (capacity (n .nodes)) (ruleOf rows) (n .state) (n .nodes) (n .values) ≡ true
+  any-formed = formed-is rows (m .state .k) (capacity (m .nodes)) (passed .0) (passed .1) (eventOutcome rows m e .left) _ left-laid
+
+-- two layouts that show the same lists and functions are the same numbers
+module _ (rows : List ℕ) (k C : ℕ) (kr : kRight k ≡ true) (cr : checkRows rows ≡ right) where
+  pub one-layout : (m n : Machine) (s t : Shown) → Laid rows k C kr cr m s → Laid rows k C kr cr n t → s .lists ≡ t .lists
+      → ((i : ℕ) → i < length (ruleOf rows) → Same (saysAt (s .trees) i) (saysAt (t .trees) i))
+      → (m .state ≡ n .state) × (m .nodes ≡ n .nodes) × (m .values ≡ n .values)
+  unfolding saysAt
+  one-layout m n s t a b l f =
+      let trees : s .trees ≡ t .trees = ext-getD off (s .trees) (t .trees) (a .proper .count ∙ sym (b .proper .count))
+      (λ i h. canon (4 * k) (getD (s .trees) i off) (getD (t .trees) i off) (a .proper .fine i) (b .proper .fine i) (f i (rw (a .proper .count) at h))) in
+      let same : s ≡ t = λ i. record { lists = l i; trees = trees i } in
+      (a .state-is ∙ ap (layState k) same ∙ sym (b .state-is), a .nodes-are ∙ ap (layNodes C) same ∙ sym (b .nodes-are), a .values-are ∙ ap (λ (x : Shown). layValues k (x .lists)) same ∙ sym (b .values-are))

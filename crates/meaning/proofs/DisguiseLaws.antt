@@ -1,0 +1,270 @@
+-- Disguised logs: both runs give the same answers and diagrams, and the value lists differ by the disguise only. Assumes nothing.
+use Prim.Native.Nat.{ℕ, zero, suc, _+_, _-_, _*_, _^_, _≤_, _<_}
+use mathlib.Core.Path.{_≡_, refl, ap, ap₂, sym, _∙_, fun-ext}
+use mathlib.Core.Bool.{Bool, true, false, cond, not, _&&_, _||_}
+use mathlib.Core.List.{List, [], _∷_, _++_, map}
+use mathlib.Core.Logic.{_⊎_, inl, inr, ⊎-elim}
+use native.Mathlib.Omega.{arith}
+use lib.Dec.{eqb, ltb, leb}
+use lib.ListN.{length, getD, take, drop, replicate, length-append, length-map, length-replicate, length-drop}
+use borrow.Author.Tests.{eq-eqb}
+use Rattle.trees.specs.Tree.{Tree, off}
+use Rattle.trees.proofs.Tests.{or-l, or-r, eqb-same}
+use Rattle.meaning.specs.declared.State.{State}
+use Rattle.meaning.specs.declared.Event.{Event}
+use Rattle.meaning.specs.declared.Value.{Value}
+use Rattle.meaning.specs.declared.Answer.{Answer}
+use Rattle.meaning.specs.Qtl.{Argument, variable, constant, Fact}
+use Rattle.meaning.specs.Rows.{Row, truth, atom, both, neg, since, previous, exists, ruleOf, firstBelow, Found, right, checkRows}
+use Rattle.meaning.specs.Numbering.{Lists, askRows}
+use Rattle.meaning.specs.Step.{Shown, step, roomOf}
+use Rattle.meaning.specs.Tables.{most, padded, keptTable, layState, layNodes, layValues, wellFormed}
+use Rattle.meaning.specs.Outcome.{kRight, capacity, nodesRight, valuesRight, workSize, cleared, factOf, agrees, allAgree, countRight, shortest, Decision, taken, refused, judgeStart, judgeEvent, Machine, shows, decideEvent, verdictOf, settleEvent, eventOutcome, runs, answers}
+use Rattle.meaning.specs.Disguise.{among, used, constantsIn, constants, Disguise, disguised, disguisedFact}
+use Rattle.meaning.proofs.ValuesLaws.{Distinct}
+use Rattle.meaning.proofs.PartsLaws.{padded-length}
+use Rattle.meaning.proofs.ProperLaws.{Proper}
+use Rattle.meaning.proofs.RenameLaws.{Every, EveryList, KeepsArguments, KeepsRow, KeepsRows, renamedLists, renamed, askRows-every, askRows-ren, step-ren}
+use Rattle.meaning.proofs.RunLaws.{Laid, k-is, C-is, shows-is, formed-is, laid-on, laid-stays}
+
+-- the fact of a disguised event
+take-map : (n : ℕ) (f : Value → Value) (vs : List Value) → take n (map f vs) ≡ map f (take n vs)
+take-map zero f vs = refl
+take-map (suc n) f [] = refl
+take-map (suc n) f (v ∷ vs) = ap (λ (l : List Value). f v ∷ l) (take-map n f vs)
+
+hidden : (ℕ → ℕ) → Value → Value
+hidden π v = record { 0 = π (v .0) }
+
+plain : Value → ℕ
+plain v = v .0
+
+values-of : (π : ℕ → ℕ) (vs : List Value) → map plain (map (hidden π) vs) ≡ map π (map plain vs)
+unfolding hidden plain
+values-of π [] = refl
+values-of π (v ∷ vs) = ap (λ (l : List ℕ). π (v .0) ∷ l) (values-of π vs)
+
+pub fact-of : (π : ℕ → ℕ) (e : Event) → factOf (disguised π e) ≡ disguisedFact π (factOf e)
+unfolding factOf disguised disguisedFact hidden plain
+fact-of π e =
+    let q : map plain (take (e .count) (map (hidden π) (e .values))) ≡ map π (map plain (take (e .count) (e .values))) =
+    ap (map plain) (take-map (e .count) (hidden π) (e .values)) ∙ values-of π (take (e .count) (e .values)) in
+    λ i. record { predicate = e .predicate; values = q i }
+
+agree-same : (π : ℕ → ℕ) (e : Event) (rs : List Row) → allAgree (disguised π e) rs ≡ allAgree e rs
+unfolding allAgree agrees disguised
+agree-same π e [] = refl
+agree-same π e (truth ∷ rs) = agree-same π e rs
+agree-same π e (atom p gs ∷ rs) = rw (agree-same π e rs)
+agree-same π e (both l r ∷ rs) = agree-same π e rs
+agree-same π e (neg r ∷ rs) = agree-same π e rs
+agree-same π e (since l r ∷ rs) = agree-same π e rs
+agree-same π e (previous r ∷ rs) = agree-same π e rs
+agree-same π e (exists x r ∷ rs) = agree-same π e rs
+
+count-same : (π : ℕ → ℕ) (e : Event) (rs : List Row) → countRight rs (disguised π e) ≡ countRight rs e
+unfolding countRight
+count-same π e rs = rw (agree-same π e rs) (unfold disguised in refl)
+
+-- what is shown, renamed, is laid out alike
+lay-same : (π : ℕ → ℕ) (k : ℕ) (s : Shown) → layState k (renamed π s) ≡ layState k s
+unfolding layState renamed renamedLists keptTable
+lay-same π k s = rw (length-map (s .lists 0) π, length-map (s .lists 1) π, length-map (s .lists 2) π, length-map (s .lists 3) π)
+
+nodes-same : (π : ℕ → ℕ) (C : ℕ) (s : Shown) → layNodes C (renamed π s) ≡ layNodes C s
+unfolding layNodes renamed keptTable
+nodes-same π C s = refl
+
+verdict-same : (π : ℕ → ℕ) (k : ℕ) (rule : List Row) (s t : Shown) → verdictOf k rule (renamed π s) (renamed π t) ≡ verdictOf k rule s t
+unfolding verdictOf renamed keptTable
+verdict-same π k rule s t = refl
+
+lay-length : (k : ℕ) (L : Lists) → ((v : ℕ) → v < 4 → length (L v) ≤ most k) → length (layValues k L) ≡ 4 * most k
+unfolding layValues
+lay-length k L h =
+    rw (
+      length-append,
+      length-append,
+      length-append,
+      padded-length (most k) (L 0) (h 0 (omega arith)),
+      padded-length (most k) (L 1) (h 1 (omega arith)),
+      padded-length (most k) (L 2) (h 2 (omega arith)),
+      padded-length (most k) (L 3) (h 3 (omega arith)),
+    ) (omega arith)
+
+cleared-length : (C : ℕ) (v w : List ℕ) → length v ≡ length w → length (cleared C v) ≡ length (cleared C w)
+unfolding cleared
+cleared-length C v w e = rw (length-append, length-append, length-drop, length-drop, e)
+
+-- an element of a renamed list
+renamed-at : (π : ℕ → ℕ) (xs : List ℕ) (i : ℕ) → i < length xs → getD (map π xs) i 0 ≡ π (getD xs i 0)
+renamed-at π [] i h = absurd (omega arith)
+renamed-at π (x ∷ xs) zero h = refl
+renamed-at π (x ∷ xs) (suc i) h = renamed-at π xs i (omega arith)
+
+every-at : (U : ℕ → Type 0) (xs : List ℕ) → Every U xs → (i : ℕ) → i < length xs → U (getD xs i 0)
+every-at U [] u i h = absurd (omega arith)
+every-at U (x ∷ xs) u zero h = u .0
+every-at U (x ∷ xs) u (suc i) h = every-at U xs (u .1) i (omega arith)
+
+-- equal parts are judged alike
+lengths-same : (rows : List ℕ) (k k′ : ℕ) (nodes nodes′ values values′ work work′ : List ℕ) → k′ ≡ k → nodes′ ≡ nodes → length values′ ≡ length values → length work′ ≡ length work
+    → judgeStart (kRight k′) (checkRows rows) (nodesRight nodes′ && (valuesRight k′ values′ && leb (workSize (capacity nodes′)) (length work′)))
+    ≡ judgeStart (kRight k) (checkRows rows) (nodesRight nodes && (valuesRight k values && leb (workSize (capacity nodes)) (length work)))
+unfolding valuesRight
+lengths-same rows k k′ nodes nodes′ values values′ work work′ a b c d = rw (a, b, c, d)
+
+judge-same : (d d′ : Decision) (f f′ c c′ : Bool) (v v′ : ℕ) (r r′ : Bool) → d′ ≡ d → f′ ≡ f → c′ ≡ c → v′ ≡ v → r′ ≡ r
+    → judgeEvent d′ f′ c′ (ltb v′ 4) v′ r′ ≡ judgeEvent d f c (ltb v 4) v r
+judge-same d d′ f f′ c c′ v v′ r r′ p q s t u = rw (p, q, s, t, u)
+
+module _ (π : ℕ → ℕ) (U : ℕ → Type 0) (inj : (x y : ℕ) → U x → U y → π x ≡ π y → x ≡ y) where
+  distinct-ren : (xs : List ℕ) → Every U xs → Distinct xs → Distinct (map π xs)
+  distinct-ren xs u d i j hi hj e =
+      let p : i < length xs = rw length-map at hi in
+      let q : j < length xs = rw length-map at hj in
+      d i j p q (inj (getD xs i 0) (getD xs j 0) (every-at U xs u i p) (every-at U xs u j q) (sym (renamed-at π xs i p) ∙ e ∙ renamed-at π xs j q))
+
+  proper-ren : (k C : ℕ) (rule : List Row) (s : Shown) → EveryList U (s .lists) → Proper k C rule s → Proper k C rule (renamed π s)
+  unfolding renamed renamedLists keptTable
+  proper-ren k C rule s u p = record {
+    enough = λ v h. rw (length-map (s .lists v) π) (p .enough v h);
+    distinct = λ v. distinct-ren (s .lists v) (u v) (p .distinct v);
+    beyond = λ v h. rw (p .beyond v h);
+    count = p .count;
+    fine = p .fine;
+    free = p .free;
+    room = p .room;
+  }
+
+  module _ (rows : List ℕ) (k C : ℕ) (kr : kRight k ≡ true) (cr : checkRows rows ≡ right) (keeps : KeepsRows π U (ruleOf rows)) where
+    -- two machines that show the same but for the disguise
+    pub record Twins (m n : Machine) : Type 0 where
+      pub s : Shown
+      pub laid : Laid rows k C kr cr m s
+      pub twin : Laid rows k C kr cr n (renamed π s)
+      pub work : length (n .work) ≡ length (m .work)
+      pub uses : EveryList U (s .lists)
+
+    module _ (m n : Machine) (t : Twins m n) (e : Event) (ue : Every U (factOf e .values)) where
+      state-same : n .state ≡ m .state
+      state-same = t .twin .state-is ∙ lay-same π k (t .s) ∙ sym (t .laid .state-is)
+
+      nodes-are : n .nodes ≡ m .nodes
+      nodes-are = t .twin .nodes-are ∙ nodes-same π C (t .s) ∙ sym (t .laid .nodes-are)
+
+      enough-lists : (v : ℕ) → v < 4 → length (t .s .lists v) ≤ most k
+      unfolding most
+      enough-lists v h = t .laid .proper .enough v h
+
+      values-length : length (n .values) ≡ length (m .values)
+      unfolding renamed renamedLists
+      values-length =
+          ap length (t .twin .values-are) ∙ lay-length k (renamed π (t .s) .lists) (λ v h. rw (length-map (t .s .lists v) π) (enough-lists v h))
+          ∙ sym (ap length (t .laid .values-are) ∙ lay-length k (t .s .lists) enough-lists)
+
+      shows-n : shows rows n ≡ renamed π (t .s)
+      shows-n = shows-is rows k C kr cr n (renamed π (t .s)) (t .twin)
+
+      shows-m : shows rows m ≡ t .s
+      shows-m = shows-is rows k C kr cr m (t .s) (t .laid)
+
+      after-n : step (n .state .k) (ruleOf rows) (shows rows n) (factOf (disguised π e)) ≡ renamed π (step k (ruleOf rows) (t .s) (factOf e))
+      after-n = rw (shows-n, k-is rows k C kr cr n (renamed π (t .s)) (t .twin), fact-of π e) (step-ren π U inj k (ruleOf rows) (t .s) (factOf e) (t .uses) ue keeps)
+
+      after-m : step (m .state .k) (ruleOf rows) (shows rows m) (factOf e) ≡ step k (ruleOf rows) (t .s) (factOf e)
+      after-m = rw (shows-m, k-is rows k C kr cr m (t .s) (t .laid))
+
+      short-same : shortest (n .state .k) (ruleOf rows) (shows rows n) (factOf (disguised π e)) ≡ shortest (m .state .k) (ruleOf rows) (shows rows m) (factOf e)
+      unfolding shortest renamed
+      short-same =
+          rw (
+            shows-n,
+            shows-m,
+            k-is rows k C kr cr n (renamed π (t .s)) (t .twin),
+            k-is rows k C kr cr m (t .s) (t .laid),
+            fact-of π e,
+            askRows-ren π U inj (factOf e) (ruleOf rows) (t .s .lists) (t .uses) ue keeps,
+          )
+          (ap (firstBelow 4) (fun-ext (λ v. ap (ltb (most k)) (unfold renamedLists in length-map (askRows (factOf e) (t .s .lists) (ruleOf rows) v) π))))
+
+      room-same : roomOf (n .state .k) (ruleOf rows) (shows rows n .trees) (step (n .state .k) (ruleOf rows) (shows rows n) (factOf (disguised π e)) .trees)
+          ≡ roomOf (m .state .k) (ruleOf rows) (shows rows m .trees) (step (m .state .k) (ruleOf rows) (shows rows m) (factOf e) .trees)
+      unfolding renamed
+      room-same = rw (after-n, after-m, shows-n, shows-m, k-is rows k C kr cr n (renamed π (t .s)) (t .twin), k-is rows k C kr cr m (t .s) (t .laid))
+
+      -- both events are decided alike
+      pub decide-same : decideEvent rows n (disguised π e) ≡ decideEvent rows m e
+      unfolding decideEvent
+      decide-same =
+          judge-same _ _ _ _ _ _ _ _ _ _
+          (lengths-same rows (m .state .k) (n .state .k) (m .nodes) (n .nodes) (m .values) (n .values) (m .work) (n .work) (ap (λ (x : State). x .k) state-same) nodes-are values-length (t .work))
+          (formed-is rows k C kr cr n (renamed π (t .s)) (t .twin) ∙ sym (formed-is rows k C kr cr m (t .s) (t .laid)))
+          (count-same π e (ruleOf rows)) short-same (ap₂ leb room-same (ap capacity nodes-are))
+
+      verdicts-same : verdictOf (n .state .k) (ruleOf rows) (shows rows n) (step (n .state .k) (ruleOf rows) (shows rows n) (factOf (disguised π e)))
+          ≡ verdictOf (m .state .k) (ruleOf rows) (shows rows m) (step (m .state .k) (ruleOf rows) (shows rows m) (factOf e))
+      verdicts-same =
+          rw (after-n, after-m, shows-n, shows-m, k-is rows k C kr cr n (renamed π (t .s)) (t .twin), k-is rows k C kr cr m (t .s) (t .laid))
+          (verdict-same π k (ruleOf rows) (t .s) (step k (ruleOf rows) (t .s) (factOf e)))
+
+      -- and answered alike
+      pub answer-same : eventOutcome rows n (disguised π e) .answer ≡ eventOutcome rows m e .answer
+      unfolding eventOutcome settleEvent
+      answer-same = rw decide-same (go (decideEvent rows m e))
+        where
+          go : (d : Decision) → settleEvent d rows n (disguised π e) .answer ≡ settleEvent d rows m e .answer
+          go taken = verdicts-same
+          go (refused j q) = refl
+
+      work-same : length (eventOutcome rows n (disguised π e) .left .work) ≡ length (eventOutcome rows m e .left .work)
+      unfolding eventOutcome settleEvent
+      work-same = rw decide-same (go (decideEvent rows m e))
+        where
+          pick : (b : Bool) → length (cond b (cleared (capacity (m .nodes)) (n .work)) (n .work)) ≡ length (cond b (cleared (capacity (m .nodes)) (m .work)) (m .work))
+          pick true = cleared-length (capacity (m .nodes)) (n .work) (m .work) (t .work)
+          pick false = t .work
+
+          go : (d : Decision) → length (settleEvent d rows n (disguised π e) .left .work) ≡ length (settleEvent d rows m e .left .work)
+          go taken = ap (λ (c : ℕ). length (cleared c (n .work))) (ap capacity nodes-are) ∙ cleared-length (capacity (m .nodes)) (n .work) (m .work) (t .work)
+          go (refused j q) = ap (λ (c : ℕ). length (cond (leb 4 j) (cleared c (n .work)) (n .work))) (ap capacity nodes-are) ∙ pick (leb 4 j)
+
+      -- and they stay twins
+      pub twins-turn : Twins (eventOutcome rows m e .left) (eventOutcome rows n (disguised π e) .left)
+      twins-turn = go (decideEvent rows m e) refl
+        where
+          go : (d : Decision) → decideEvent rows m e ≡ d → Twins (eventOutcome rows m e .left) (eventOutcome rows n (disguised π e) .left)
+          go taken q = record {
+            s = step k (ruleOf rows) (t .s) (factOf e);
+            laid = laid-on rows k C kr cr m (t .s) (t .laid) e q;
+            twin =
+                rw (fact-of π e, step-ren π U inj k (ruleOf rows) (t .s) (factOf e) (t .uses) ue keeps) at
+                (laid-on rows k C kr cr n (renamed π (t .s)) (t .twin) (disguised π e) (decide-same ∙ q));
+            work = work-same;
+            uses = unfold step in askRows-every U (factOf e) (ruleOf rows) (t .s .lists) ue (t .uses);
+          }
+          go (refused j p) q = record {
+            s = t .s;
+            laid = laid-stays rows k C kr cr m (t .s) (t .laid) e j p q;
+            twin = laid-stays rows k C kr cr n (renamed π (t .s)) (t .twin) (disguised π e) j p (decide-same ∙ q);
+            work = work-same;
+            uses = t .uses;
+          }
+
+    -- whole runs
+    abbrev EveryEvent : List Event → Type 0
+    EveryEvent [] = Unit {0}
+    EveryEvent (e ∷ es) = Every U (factOf e .values) × EveryEvent es
+
+    pub twins-answers : (es : List Event) (m n : Machine) → Twins m n → EveryEvent es → answers rows n (map (disguised π) es) ≡ answers rows m es
+    unfolding answers
+    twins-answers [] m n t u = refl
+    twins-answers (e ∷ es) m n t u =
+        ap₂ (λ (a : Answer) (l : List Answer). a ∷ l) (answer-same m n t e (u .0))
+        (twins-answers es (eventOutcome rows m e .left) (eventOutcome rows n (disguised π e) .left) (twins-turn m n t e (u .0)) (u .1))
+
+    pub twins-runs : (es : List Event) (m n : Machine) → Twins m n → EveryEvent es → Twins (runs rows m es) (runs rows n (map (disguised π) es))
+    unfolding runs
+    twins-runs [] m n t u = t
+    twins-runs (e ∷ es) m n t u =
+        twins-runs es (eventOutcome rows m e .left) (eventOutcome rows n (disguised π e) .left) (twins-turn m n t e (u .0)) (u .1)
