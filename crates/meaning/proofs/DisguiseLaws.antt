@@ -24,7 +24,7 @@ use Rattle.meaning.specs.Disguise.{among, used, constantsIn, constants, 
 use Rattle.meaning.proofs.ValuesLaws.{Distinct}
 use Rattle.meaning.proofs.PartsLaws.{padded-length}
 use Rattle.meaning.proofs.ProperLaws.{Proper}
-use Rattle.meaning.proofs.RenameLaws.{Every, EveryList, KeepsArguments, KeepsRow, KeepsRows, renamedLists, renamed, askRows-every, askRows-ren, step-ren}
+use Rattle.meaning.proofs.RenameLaws.{Every, EveryFact, EveryList, KeepsArguments, KeepsRow, KeepsRows, renamedLists, renamed, askRows-every, askRows-ren, step-ren}
 use Rattle.meaning.proofs.RunLaws.{Laid, k-is, C-is, shows-is, formed-is, laid-on, laid-stays}
 
 -- the fact of a disguised event
@@ -67,11 +67,11 @@ unfolding countRight
 count-same π e rs = rw (agree-same π e rs) (unfold disguised in refl)
 
 -- what is shown, renamed, is laid out alike
-lay-same : (π : ℕ → ℕ) (k : ℕ) (s : Shown) → layState k (renamed π s) ≡ layState k s
+pub lay-same : (π : ℕ → ℕ) (k : ℕ) (s : Shown) → layState k (renamed π s) ≡ layState k s
 unfolding layState renamed renamedLists keptTable
 lay-same π k s = rw (length-map (s .lists 0) π, length-map (s .lists 1) π, length-map (s .lists 2) π, length-map (s .lists 3) π)
 
-nodes-same : (π : ℕ → ℕ) (C : ℕ) (s : Shown) → layNodes C (renamed π s) ≡ layNodes C s
+pub nodes-same : (π : ℕ → ℕ) (C : ℕ) (s : Shown) → layNodes C (renamed π s) ≡ layNodes C s
 unfolding layNodes renamed keptTable
 nodes-same π C s = refl
 
@@ -252,18 +252,14 @@ module _ (π : ℕ → ℕ) (U : ℕ → Type 0) (inj : (x y : ℕ) → U x → 
           }
 
     -- whole runs
-    abbrev EveryEvent : List Event → Type 0
-    EveryEvent [] = Unit {0}
-    EveryEvent (e ∷ es) = Every U (factOf e .values) × EveryEvent es
-
-    pub twins-answers : (es : List Event) (m n : Machine) → Twins m n → EveryEvent es → answers rows n (map (disguised π) es) ≡ answers rows m es
+    pub twins-answers : (es : List Event) (m n : Machine) → Twins m n → EveryFact U es → answers rows n (map (disguised π) es) ≡ answers rows m es
     unfolding answers
     twins-answers [] m n t u = refl
     twins-answers (e ∷ es) m n t u =
         ap₂ (λ (a : Answer) (l : List Answer). a ∷ l) (answer-same m n t e (u .0))
         (twins-answers es (eventOutcome rows m e .left) (eventOutcome rows n (disguised π e) .left) (twins-turn m n t e (u .0)) (u .1))
 
-    pub twins-runs : (es : List Event) (m n : Machine) → Twins m n → EveryEvent es → Twins (runs rows m es) (runs rows n (map (disguised π) es))
+    pub twins-runs : (es : List Event) (m n : Machine) → Twins m n → EveryFact U es → Twins (runs rows m es) (runs rows n (map (disguised π) es))
     unfolding runs
     twins-runs [] m n t u = t
     twins-runs (e ∷ es) m n t u =

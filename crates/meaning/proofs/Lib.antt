@@ -14,8 +14,12 @@ pub mod StepProper
 pub mod ExactLaws
 pub mod RefusalLaws
 pub mod RunLaws
+pub mod AnswerLaws
 pub mod StartLaws
 pub mod AnyState
 pub mod RenameLaws
 pub mod DisguiseLaws
+pub mod HidingLaws
+pub mod HiddenRuns
 pub mod Cases
+pub mod Demands

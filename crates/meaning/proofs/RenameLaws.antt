@@ -14,6 +14,8 @@ use Rattle.meaning.specs.Qtl.{Argument, variable, constant, Fact}
 use Rattle.meaning.specs.Rows.{Row, truth, atom, both, neg, since, previous, exists}
 use Rattle.meaning.specs.Numbering.{Lists, place, listed, noted, ask, repeats, fits, askArguments, askRow, askRows}
 use Rattle.meaning.specs.Step.{argumentsSay, rowSays, saysAt, rowTree, rowTrees, Shown, step}
+use Rattle.meaning.specs.declared.Event.{Event}
+use Rattle.meaning.specs.Outcome.{factOf}
 use Rattle.meaning.specs.Disguise.{disguisedFact}
 use Rattle.meaning.proofs.AskingLaws.{Asked, AskedRow, AskedRows, keep-arguments, keep-row, keep-rows}
 
@@ -24,6 +26,19 @@ Every U (x ∷ xs) = U x × Every U xs
 
 abbrev pub EveryList : (ℕ → Type 0) → Lists → Type 0
 EveryList U L = (v : ℕ) → Every U (L v)
+
+-- the values of every event are U's
+abbrev pub EveryFact : (ℕ → Type 0) → List Event → Type 0
+EveryFact U [] = Unit {0}
+EveryFact U (e ∷ es) = Every U (factOf e .values) × EveryFact U es
+
+pub every-front : (U : ℕ → Type 0) (es fs : List Event) → EveryFact U (es ++ fs) → EveryFact U es
+every-front U [] fs u = tt
+every-front U (e ∷ es) fs u = (u .0, every-front U es fs (u .1))
+
+pub every-back : (U : ℕ → Type 0) (es fs : List Event) → EveryFact U (es ++ fs) → EveryFact U fs
+every-back U [] fs u = u
+every-back U (e ∷ es) fs u = every-back U es fs (u .1)
 
 -- the constants are kept, and are U's
 abbrev pub KeepsArguments : (ℕ → ℕ) → (ℕ → Type 0) → List Argument → Type 0
