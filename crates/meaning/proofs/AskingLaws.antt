@@ -140,6 +140,11 @@ abbrev pub AskedRows : (ℕ → ℕ → Type 0) → Fact → List Row → Type 0
 AskedRows Q e [] = Unit {0}
 AskedRows Q e (r ∷ rs) = AskedRow Q e r × AskedRows Q e rs
 
+-- "walk the rows in order": after a row the walk goes on, whether its atom matched or not
+pub walked : (e : Fact) (L : Lists) (r : Row) (rs : List Row) → askRows e L (r ∷ rs) ≡ askRows e (askRow e L r) rs
+unfolding askRows
+walked e L r rs = refl
+
 -- what one asking keeps, the whole walk keeps
 module _ (P : Lists → Type 0) (Q : ℕ → ℕ → Type 0) (one : (L : Lists) (v y : ℕ) → Q v y → P L → P (ask L v y)) where
   pub keep-arguments : (gs : List Argument) (ys : List ℕ) (L : Lists) → Asked Q gs ys → P L → P (askArguments L gs ys)
@@ -166,7 +171,7 @@ module _ (P : Lists → Type 0) (Q : ℕ → ℕ → Type 0) (one : (L : Lists) 
   pub keep-rows : (e : Fact) (rs : List Row) (L : Lists) → AskedRows Q e rs → P L → P (askRows e L rs)
   unfolding askRows
   keep-rows e [] L q h = h
-  keep-rows e (r ∷ rs) L q h = keep-rows e rs (askRow e L r) (q .1) (keep-row e r L (q .0) h)
+  keep-rows e (r ∷ rs) L q h = rw (walked e L r rs) (keep-rows e rs (askRow e L r) (q .1) (keep-row e r L (q .0) h))
 
 -- where anything may be asked
 abbrev Anything : ℕ → ℕ → Type 0

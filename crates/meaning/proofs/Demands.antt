@@ -6,15 +6,17 @@ use mathlib.Core.List.{List, [], _∷_, _++_, map}
 use mathlib.Core.Logic.{_↔_, _⊎_, inl, inr, ⊎-elim}
 use native.Mathlib.Omega.{arith}
 use lib.ListN.{length, getD}
+use Rattle.trees.specs.Bits.{Function, Same}
 use Rattle.trees.specs.Tree.{Tree, off, eval, isOn}
 use Rattle.trees.specs.Room.{Room}
+use Rattle.trees.proofs.RoomLaws.{room-one}
 use Rattle.meaning.specs.declared.Event.{Event}
 use Rattle.meaning.specs.declared.Answer.{Answer}
 use Rattle.meaning.specs.declared.Answer.the-variants.{Started, Verdict, Refused}
 use Rattle.meaning.specs.Qtl.{Fact, Assignment, Holds, free}
 use Rattle.meaning.specs.Rows.{Row, ruleOf, formulaAt, right, checkRows}
 use Rattle.meaning.specs.Numbering.{shown}
-use Rattle.meaning.specs.Step.{saysAt}
+use Rattle.meaning.specs.Step.{saysAt, Shown}
 use Rattle.meaning.specs.Tables.{wellFormed}
 use Rattle.meaning.specs.Outcome.{kRight, capacity, factOf, Decision, taken, refused, decideStart, decideEvent, startOutcome, Machine, machineOf, shows, verdictOf, settleEvent, eventOutcome, runs, answers, takenOf, withTaken, log}
 use Rattle.meaning.specs.Refusals.{StartSentence, Sentence, First}
@@ -23,9 +25,9 @@ use Rattle.meaning.proofs.RowsLaws.{checked, free-beyond}
 use Rattle.meaning.proofs.VerdictLaws.{sentence}
 use Rattle.meaning.proofs.ShownLaws.{shown-shows}
 use Rattle.meaning.proofs.RefusalLaws.{exact, judged-start, judged-event, event-room}
-use Rattle.meaning.proofs.RunLaws.{Running, shows-is, runs-all}
+use Rattle.meaning.proofs.RunLaws.{Laid, Running, shows-is, runs-all}
 use Rattle.meaning.proofs.AnswerLaws.{Answered, answered}
-use Rattle.meaning.proofs.AnyState.{Arrays, OneStep, any-step, any-formed}
+use Rattle.meaning.proofs.AnyState.{Arrays, OneStep, any-step, any-formed, one-layout}
 use Rattle.meaning.proofs.StartLaws.{b, m₀, start-running, start-laid}
 use Rattle.meaning.proofs.RenameLaws.{EveryFact, every-front, every-back}
 use Rattle.meaning.proofs.DisguiseLaws.{Twins, twins-answers, twins-runs, answer-same}
@@ -87,6 +89,16 @@ any-state rows m e a d = any-step rows m e a d
 pub any-state-formed : (rows : List ℕ) (m : Machine) (e : Event) → Arrays m → decideEvent rows m e ≡ taken
     → (let n = eventOutcome rows m e .left in wellFormed (n .state .k) (capacity (n .nodes)) (ruleOf rows) (n .state) (n .nodes) (n .values) ≡ true)
 any-state-formed rows m e a d = any-formed rows m e a d
+
+-- One outcome. "The room is the number of ..": there is one such number ..
+pub one-room : (levels : ℕ) (fs : List Function) (n m : ℕ) → Room levels fs n → Room levels fs m → n ≡ m
+one-room levels fs n m x y = room-one levels fs n m x y
+
+-- .. and the state and the slices are determined by the lists and functions that they show.
+pub one-outcome : (rows : List ℕ) (k C : ℕ) (kr : kRight k ≡ true) (cr : checkRows rows ≡ right) (m n : Machine) (s t : Shown)
+    → Laid rows k C kr cr m s → Laid rows k C kr cr n t → s .lists ≡ t .lists → ((i : ℕ) → i < length (ruleOf rows) → Same (saysAt (s .trees) i) (saysAt (t .trees) i))
+    → (m .state ≡ n .state) × (m .nodes ≡ n .nodes) × (m .values ≡ n .values)
+one-outcome rows k C kr cr m n s t a b l f = one-layout rows k C kr cr m n s t a b l f
 
 -- Demand 3. "Disguised logs: rename values one to one, each constant of the rule to itself and nothing else to a constant. From a fresh start,
 -- with the same rule and table sizes ..":

@@ -21,5 +21,5 @@ pub mod RenameLaws
 pub mod DisguiseLaws
 pub mod HidingLaws
 pub mod HiddenRuns
-pub mod Cases
 pub mod Demands
+pub mod Cases

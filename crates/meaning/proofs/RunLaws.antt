@@ -134,12 +134,16 @@ module _ (rows : List ℕ) (k C : ℕ) (kr : kRight k ≡ true) (cr : checkRows 
           less : v < firstBelow 4 f
           less = let t = ltb-false (firstBelow 4 f) 4 (tests d .0) in omega arith
 
+      -- the nodes of the step that the machine shows
+      stepped-nodes : layNodes (capacity (m .nodes)) (step (m .state .k) (ruleOf rows) (shows rows m) (factOf e)) ≡ layNodes C (step k (ruleOf rows) s (factOf e))
+      stepped-nodes = rw (shows-is, C-is, k-is)
+
       -- a taken event leaves the layout of the step
       pub laid-on : decideEvent rows m e ≡ taken → Laid (eventOutcome rows m e .left) (step k (ruleOf rows) s (factOf e))
       unfolding eventOutcome settleEvent
       laid-on d = rw d (record {
         state-is = rw (shows-is, k-is);
-        nodes-are = rw (shows-is, C-is, k-is);
+        nodes-are = stepped-nodes;
         values-are = rw (shows-is, k-is);
         proper = step-proper k C (ruleOf rows) s (factOf e) positive (checked rows cr .rows) (l .proper) (enough d) (leb-true _ C (tests d .1));
       })
