@@ -1,0 +1,141 @@
+// When a row is right: its fields by the table, its pairs, and its count beside those of earlier atoms.
+use super::field_of;
+ghost use mathlib.Core.Path.{_≡_};
+ghost use mathlib.Core.Bool.{not};
+ghost use Prim.Native.Nat.{_+_, _*_, _<_, _≤_};
+ghost use lib.Dec.{ltb};
+ghost use lib.ListN.{length};
+ghost use Rattle.trees.specs.Kept.{allBelow};
+ghost use Rattle.meaning.specs.Rows.{field, useOf, fieldRight, pairRight, rowRight, disagree};
+ghost use Rattle.rule.specs.Table.{useCoded};
+ghost use Rattle.rule.specs.Checking.{pairsRight, agreesBefore, otherCount};
+
+// Which fields a kind uses: p and q of the kinds 1 to 7. 0 is not used, 1 a predicate, 2 a row, 3 a variable, 4 a count.
+pub const USES: [[u8; 2]; 7] = [[0, 0], [1, 4], [2, 2], [2, 0], [2, 2], [2, 0], [3, 2]];
+
+// How the kind uses the field: 0 is p, 1 is q.
+fn use_of(kind: u32, f: usize) -> u8
+    requires { ⌜ (0 < kind) × (kind ≤ 7) × (f < 2) ⌝ }
+    ensures { λ r. ⌜ useCoded r ≡ useOf kind f ⌝ }
+{
+    let k = (kind - 1) as usize;
+    USES[k][f]
+}
+
+// The number `x` is right in a field of the row at place `i` that is used so.
+fn field_right(i: usize, code: u8, x: u32) -> bool
+    ensures { λ r. ⌜ r ≡ fieldRight i (useCoded code) x ⌝ }
+{
+    match code {
+        0 => x == 0,
+        1 => true,
+        2 => (x as usize) < i,
+        3 => x < 4,
+        _ => x <= 3,
+    }
+}
+
+// A pair is an argument where it is used, and 0 where it is not.
+fn pair_right(used: bool, mark: u32, x: u32) -> bool
+    ensures { λ r. ⌜ r ≡ pairRight used mark x ⌝ }
+{
+    if !used {
+        if mark != 0 {
+            return false;
+        }
+        return x == 0;
+    }
+    if mark == 0 {
+        return x < 4;
+    }
+    mark == 1
+}
+
+// The three pairs of the row at place `i`, of which the first `used` are used.
+fn pairs_right(rows: &[u32], i: usize, used: u32) -> bool
+    requires { ⌜ 9 * i + 9 ≤ length (now rows) ⌝ }
+    ensures { λ r. ⌜ r ≡ pairsRight (now (rows .entry)) i used ⌝ }
+{
+    if !pair_right(0 < used, field_of(rows, i, 3), field_of(rows, i, 4)) {
+        return false;
+    }
+    if !pair_right(1 < used, field_of(rows, i, 5), field_of(rows, i, 6)) {
+        return false;
+    }
+    pair_right(2 < used, field_of(rows, i, 7), field_of(rows, i, 8))
+}
+
+// The row at place `i` keeps the row rules.
+pub fn row_right(rows: &[u32], i: usize) -> bool
+    requires { ⌜ 9 * i + 9 ≤ length (now rows) ⌝ }
+    ensures { λ r. ⌜ r ≡ rowRight (now (rows .entry)) i ⌝ }
+{
+    let kind = field_of(rows, i, 0);
+    if kind == 0 {
+        return false;
+    }
+    if 7 < kind {
+        return false;
+    }
+    let q = field_of(rows, i, 2);
+    if !field_right(i, use_of(kind, 0), field_of(rows, i, 1)) {
+        return false;
+    }
+    if !field_right(i, use_of(kind, 1), q) {
+        return false;
+    }
+    if kind == 2 {
+        return pairs_right(rows, i, q);
+    }
+    pairs_right(rows, i, 0)
+}
+
+// The rows at places `i` and `j` are atoms of one predicate, with different counts.
+fn differ(rows: &[u32], i: usize, j: usize) -> bool
+    requires { ⌜ (9 * i + 9 ≤ length (now rows)) × (9 * j + 9 ≤ length (now rows)) ⌝ }
+    ensures { λ r. ⌜ r ≡ disagree (now (rows .entry)) i j ⌝ }
+{
+    if field_of(rows, i, 0) != 2 {
+        return false;
+    }
+    if field_of(rows, j, 0) != 2 {
+        return false;
+    }
+    if field_of(rows, i, 1) != field_of(rows, j, 1) {
+        return false;
+    }
+    field_of(rows, i, 2) != field_of(rows, j, 2)
+}
+
+// The row at place `i` disagrees with no earlier row, from the row just before it back to the first.
+pub fn counts_agree(rows: &[u32], i: usize) -> bool
+    requires { ⌜ 9 * i + 9 ≤ length (now rows) ⌝ }
+    ensures { λ r. ⌜ r ≡ agreesBefore (now (rows .entry)) i ⌝ }
+{
+    let mut back: usize = 1;
+    while back <= i {
+        if differ(rows, i, i - back) {
+            return false;
+        }
+        back += 1;
+    }
+    true
+}
+
+// The row at place `i` is an atom of this predicate with another count. A count over 3 reads as 3 arguments.
+pub fn other_count(rows: &[u32], i: usize, predicate: u32, count: u32) -> bool
+    requires { ⌜ 9 * i + 9 ≤ length (now rows) ⌝ }
+    ensures { λ r. ⌜ r ≡ otherCount (now (rows .entry)) i predicate count ⌝ }
+{
+    if field_of(rows, i, 0) != 2 {
+        return false;
+    }
+    if predicate != field_of(rows, i, 1) {
+        return false;
+    }
+    let q = field_of(rows, i, 2);
+    if 3 < q {
+        return 3 != count;
+    }
+    q != count
+}
