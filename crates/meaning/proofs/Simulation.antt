@@ -115,7 +115,7 @@ repeats-of a v x (variable w ∷ gs) (y ∷ ys) p h = rw (repeats-of a v x gs ys
     go false q = refl
 repeats-of a v x (constant c ∷ gs) (y ∷ ys) p h = repeats-of a v x gs ys p (h .1)
 
-fits-of : (a : Assignment) (gs : List Argument) (ys : List ℕ) → Matches a gs ys → fits gs ys ≡ true
+pub fits-of : (a : Assignment) (gs : List Argument) (ys : List ℕ) → Matches a gs ys → fits gs ys ≡ true
 unfolding fits
 fits-of a [] [] h = refl
 fits-of a [] (y ∷ ys) h = absurd h
@@ -125,7 +125,7 @@ fits-of a (constant c ∷ gs) (y ∷ ys) h = rw (h .0, eqb-same y, fits-of a gs 
 
 module _ (k : ℕ) (L : Lists) (d : DistinctL L) (s : Bits) (a : Assignment) (h : Shows k L s a) where
   -- what the arguments' function says is true of the assignment
-  says-matches : (gs : List Argument) (ys : List ℕ) → ArgumentsOk gs → argumentsSay k L gs ys s ≡ true → Matches a gs ys
+  pub says-matches : (gs : List Argument) (ys : List ℕ) → ArgumentsOk gs → argumentsSay k L gs ys s ≡ true → Matches a gs ys
   unfolding argumentsSay listed
   says-matches [] [] o e = tt
   says-matches [] (y ∷ ys) o e = false-true refl e
