@@ -80,6 +80,38 @@ one-step k C rule s e o p = record {
 abbrev pub Arrays : Machine → Type 0
 Arrays m = (length (m .state .counts) ≡ 4) × (length (m .state .refs) ≡ 64)
 
+-- a state that passes the tests of 1 to 4
+module _ (rows : List ℕ) (m : Machine) (arrays : Arrays m) (kr : kRight (m .state .k) ≡ true) (cr : checkRows rows ≡ right)
+    (lengths : (nodesRight (m .nodes) && (valuesRight (m .state .k) (m .values) && leb (workSize (capacity (m .nodes))) (length (m .work)))) ≡ true)
+    (formed : wellFormed (m .state .k) (capacity (m .nodes)) (ruleOf rows) (m .state) (m .nodes) (m .values) ≡ true) where
+  shaped : Shaped (m .state .k) (capacity (m .nodes)) (m .state) (m .nodes) (m .values)
+  unfolding nodesRight valuesRight capacity
+  shaped =
+      let nr : Bool = eqb (length (m .nodes) % 3) 0 && (ltb 0 (length (m .nodes) / 3) && leb (length (m .nodes) / 3) 4096) in
+      let vr : Bool = eqb (length (m .values)) (4 * most (m .state .k)) in
+      let wr : Bool = leb (workSize (length (m .nodes) / 3)) (length (m .work)) in
+      let a : length (m .nodes) % 3 ≡ 0 = eqb-true (length (m .nodes) % 3) 0 (and-true-l (eqb (length (m .nodes) % 3) 0) (ltb 0 (length (m .nodes) / 3) && leb (length (m .nodes) / 3) 4096) (and-true-l nr (vr && wr) lengths)) in
+      record {
+        counts = arrays .0;
+        refs = arrays .1;
+        nodes-are = omega arith;
+        values-are = eqb-true (length (m .values)) (4 * most (m .state .k)) (and-true-l vr wr (and-true-r nr (vr && wr) lengths));
+      }
+
+  -- the state and the tables are the layout of what they show
+  pub laid-formed : Laid rows (m .state .k) (capacity (m .nodes)) kr cr m (shows rows m)
+  unfolding shows read
+  laid-formed =
+      let pos = positive rows (m .state .k) (capacity (m .nodes)) kr cr in
+      let lt = few rows (m .state .k) (capacity (m .nodes)) kr cr in
+      let ok = checked rows cr .rows in
+      record {
+        state-is = sym (lay-state (m .state .k) (capacity (m .nodes)) (ruleOf rows) (m .state) (m .nodes) (m .values) pos lt ok shaped formed refl);
+        nodes-are = sym (lay-nodes (m .state .k) (capacity (m .nodes)) (ruleOf rows) (m .state) (m .nodes) (m .values) pos lt ok shaped formed);
+        values-are = sym (lay-values (m .state .k) (capacity (m .nodes)) (ruleOf rows) (m .state) (m .nodes) (m .values) pos lt ok shaped formed);
+        proper = proper-read (m .state .k) (capacity (m .nodes)) (ruleOf rows) (m .state) (m .nodes) (m .values) pos lt ok shaped formed;
+      }
+
 module _ (rows : List ℕ) (m : Machine) (e : Event) (arrays : Arrays m) (d : decideEvent rows m e ≡ taken) where
   -- the tests that were passed
   pub passed : (kRight (m .state .k) ≡ true) × (checkRows rows ≡ right)
@@ -88,34 +120,8 @@ module _ (rows : List ℕ) (m : Machine) (e : Event) (arrays : Arrays m) (d : de
   unfolding decideEvent
   passed = let t = event-taken _ _ _ _ _ _ d in let u = start-taken _ _ _ (t .0) in (u .0, u .1, u .2, t .1)
 
-  shaped : Shaped (m .state .k) (capacity (m .nodes)) (m .state) (m .nodes) (m .values)
-  unfolding nodesRight valuesRight capacity
-  shaped =
-      let all = passed .2 in
-      let nr : Bool = eqb (length (m .nodes) % 3) 0 && (ltb 0 (length (m .nodes) / 3) && leb (length (m .nodes) / 3) 4096) in
-      let vr : Bool = eqb (length (m .values)) (4 * most (m .state .k)) in
-      let wr : Bool = leb (workSize (length (m .nodes) / 3)) (length (m .work)) in
-      let a : length (m .nodes) % 3 ≡ 0 = eqb-true (length (m .nodes) % 3) 0 (and-true-l (eqb (length (m .nodes) % 3) 0) (ltb 0 (length (m .nodes) / 3) && leb (length (m .nodes) / 3) 4096) (and-true-l nr (vr && wr) all)) in
-      record {
-        counts = arrays .0;
-        refs = arrays .1;
-        nodes-are = omega arith;
-        values-are = eqb-true (length (m .values)) (4 * most (m .state .k)) (and-true-l vr wr (and-true-r nr (vr && wr) all));
-      }
-
-  -- the state and the tables are the layout of what they show
   pub laid-of : Laid rows (m .state .k) (capacity (m .nodes)) (passed .0) (passed .1) m (shows rows m)
-  unfolding shows read
-  laid-of =
-      let pos = positive rows (m .state .k) (capacity (m .nodes)) (passed .0) (passed .1) in
-      let lt = few rows (m .state .k) (capacity (m .nodes)) (passed .0) (passed .1) in
-      let ok = checked rows (passed .1) .rows in
-      record {
-        state-is = sym (lay-state (m .state .k) (capacity (m .nodes)) (ruleOf rows) (m .state) (m .nodes) (m .values) pos lt ok shaped (passed .3) refl);
-        nodes-are = sym (lay-nodes (m .state .k) (capacity (m .nodes)) (ruleOf rows) (m .state) (m .nodes) (m .values) pos lt ok shaped (passed .3));
-        values-are = sym (lay-values (m .state .k) (capacity (m .nodes)) (ruleOf rows) (m .state) (m .nodes) (m .values) pos lt ok shaped (passed .3));
-        proper = proper-read (m .state .k) (capacity (m .nodes)) (ruleOf rows) (m .state) (m .nodes) (m .values) pos lt ok shaped (passed .3);
-      }
+  laid-of = laid-formed rows m arrays (passed .0) (passed .1) (passed .2) (passed .3)
 
   left-laid : Laid rows (m .state .k) (capacity (m .nodes)) (passed .0) (passed .1) (eventOutcome rows m e .left) (step (m .state .k) (ruleOf rows) (shows rows m) (factOf e))
   left-laid = laid-on rows (m .state .k) (capacity (m .nodes)) (passed .0) (passed .1) m (shows rows m) laid-of e d
