@@ -1,0 +1,11 @@
+-- What follows from the definitions of specs/, for the proofs of the functions.
+pub mod MatchingLaws
+pub mod PlaceLaws
+pub mod SettledLaws
+pub mod TallyLaws
+pub mod WalkLaws
+pub mod StartLaws
+pub mod WritingLaws
+pub mod ChainsLaws
+pub mod ListsLaws
+pub mod AskedLaws

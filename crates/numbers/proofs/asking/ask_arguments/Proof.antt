@@ -1,0 +1,66 @@
+-- `ask_arguments` meets its contract. The loop's invariant: the first j arguments have asked. The measure is the count of arguments left.
+-- Assumes nothing.
+use native.Mathlib.Omega.{arith}
+use Prim.Native.Nat.{_≤_, _-_}
+use lib.ListN.{take}
+use Rattle.meaning.specs.Numbering.{askArguments}
+use Rattle.meaning.specs.Outcome.{factOf}
+use Rattle.numbers.specs.Matching.{argumentsOf}
+use Rattle.numbers.specs.Asking.{Carried}
+use Rattle.numbers.proofs.WalkLaws.{arguments-none, arguments-more, arguments-all}
+use borrow.Author.Needs.{needs}
+use Rattle.numbers.proofs.asking.ask_arguments.Statement.{statement}
+use Rattle.numbers.proofs.asking.ask_arguments.Tie as tie
+
+abbrev Inv-loop : tie.InvT-loop
+Inv-loop before rows i event n a₀ j₀ a j = (j ≤ event .count)
+    × Carried before (factOf event .values) (λ M. askArguments M (take j (argumentsOf rows i (event .count))) (take j (factOf event .values))) a₀ a
+
+abbrev μ-loop : tie.MeasureT-loop
+μ-loop before rows i event n a₀ j₀ a j = event .count - j
+
+cast-n : tie.Need-cast-n Inv-loop μ-loop
+cast-n c = search needs
+
+loop-holds : tie.Need-loop-holds Inv-loop μ-loop
+loop-holds c =
+    let s = c .before .before in
+    let a = s .args in
+    (omega arith, arguments-none (a .before) (factOf (a .event) .values) (argumentsOf (a .rows .now) (a .i) (a .event .count)) (a .asked) (s .pre .0))
+
+ask-argument-requires : tie.Need-ask-argument-requires Inv-loop μ-loop
+ask-argument-requires c κs = let s = c .before .before .before .before in (c .before .loop .inv .1 .steady, s .pre .1, omega arith)
+
+add-j : tie.Need-add-j Inv-loop μ-loop
+add-j c = search needs
+
+loop-less : tie.Need-loop-less Inv-loop μ-loop
+loop-less c = search needs
+
+loop-again : tie.Need-loop-again Inv-loop μ-loop
+loop-again c =
+    let s = c .before .before .before .before .before in
+    let a = s .args in
+    let l = c .before .before .loop in
+    (omega arith, arguments-more (a .before) (a .rows .now) (a .i) (a .event) (s .pre .1 .readable) (l .j) (a .asked) (l .a) (c .ask-argument .result) (omega arith) (l .inv .1) (c .ask-argument .ensures))
+
+returns : tie.Need-returns Inv-loop μ-loop
+returns c =
+    let s = c .before .before .before .before in
+    let a = s .args in
+    let l = c .before .loop in
+    arguments-all (a .before) (a .rows .now) (a .i) (a .event) (s .pre .1 .readable) (l .j) (a .asked) (l .a) (omega arith) (l .inv .1)
+
+pub ask-arguments-spec : {M : Type 1} → statement M
+ask-arguments-spec =
+    tie.close
+    (tie.spec
+    Inv-loop
+    μ-loop
+    cast-n
+    loop-holds
+    ask-argument-requires
+    add-j
+    loop-less
+    loop-again
+    returns)

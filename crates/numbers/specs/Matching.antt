@@ -1,0 +1,49 @@
+-- When a row is an atom that matches an event, and the parts of that. Assumes nothing: these are definitions.
+use Prim.Native.Nat.{ℕ, suc, _/_, _≤_, _<_}
+use mathlib.Core.Path.{_≡_}
+use mathlib.Core.Bool.{Bool, true, false, not, _&&_, _||_}
+use mathlib.Core.List.{List, [], _∷_}
+use lib.Dec.{eqb}
+use lib.ListN.{length, getD, take, drop}
+use Rattle.meaning.specs.declared.Event.{Event}
+use Rattle.meaning.specs.Qtl.{Argument, variable, constant, Fact}
+use Rattle.meaning.specs.Rows.{Row, truth, atom, both, neg, since, previous, exists, argumentAt}
+use Rattle.meaning.specs.Numbering.{repeats, fits}
+
+-- "Each atom that matches the event (predicate, constants, and equal values where a variable repeats)"
+unfoldable pub matchesRow : Fact → Row → Bool
+matchesRow e truth = false
+matchesRow e (atom p gs) = eqb (e .predicate) p && fits gs (e .values)
+matchesRow e (both l r) = false
+matchesRow e (neg r) = false
+matchesRow e (since l r) = false
+matchesRow e (previous r) = false
+matchesRow e (exists x r) = false
+
+-- the first n arguments of the row at place i
+unfoldable pub argumentsOf : List ℕ → ℕ → ℕ → List Argument
+argumentsOf raw i n = take n (argumentAt raw i 0 ∷ argumentAt raw i 1 ∷ argumentAt raw i 2 ∷ [])
+
+-- where the argument is the variable v, the value z is y
+unfoldable pub sameAt : ℕ → ℕ → Argument → ℕ → Bool
+sameAt v y (variable w) z = not (eqb v w) || eqb y z
+sameAt v y (constant c) z = true
+
+-- the argument fits the value y, with the later arguments and values behind it
+unfoldable pub fitsFirst : Argument → ℕ → List Argument → List ℕ → Bool
+fitsFirst (variable v) y gs ys = repeats v y gs ys
+fitsFirst (constant c) y gs ys = eqb c y
+
+-- the argument at place j fits
+unfoldable pub fitsAt : List Argument → List ℕ → ℕ → Bool
+fitsAt gs ys j = fitsFirst (getD gs j (constant 0)) (getD ys j 0) (drop (suc j) gs) (drop (suc j) ys)
+
+-- an event has an array of three values, of which at most three count
+pub record Sized (e : Event) : Type 0 where
+  pub few : e .count ≤ 3
+  pub three : length (e .values) ≡ 3
+
+-- the row at place i is one of the slice's, and the event is sized
+pub record Readable (raw : List ℕ) (i : ℕ) (e : Event) : Type 0 where
+  pub inside : i < length raw / 9
+  pub sized : Sized e
