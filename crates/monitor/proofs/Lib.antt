@@ -1,0 +1,4 @@
+-- What follows from the definitions. The proofs of the functions stand beside these files.
+pub mod TablesLaws
+pub mod StartLaws
+pub mod OneOutcome

@@ -1,0 +1,13 @@
+-- Two outcomes that keep the promise of a public function are the same. Assumes nothing.
+use Prim.Native.Nat.{ℕ}
+use mathlib.Core.Path.{_≡_, sym, _∙_}
+use mathlib.Core.List.{List}
+use Rattle.meaning.specs.declared.Turn.{Turn}
+use Rattle.monitor.specs.Calls.{Starts}
+
+-- `start`: the turn and both slices
+pub one-start : (k : ℕ) (rows nodes values : List ℕ) (t u : Turn) (ns vs ms ws : List ℕ) → Starts k rows nodes values t ns vs → Starts k rows nodes values u ms ws → (t ≡ u) × (ns ≡ ms) × (vs ≡ ws)
+one-start k rows nodes values t u ns vs ms ws a b =
+    let p : t .state ≡ u .state = a .state ∙ sym (b .state) in
+    let q : t .answer ≡ u .answer = a .answer ∙ sym (b .answer) in
+    (λ i. record { state = p i; answer = q i }, a .nodes-are ∙ sym (b .nodes-are), a .values-are ∙ sym (b .values-are))

@@ -1,0 +1,22 @@
+-- What the calls of the monitor promise, for all input. Assumes nothing: these are definitions.
+use Prim.Native.Nat.{ℕ}
+use mathlib.Core.Path.{_≡_}
+use mathlib.Core.List.{List}
+use Rattle.meaning.specs.declared.Turn.{Turn}
+use Rattle.meaning.specs.declared.Answer.the-variants.{Started, Refused}
+use Rattle.meaning.specs.Outcome.{stateOf, startOutcome}
+
+-- the turn of a refused start: "A refused start returns an all-zero state"
+unfoldable pub refusedTurn : ℕ → ℕ → Turn
+refusedTurn number place = record { state = stateOf 0 0; answer = Refused number place }
+
+-- the turn of a start that is taken
+unfoldable pub startedTurn : ℕ → ℕ → Turn
+startedTurn k n = record { state = stateOf k n; answer = Started }
+
+-- a start that gave this back and left these slices had the outcome of the definitions
+pub record Starts (k : ℕ) (rows nodes values : List ℕ) (t : Turn) (nodes′ values′ : List ℕ) : Type 0 where
+  pub answer : t .answer ≡ startOutcome k rows nodes values .answer
+  pub state : t .state ≡ startOutcome k rows nodes values .state
+  pub nodes-are : nodes′ ≡ startOutcome k rows nodes values .nodes
+  pub values-are : values′ ≡ startOutcome k rows nodes values .values

@@ -1,0 +1,3 @@
+-- What the calls of the monitor promise.
+pub mod Decisions
+pub mod Calls

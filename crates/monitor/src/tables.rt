@@ -1,0 +1,48 @@
+// The lent tables: when their lengths are right, and how they are cleared.
+ghost use mathlib.Core.Path.{_≡_};
+ghost use mathlib.Core.Bool.{_&&_};
+ghost use Prim.Native.Nat.{_≤_};
+ghost use lib.ListN.{length, replicate};
+ghost use Rattle.meaning.specs.Tables;
+ghost use Rattle.meaning.specs.Outcome.{nodesRight, valuesRight};
+
+// 2^k − 1 for each k from 0 to 10.
+const MOST: [u32; 11] = [0, 1, 3, 7, 15, 31, 63, 127, 255, 511, 1023];
+
+// The most values of a variable that have numbers.
+fn most(k: u32) -> u32
+    requires { ⌜ k ≤ 10 ⌝ }
+    ensures { λ r. ⌜ r ≡ Tables.most k ⌝ }
+{
+    let i = k as usize;
+    MOST[i]
+}
+
+// The node slice has 3 × C numbers, C from 1 to 4096, and the value slice 4 × (2^k − 1).
+pub fn lengths_right(k: u32, nodes: &[u32], values: &[u32]) -> bool
+    requires { ⌜ k ≤ 10 ⌝ }
+    ensures { λ r. ⌜ r ≡ (nodesRight (now (nodes .entry)) && valuesRight k (now (values .entry))) ⌝ }
+{
+    if nodes.len() % 3 != 0 {
+        return false;
+    }
+    let c = nodes.len() / 3;
+    if c == 0 {
+        return false;
+    }
+    if 4096 < c {
+        return false;
+    }
+    values.len() == (4 * most(k)) as usize
+}
+
+// Every number of the slice becomes 0.
+pub fn zero(xs: &mut [u32])
+    ensures { λ _. ⌜ now (xs .exit) ≡ replicate (length (now (xs .entry))) 0 ⌝ }
+{
+    let mut i: usize = 0;
+    while i < xs.len() {
+        xs[i] = 0;
+        i += 1;
+    }
+}
