@@ -1,0 +1,84 @@
+-- The work slice: zeros before the work, and zeros after it. Assumes nothing.
+use Prim.Native.Nat.{ℕ, _+_, _*_, _-_, _≤_, _<_}
+use mathlib.Core.Path.{_≡_, sym, ap, _∙_}
+use mathlib.Core.List.{List, _++_}
+use mathlib.Core.Logic.{⊎-elim}
+use native.Mathlib.Omega.{arith}
+use lib.ListN.{length, getD, take, drop, replicate, length-append, length-drop, length-replicate, List·getD-append, List·getD-eq-default}
+use lib.Seq.{ext-getD, getD-append-add, getD-drop, getD-take}
+use borrow.Rule.Slice.PartMut.{mid-len}
+use Rattle.trees.proofs.Tests.{lt-or-ge}
+use Rattle.trees.proofs.CanonicalLaws.{zeros-at}
+use Rattle.diagram.specs.Nodes.{Table, Rest}
+use Rattle.diagram.specs.Sweeps.{Zeroed}
+use Rattle.diagram.specs.Steps.{cleared}
+use Rattle.diagram.specs.Works.{part, Desk}
+use Rattle.diagram.proofs.CallLaws.{memory-none, map-none}
+
+-- a part of zeros
+part-zero : (a e : ℕ) (w : List ℕ) → e ≤ length w → ((i : ℕ) → a ≤ i → i < e → getD w i 0 ≡ 0) → (i : ℕ) → getD (part a e w) i 0 ≡ 0
+part-zero a e w fits z i = ⊎-elim
+    (λ h. getD-take (e - a) (drop a w) i 0 h ∙ getD-drop a w i 0 ∙ z (a + i) (omega arith) (omega arith))
+    (λ h. List·getD-eq-default (part a e w) 0 (omega (arith, mid-len a e w fits)))
+    (lt-or-ge i (e - a))
+
+-- a table, and the map and the memory zeroed
+pub desk-zeroed : (ns : List ℕ) (n levels : ℕ) (w w₁ : List ℕ) (c : ℕ) → Table ns n → length ns ≡ 3 * c → 1 ≤ c → 13 * c ≤ length w₁ → Zeroed (4 * c) (13 * c) w w₁
+    → Desk ns n levels w₁ c
+desk-zeroed ns n levels w w₁ c t size some long z = record {
+  table = t;
+  size = size;
+  some = some;
+  long = long;
+  complements = map-none ns _ n levels (omega (arith, mid-len (4 * c) (5 * c) w₁ (omega arith))) (part-zero (4 * c) (5 * c) w₁ (omega arith) (λ i h k. z .zero i h (omega arith)));
+  memory = memory-none ns _ n levels (omega (arith, mid-len (5 * c) (13 * c) w₁ (omega arith))) (part-zero (5 * c) (13 * c) w₁ (omega arith) (λ i h k. z .zero i (omega arith) k));
+}
+
+-- the work slice at the end
+module _ (C : ℕ) (w : List ℕ) (long : 16 * C + 1024 ≤ length w) where
+  -- its numbers, one by one
+  cleared-length : length (cleared C w) ≡ length w
+  unfolding cleared
+  cleared-length = length-append (replicate (16 * C + 1024) 0) (drop (16 * C + 1024) w) ∙ rw (length-replicate, length-drop) (omega arith)
+
+  cleared-front : (i : ℕ) → i < 16 * C + 1024 → getD (cleared C w) i 0 ≡ 0
+  unfolding cleared
+  cleared-front i h = List·getD-append (replicate (16 * C + 1024) 0) (drop (16 * C + 1024) w) 0 i (rw length-replicate h) ∙ zeros-at (16 * C + 1024) i
+
+  cleared-rest : (i : ℕ) → 16 * C + 1024 ≤ i → getD (cleared C w) i 0 ≡ getD w i 0
+  unfolding cleared
+  cleared-rest i h =
+      let zs : List ℕ = replicate (16 * C + 1024) 0 in
+      let e : 16 * C + 1024 + (i - (16 * C + 1024)) ≡ i = omega arith in
+      let f : length zs + (i - (16 * C + 1024)) ≡ i = rw length-replicate e in
+      ap (λ (x : ℕ). getD (zs ++ drop (16 * C + 1024) w) x 0) (sym f)
+      ∙ getD-append-add zs (drop (16 * C + 1024) w) (i - (16 * C + 1024)) 0
+      ∙ getD-drop (16 * C + 1024) w (i - (16 * C + 1024)) 0
+      ∙ ap (λ (x : ℕ). getD w x 0) e
+
+  -- zeroed at the end, and before that changed only in front
+  pub cleared-is : {w₁ w₂ : List ℕ} → Rest (16 * C + 1024) w w₁ → length w₁ ≡ length w → Zeroed 0 (16 * C + 1024) w₁ w₂ → w₂ ≡ cleared C w
+  cleared-is {w₁} {w₂} r e z =
+      ext-getD 0 w₂ (cleared C w) (z .size ∙ e ∙ sym cleared-length)
+      (λ i h. ⊎-elim
+      (λ k. z .zero i (omega arith) k ∙ sym (cleared-front i k))
+      (λ k. z .rest .eq i k ∙ r .eq i k ∙ sym (cleared-rest i k))
+      (lt-or-ge i (16 * C + 1024)))
+
+-- what is the same from j on is the same from k on
+pub rest-more : {j k : ℕ} {xs ys : List ℕ} → Rest j xs ys → j ≤ k → Rest k xs ys
+rest-more r h = record { eq = λ i l. r .eq i (omega arith) }
+
+-- what three calls leave behind
+pub rest-three : {a b d : ℕ} {xs ys zs us : List ℕ} (k : ℕ) → Rest a xs ys → Rest b ys zs → Rest d zs us → a ≤ k → b ≤ k → d ≤ k → Rest k xs us
+rest-three k p q r ha hb hd = record { eq = λ i l. r .eq i (omega arith) ∙ q .eq i (omega arith) ∙ p .eq i (omega arith) }
+
+-- changed only in front, it ends the same
+pub cleared-same : (C : ℕ) (w w₁ : List ℕ) → 16 * C + 1024 ≤ length w → Rest (16 * C + 1024) w w₁ → length w₁ ≡ length w → cleared C w₁ ≡ cleared C w
+cleared-same C w w₁ long r e =
+    cleared-is C w long r e (record {
+      size = cleared-length C w₁ (omega arith);
+      zero = λ i h k. cleared-front C w₁ (omega arith) i k;
+      same = record { eq = λ i h. absurd (omega arith) };
+      rest = record { eq = λ i h. cleared-rest C w₁ (omega arith) i h };
+    })

@@ -1,0 +1,141 @@
+-- What well kept diagrams give the work, and what the work leaves. Assumes nothing.
+use Prim.Native.Nat.{ℕ, _+_, _*_, _-_, _/_, _≤_, _<_}
+use mathlib.Core.Path.{_≡_, refl, sym, ap, ap₂, _∙_}
+use mathlib.Core.Bool.{Bool, true, false}
+use mathlib.Core.List.{List, [], _++_, map}
+use mathlib.Core.Logic.{⊎-elim}
+use native.Mathlib.Omega.{arith}
+use lib.Dec.{leb}
+use lib.ListN.{length, getD, take, replicate, length-append, length-map, length-replicate, List·getD-append, List·getD-map}
+use lib.Seq.{ext-getD, getD-take, length-take-le}
+use borrow.Author.Tests.{le-leb, lt-leb}
+use Rattle.trees.specs.Tree.{Tree, off, treeOf}
+use Rattle.trees.specs.Table.{addTrees, at, refOf, treesOf}
+use Rattle.trees.specs.Kept.{diagrams, WellKept}
+use Rattle.trees.proofs.Tests.{lt-or-ge}
+use Rattle.trees.proofs.ReadLaws.{length-trees}
+use Rattle.trees.proofs.CanonicalLaws.{zeros-past}
+use Rattle.diagram.specs.declared.Instruction.{Instruction}
+use Rattle.diagram.specs.declared.Stepped.{Stepped}
+use Rattle.diagram.specs.declared.Told.the-variants.{Full, Done}
+use Rattle.diagram.specs.Nodes.{Table, Front, Rest}
+use Rattle.diagram.specs.Walks.{Within}
+use Rattle.diagram.specs.Sweeps.{Zeroed, Rows, canonical, References, Renewal}
+use Rattle.diagram.specs.Checks.{freeBy, Right}
+use Rattle.diagram.specs.Steps.{newTrees, stages, workTable, cleared, layout, workOutcome, Leaves}
+use Rattle.diagram.specs.Works.{Fits, Leads, Ready, Short, Through}
+use Rattle.diagram.proofs.CallLaws.{within-all}
+use Rattle.diagram.proofs.RemovalLaws.{within-fine}
+use Rattle.diagram.proofs.RowLaws.{within-no}
+use Rattle.diagram.proofs.PlanLaws.{length-new}
+use Rattle.diagram.proofs.SoundLaws.{sound-table, sound-rows}
+use Rattle.diagram.proofs.VerdictLaws.{kept-right}
+use Rattle.diagram.proofs.ClearLaws.{cleared-is, cleared-same}
+
+-- well kept diagrams are ready for the work
+pub ready : (k : ℕ) (allowed : List ℕ) (C count : ℕ) (refs : List ℕ) (kept : ℕ) (ns : List ℕ) → 1 ≤ k → count ≤ 64 → length refs ≡ 64 → length ns ≡ 3 * C → C ≤ 4096
+    → WellKept (freeBy k allowed) C count refs kept ns → Ready k count refs kept ns
+ready k allowed C count refs kept ns pos few wide size small w =
+    record { table = sound-table ns kept (4 * k) right (w .apart) (omega arith) (omega (arith, w .fits)); leads = record { each = leads }; none = w .none; rest = w .rest }
+  where
+    right : Right ns kept (4 * k)
+    right = kept-right k allowed C count refs kept ns pos (omega arith) w
+
+    rows : Rows ns kept (4 * k) refs count
+    rows = sound-rows ns kept (4 * k) right (w .apart) refs count few (w .inside)
+
+    leads : (a : ℕ) → Within ns kept (4 * k) (4 * k) (getD refs a 0)
+    leads a = ⊎-elim (λ h. within-all ns kept (4 * k) (getD refs a 0) (rows .inside a h) (rows .fine a h)) (λ h. rw (w .none a h) (within-no ns kept (4 * k))) (lt-or-ge a count)
+
+-- two answers with the same parts
+pub stepped-eq : (a b : Stepped) → a .told ≡ b .told → a .refs ≡ b .refs → a ≡ b
+stepped-eq a b p q = λ i. record { told = p i; refs = q i }
+
+-- the work's outcome does not ask what stands in front of the work slice
+pub outcome-same : (b : Bool) (k count : ℕ) (plan : List Instruction) (refs : List ℕ) (kept : ℕ) (ns w w₁ : List ℕ) → cleared (length ns / 3) w₁ ≡ cleared (length ns / 3) w
+    → workOutcome b k count plan refs kept ns w₁ ≡ workOutcome b k count plan refs kept ns w
+unfolding workOutcome layout
+outcome-same false k count plan refs kept ns w w₁ e = rw e
+outcome-same true k count plan refs kept ns w w₁ e = rw e
+
+module _ (k count : ℕ) (plan : List Instruction) (refs : List ℕ) (kept : ℕ) (ns w : List ℕ) (f : Fits k count (length ns) (length w)) where
+  -- no room for all: the tail is wiped, and the nodes are as they were
+  pub full-leaves : {ns₁ ns₂ w₂ : List ℕ} → Ready k count refs kept ns → Short (4 * k) ns ns₁ kept (stages k plan (diagrams ns kept refs count) count)
+      → Zeroed (3 * kept) (length ns₁) ns₁ ns₂ → w₂ ≡ cleared (length ns / 3) w
+      → Leaves (workOutcome (leb (length (workTable k count plan refs kept ns)) (length ns / 3)) k count plan refs kept ns w) (record { told = Full; refs = refs }) ns₂ w₂
+  unfolding workTable workOutcome
+  full-leaves {ns₁} {ns₂} r s z e =
+      rw (lt-leb (length (addTrees (treesOf ns kept) (map (treeOf (4 * k)) (stages k plan (diagrams ns kept refs count) count)))) (length ns / 3) (omega (arith, s .over, f .whole)))
+      (record { result = refl; nodes = wiped; work = e })
+    where
+      wiped : ns₂ ≡ ns
+      wiped =
+          ext-getD 0 ns₂ ns (z .size ∙ s .size)
+          (λ i h. ⊎-elim
+          (λ l. z .same .eq i l ∙ s .same .eq i l)
+          (λ l. z .zero i l (omega (arith, z .size)) ∙ sym (r .rest i l))
+          (lt-or-ge i (3 * kept)))
+
+  module _ {ns₁ : List ℕ} {n : ℕ} {w₁ : List ℕ} {news : List ℕ}
+      (t : Through k plan (diagrams ns kept refs count) ns kept ns₁ n w₁ (length ns / 3) refs news count) where
+    -- what the sweep asks
+    pub sweep-ready : Table ns₁ n × ((length ns₁ ≡ 3 * (length ns₁ / 3)) × (4 * (length ns₁ / 3) ≤ length w₁)) × Rows ns₁ n (4 * k) news count
+    sweep-ready =
+        let size = t .size in
+        let long = t .desk .long in (
+          t .desk .table,
+          (omega (arith, f .whole), omega arith),
+          record { few = f .few; inside = λ i h. t .new-lead .each i .below; fine = λ i h. within-fine (t .new-lead .each i) },
+        )
+
+    -- the new references lead to the new diagrams
+    new-diagrams : diagrams ns₁ n news count ≡ newTrees k plan (diagrams ns kept refs count) count
+    unfolding diagrams at
+    new-diagrams =
+        ext-getD off _ _ (size ∙ sym (length-new k plan _ count))
+        (λ i h.
+        let l : i < count = omega (arith, size) in
+        List·getD-map (at (treesOf ns₁ n)) (take count news) i 0 ∙ ap (at (treesOf ns₁ n)) (getD-take count news i 0 l) ∙ t .new-are i)
+      where
+        size : length (map (at (treesOf ns₁ n)) (take count news)) ≡ count
+        size = length-map (take count news) (at (treesOf ns₁ n)) ∙ length-take-le count news (omega (arith, t .wide, f .few))
+
+    -- the count of nodes is the room
+    room-is : length (workTable k count plan refs kept ns) ≡ n
+    unfolding workTable
+    room-is = ap length (sym (t .trees)) ∙ length-trees ns₁ n
+
+    -- the references, as a list
+    refs-are : {refs′ : List ℕ} → References ns₁ n news count refs′
+        → refs′ ≡ map (refOf (canonical ns₁ n news count)) (diagrams ns₁ n news count) ++ replicate (64 - count) 0
+    unfolding diagrams at refOf
+    refs-are {refs′} r =
+        ext-getD 0 refs′ _ (r .wide ∙ sym (length-append (map (refOf T) (map (at (treesOf ns₁ n)) (take count news))) (replicate (64 - count) 0) ∙ rw (size, length-replicate) (omega (arith, f .few))))
+        (λ i h. ⊎-elim
+        (λ l. r .is i l ∙ sym (List·getD-append (map (refOf T) (map (at (treesOf ns₁ n)) (take count news))) (replicate (64 - count) 0) 0 i (omega (arith, size))
+        ∙ List·getD-map (refOf T) (map (at (treesOf ns₁ n)) (take count news)) i off
+        ∙ ap (refOf T) (List·getD-map (at (treesOf ns₁ n)) (take count news) i 0 ∙ ap (at (treesOf ns₁ n)) (getD-take count news i 0 l))))
+        (λ l. r .none i l ∙ sym (zeros-past (map (refOf T) (map (at (treesOf ns₁ n)) (take count news))) (64 - count) i (omega (arith, size))))
+        (lt-or-ge i count))
+      where
+        T : List Tree
+        T = canonical ns₁ n news count
+
+        size : length (map (refOf T) (map (at (treesOf ns₁ n)) (take count news))) ≡ count
+        size = rw (length-map, length-map) (length-take-le count news (omega (arith, t .wide, f .few)))
+
+    -- all rows worked and swept
+    pub done-leaves : {w₂ ns₂ w₃ : List ℕ} {kept′ : ℕ} {refs′ : List ℕ} → Renewal ns₁ n news count w₁ ns₂ w₂ kept′ refs′ → w₃ ≡ cleared (length ns / 3) w
+        → Leaves (workOutcome (leb (length (workTable k count plan refs kept ns)) (length ns / 3)) k count plan refs kept ns w) (record { told = Done kept′ n; refs = refs′ }) ns₂ w₃
+    unfolding workOutcome layout canonical
+    done-leaves {kept′ = kept′} {refs′} r e =
+        let table = t .desk .table .fits in
+        let size = t .size in
+        let ds = new-diagrams in
+        let test : leb (length (workTable k count plan refs kept ns)) (length ns / 3) ≡ true = rw room-is (le-leb n (length ns / 3) (omega arith)) in
+        rw test
+        (record {
+          result = stepped-eq _ _ (ap₂ Done (rw ds at (r .size)) (sym room-is)) (rw ds at (refs-are (r .references)));
+          nodes = rw (ds, size) at (r .numbers);
+          work = e;
+        })

@@ -1,0 +1,32 @@
+-- `variable` meets its contract. Assumes nothing.
+use mathlib.Core.Path.{refl}
+use borrow.Author.Needs.{needs}
+use Rattle.diagram.proofs.WalkLaws.{stays}
+use Rattle.diagram.proofs.cube.variable.Statement.{statement}
+use Rattle.diagram.proofs.cube.variable.Tie as tie
+
+enum-told : tie.Need-enum-told
+enum-told c = search needs
+
+enum-known-place : tie.Need-enum-known-place
+enum-known-place c = search needs
+
+bits-of-requires : tie.Need-bits-of-requires
+bits-of-requires c κs = search needs
+
+returns : tie.Need-returns
+returns c =
+    let s = c .before .before .before in
+    rw (c .enum-told .given .1) (stays _ _ _ _ (s .pre .0) (s .pre .1 .0) refl)
+
+same-length : tie.Need-same-length
+same-length c = search needs
+
+returns-2 : tie.Need-returns-2
+returns-2 c =
+    let done = c .before .before in
+    rw (done .before .before .before .place .given .1) (done .bits-of .ensures)
+
+pub variable-spec : {M : Type 1} → statement M
+variable-spec =
+    tie.close (tie.spec enum-told enum-known-place bits-of-requires returns same-length returns-2)

@@ -1,0 +1,31 @@
+-- `slot` meets its contract. Assumes nothing.
+use native.Mathlib.Nat.{mod-lt}
+use borrow.Author.Needs.{needs}
+use Rattle.diagram.proofs.memory.slot.Statement.{statement}
+use Rattle.diagram.proofs.memory.slot.Tie as tie
+
+mul-mixed : tie.Need-mul-mixed
+mul-mixed c = search needs
+
+mul-mixed-2 : tie.Need-mul-mixed-2
+mul-mixed-2 c = search needs
+
+add-mixed : tie.Need-add-mixed
+add-mixed c = search needs
+
+mul-mixed-3 : tie.Need-mul-mixed-3
+mul-mixed-3 c = search needs
+
+add-mixed-2 : tie.Need-add-mixed-2
+add-mixed-2 c = search needs
+
+rem-result : tie.Need-rem-result
+rem-result c = search needs
+
+returns : tie.Need-returns
+returns c = mod-lt _ (c .pre)
+
+pub slot-spec : {M : Type 1} → statement M
+slot-spec =
+    tie.close
+    (tie.spec mul-mixed mul-mixed-2 add-mixed mul-mixed-3 add-mixed-2 rem-result returns)

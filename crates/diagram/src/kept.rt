@@ -1,0 +1,83 @@
+// Whether a state's diagrams are well kept: the clauses of refusal 4 that speak of nodes and references. Each pass is linear
+// in the kept nodes but for the search for equal nodes. Assumes nothing.
+mod each; // references and nodes by themselves
+mod order; // canonical order
+mod free; // the rows' variables
+
+use crate::kept::each::all_differ;
+use crate::kept::each::all_right;
+use crate::kept::each::inside;
+use crate::kept::each::none_past;
+use crate::kept::each::rest_zero;
+use crate::kept::free::free_only;
+use crate::kept::order::rows_in_order;
+use crate::sweep::zero;
+ghost use mathlib.Core.Path.{_≡_};
+ghost use Prim.Native.Nat.{_/_, _≤_};
+ghost use lib.ListN.{length};
+ghost use Rattle.trees.specs.Kept.{wellKept};
+ghost use Rattle.diagram.specs.Nodes.{Rest};
+ghost use Rattle.diagram.specs.Sweeps.{Zeroed};
+ghost use Rattle.diagram.specs.Checks.{freeBy, Sized};
+
+// Whether the diagrams are well kept, pass after pass. The last pass leaves its marks in the first numbers of `work`.
+fn passes(
+    k: u32,
+    count: u32,
+    allowed: [u32; 64],
+    refs: [u32; 64],
+    kept: u32,
+    nodes: &[u32],
+    work: &mut [u32],
+) -> bool
+    requires { ⌜ (1 ≤ k) × (k ≤ 10) × (count ≤ 64) ⌝ }
+    requires { ⌜ Sized (now nodes) (now work) ⌝ }
+    ensures { λ b. ⌜ b ≡ wellKept (freeBy k allowed) (length (now (nodes .entry)) / 3) count refs kept (now (nodes .entry)) ⌝ }
+    ensures { λ _. ⌜ Rest (length (now (nodes .entry)) / 3) (now (work .entry)) (now (work .exit)) ⌝ }
+{
+    let c = nodes.len() / 3;
+    let m = kept as usize;
+    if c < m {
+        return false;
+    }
+    if !inside(refs, count, kept) {
+        return false;
+    }
+    if !none_past(refs, count) {
+        return false;
+    }
+    if !rest_zero(nodes, 3 * m) {
+        return false;
+    }
+    if !all_right(nodes, kept, 4 * k) {
+        return false;
+    }
+    if !all_differ(nodes, kept) {
+        return false;
+    }
+    if !rows_in_order(nodes, kept, 4 * k, refs, count) {
+        return false;
+    }
+    free_only(nodes, kept, work, k, allowed, refs, count)
+}
+
+// Whether a state's diagrams are well kept, for a rule of `count` rows of which row i may ask the variables of allowed[i].
+// The first numbers of `work`, one for each node of the slice, are 0 after it.
+pub fn check(
+    k: u32,
+    count: u32,
+    allowed: [u32; 64],
+    refs: [u32; 64],
+    kept: u32,
+    nodes: &[u32],
+    work: &mut [u32],
+) -> bool
+    requires { ⌜ (1 ≤ k) × (k ≤ 10) × (count ≤ 64) ⌝ }
+    requires { ⌜ Sized (now nodes) (now work) ⌝ }
+    ensures { λ b. ⌜ b ≡ wellKept (freeBy k allowed) (length (now (nodes .entry)) / 3) count refs kept (now (nodes .entry)) ⌝ }
+    ensures { λ _. ⌜ Zeroed 0 (length (now (nodes .entry)) / 3) (now (work .entry)) (now (work .exit)) ⌝ }
+{
+    let b = passes(k, count, allowed, refs, kept, nodes, work);
+    zero(work, 0, nodes.len() / 3);
+    b
+}

@@ -1,0 +1,152 @@
+// The passes over single references and single nodes, and the search for equal nodes. Assumes nothing.
+ghost use mathlib.Core.Path.{_≡_};
+ghost use Prim.Native.Nat.{_+_, _*_, _-_, _<_, _≤_};
+ghost use lib.ListN.{length};
+ghost use Rattle.trees.specs.Kept.{above, nodeRight, equalNodes};
+ghost use Rattle.diagram.specs.Checks.{Decides, Inside, ZeroFrom, Right, EqualBefore, Apart};
+
+// Whether the references of the first `count` rows lead to kept nodes or leaves.
+pub fn inside(refs: [u32; 64], count: u32, kept: u32) -> bool
+    requires { ⌜ (count ≤ 64) × (kept ≤ 4096) ⌝ }
+    ensures { λ b. ⌜ Decides (Inside refs count kept) b ⌝ }
+{
+    let mut i = 0;
+    while i < count {
+        let j = i as usize;
+        if kept + 2 <= refs[j] {
+            return false;
+        }
+        i += 1;
+    }
+    true
+}
+
+// Whether the references past the rows are 0.
+pub fn none_past(refs: [u32; 64], count: u32) -> bool
+    requires { ⌜ count ≤ 64 ⌝ }
+    ensures { λ b. ⌜ Decides (ZeroFrom count refs) b ⌝ }
+{
+    let mut i = count as usize;
+    while i < 64 {
+        if refs[i] != 0 {
+            return false;
+        }
+        i += 1;
+    }
+    true
+}
+
+// Whether the numbers from `from` on are 0.
+pub fn rest_zero(xs: &[u32], from: usize) -> bool
+    ensures { λ b. ⌜ Decides (ZeroFrom from (now (xs .entry))) b ⌝ }
+{
+    let mut i = from;
+    while i < xs.len() {
+        if xs[i] != 0 {
+            return false;
+        }
+        i += 1;
+    }
+    true
+}
+
+// Whether a reference leads to a level above this one, or to a leaf.
+fn leads_above(nodes: &[u32], level: u32, r: u32) -> bool
+    requires { ⌜ 3 * (r - 2) < length (now nodes) ⌝ }
+    ensures { λ b. ⌜ b ≡ above (now (nodes .entry)) level r ⌝ }
+{
+    if r < 2 {
+        return true;
+    }
+    let i = 3 * (r as usize - 2);
+    level < nodes[i]
+}
+
+// Whether the node at place j is right by itself.
+fn node_right(nodes: &[u32], j: u32) -> bool
+    requires { ⌜ (3 * j + 2 < length (now nodes)) × (length (now nodes) ≤ 12288) ⌝ }
+    ensures { λ b. ⌜ b ≡ nodeRight (now (nodes .entry)) j ⌝ }
+{
+    let i = 3 * (j as usize);
+    let level = nodes[i];
+    let low = nodes[i + 1];
+    let high = nodes[i + 2];
+    if low == high {
+        return false;
+    }
+    if j + 2 <= low {
+        return false;
+    }
+    if !leads_above(nodes, level, low) {
+        return false;
+    }
+    if j + 2 <= high {
+        return false;
+    }
+    leads_above(nodes, level, high)
+}
+
+// Whether each of the first n nodes is right by itself, and its level below `levels`.
+pub fn all_right(nodes: &[u32], n: u32, levels: u32) -> bool
+    requires { ⌜ (3 * n ≤ length (now nodes)) × (length (now nodes) ≤ 12288) ⌝ }
+    ensures { λ b. ⌜ Decides (Right (now (nodes .entry)) n levels) b ⌝ }
+{
+    let mut j = 0;
+    while j < n {
+        if !node_right(nodes, j) {
+            return false;
+        }
+        let i = 3 * (j as usize);
+        if levels <= nodes[i] {
+            return false;
+        }
+        j += 1;
+    }
+    true
+}
+
+// Whether the nodes at two places are equal.
+fn same_node(nodes: &[u32], i: u32, j: u32) -> bool
+    requires { ⌜ (3 * i + 2 < length (now nodes)) × (3 * j + 2 < length (now nodes)) ⌝ }
+    ensures { λ b. ⌜ b ≡ equalNodes (now (nodes .entry)) i j ⌝ }
+{
+    let p = 3 * (i as usize);
+    let q = 3 * (j as usize);
+    if nodes[p] != nodes[q] {
+        return false;
+    }
+    if nodes[p + 1] != nodes[q + 1] {
+        return false;
+    }
+    nodes[p + 2] == nodes[q + 2]
+}
+
+// Whether a node before place j equals the one at j.
+fn equal_before(nodes: &[u32], j: u32) -> bool
+    requires { ⌜ 3 * j + 2 < length (now nodes) ⌝ }
+    ensures { λ b. ⌜ EqualBefore (now (nodes .entry)) j b ⌝ }
+{
+    let mut i = 0;
+    while i < j {
+        if same_node(nodes, j, i) {
+            return true;
+        }
+        i += 1;
+    }
+    false
+}
+
+// Whether no two of the first n nodes are equal.
+pub fn all_differ(nodes: &[u32], n: u32) -> bool
+    requires { ⌜ 3 * n ≤ length (now nodes) ⌝ }
+    ensures { λ b. ⌜ Decides (Apart (now (nodes .entry)) n) b ⌝ }
+{
+    let mut j = 0;
+    while j < n {
+        if equal_before(nodes, j) {
+            return false;
+        }
+        j += 1;
+    }
+    true
+}

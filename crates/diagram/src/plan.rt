@@ -1,0 +1,133 @@
+// The rows' work, one after the other, and what follows it: the sweep, or the refusal. Regions of the work slice, with c nodes
+// in the node slice: the sweep's table before 3 * c, its notes before 4 * c, the map of complements before 5 * c, the memory
+// of results before 13 * c; from there to 15 * c nothing is kept yet: that is left for buckets of nodes.
+ghost use mathlib.Core.Path.{_≡_};
+ghost use Prim.Native.Nat.{ℕ, _*_, _/_, _≤_};
+ghost use lib.Dec.{leb};
+ghost use lib.ListN.{length, getD};
+ghost use Rattle.trees.specs.Kept.{diagrams};
+ghost use Rattle.diagram.specs.Nodes.{Rest};
+ghost use Rattle.diagram.specs.Checks.{Decides};
+ghost use Rattle.diagram.specs.Steps.{workTable, workOutcome, Leaves};
+ghost use Rattle.diagram.specs.Works.{Fits, Desk, Leads, Ran, Ready};
+use crate::Instruction;
+use crate::Made;
+use crate::Stepped;
+use crate::Told;
+use crate::row::row;
+use crate::sweep::renew;
+use crate::sweep::zero;
+
+// Whether the numbers and lengths are ones that a step can work with.
+pub fn fit(k: u32, count: u32, nodes: usize, work: usize) -> bool
+    ensures { λ b. ⌜ Decides (Fits k count nodes work) b ⌝ }
+{
+    if k < 1 {
+        return false;
+    }
+    if 10 < k {
+        return false;
+    }
+    if count < 1 {
+        return false;
+    }
+    if 64 < count {
+        return false;
+    }
+    let c = nodes / 3;
+    if nodes != 3 * c {
+        return false;
+    }
+    if c < 1 {
+        return false;
+    }
+    if 4096 < c {
+        return false;
+    }
+    16 * c + 1024 <= work
+}
+
+// What the work on all rows answers: that there is no room, or the count of nodes and the references of the new diagrams.
+pub struct Run {
+    pub full: bool,
+    pub count: u32,
+    pub refs: [u32; 64],
+}
+
+// Works the first `count` instructions in order.
+fn rows(
+    nodes: &mut [u32],
+    work: &mut [u32],
+    c: usize,
+    kept: u32,
+    k: u32,
+    count: u32,
+    plan: [Instruction; 64],
+    olds: [u32; 64],
+) -> Run
+    requires { ⌜ (k ≤ 10) × (count ≤ 64) × Desk (now nodes) kept (4 * k) (now work) c ⌝ }
+    requires { ⌜ Leads (now nodes) kept (4 * k) olds ⌝ }
+    requires { ⌜ ((a : ℕ) → count ≤ a → getD olds a 0 ≡ 0) ⌝ }
+    ensures { λ x. ⌜ Ran k plan (diagrams (now (nodes .entry)) kept olds count) (now (nodes .entry)) kept (now (nodes .exit)) (now (work .exit)) c olds count (x .full) (x .count) (x .refs) ⌝ }
+    ensures { λ _. ⌜ Rest (13 * c) (now (work .entry)) (now (work .exit)) ⌝ }
+{
+    let mut news = [0; 64];
+    let mut n = kept;
+    let mut i = 0;
+    while i < count {
+        let j = i as usize;
+        let x = plan[j];
+        let Made::At(m, r) = row(nodes, work, c, n, k, i, x, olds, news) else {
+            return Run {
+                full: true,
+                count: 0,
+                refs: olds,
+            };
+        };
+        news[j] = r;
+        n = m;
+        i += 1;
+    }
+    Run {
+        full: false,
+        count: n,
+        refs: news,
+    }
+}
+
+// Works an event on diagrams that are well kept.
+pub fn worked(
+    k: u32,
+    count: u32,
+    plan: [Instruction; 64],
+    refs: [u32; 64],
+    kept: u32,
+    nodes: &mut [u32],
+    work: &mut [u32],
+) -> Stepped
+    requires { ⌜ Fits k count (length (now nodes)) (length (now work)) ⌝ }
+    requires { ⌜ Ready k count refs kept (now nodes) ⌝ }
+    ensures { λ x. ⌜ Leaves (workOutcome (leb (length (workTable k count plan refs kept (now (nodes .entry)))) (length (now (nodes .entry)) / 3)) k count plan refs kept (now (nodes .entry)) (now (work .entry))) x (now (nodes .exit)) (now (work .exit)) ⌝ }
+{
+    let c = nodes.len() / 3;
+    zero(work, 4 * c, 13 * c);
+    let x = rows(nodes, work, c, kept, k, count, plan, refs);
+    if x.full {
+        let end = nodes.len();
+        zero(nodes, 3 * (kept as usize), end);
+        zero(work, 0, 16 * c + 1024);
+        return Stepped {
+            told: Told::Full,
+            refs,
+        };
+    }
+    let room = x.count;
+    let news = x.refs;
+    let y = renew(nodes, room, work, 4 * k, news, count);
+    zero(work, 0, 16 * c + 1024);
+    let out = y.refs;
+    Stepped {
+        told: Told::Done(y.kept, room),
+        refs: out,
+    }
+}

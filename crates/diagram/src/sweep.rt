@@ -1,0 +1,175 @@
+// The canonical sweep: the diagrams of some references, copied in canonical order into a table of their own. The work
+// slice holds that table in its first 3 * c numbers, and behind it, for each place of the nodes, 0 or one more than the
+// reference that its diagram has in the new table. Assumes nothing.
+use crate::Node;
+ghost use mathlib.Core.Path.{_≡_};
+ghost use Prim.Native.Nat.{ℕ, _+_, _*_, _-_, _/_, _<_, _≤_};
+ghost use mathlib.Core.List.{_++_};
+ghost use lib.ListN.{length, getD, set, take, replicate};
+ghost use Rattle.trees.specs.Tree.{Fine};
+ghost use Rattle.trees.specs.Table.{at, treesOf};
+ghost use Rattle.diagram.specs.Nodes.{Table, Splits};
+ghost use Rattle.diagram.specs.Sweeps.{Zeroed, Noted, Emitted, Rows, Copied, Renewal};
+
+// What the sweep of a diagram answers: the count of nodes of the new table, and the diagram's reference there.
+pub struct Swept {
+    pub count: u32,
+    pub reference: u32,
+}
+
+// Sets the numbers from `from` on and before `to` to 0.
+pub fn zero(xs: &mut [u32], from: usize, to: usize)
+    requires { ⌜ to ≤ length (now xs) ⌝ }
+    ensures { λ _. ⌜ Zeroed from to (now (xs .entry)) (now (xs .exit)) ⌝ }
+{
+    let mut i = from;
+    while i < to {
+        xs[i] = 0;
+        i += 1;
+    }
+}
+
+// The three numbers of the node that r leads to.
+pub fn read(nodes: &[u32], m: u32, r: u32) -> Node
+    requires { ⌜ Table (now nodes) m ⌝ }
+    requires { ⌜ (2 ≤ r) × (r < m + 2) ⌝ }
+    ensures { λ x. ⌜ Splits (now (nodes .entry)) m r (x .level) (x .low) (x .high) ⌝ }
+{
+    let i = 3 * (r as usize - 2);
+    Node {
+        level: nodes[i],
+        low: nodes[i + 1],
+        high: nodes[i + 2],
+    }
+}
+
+// Writes a node at place n of the new table, and at j the note that it stands there.
+fn emit(work: &mut [u32], n: u32, j: usize, x: Node)
+    requires { ⌜ (n < 4096) × (3 * n + 2 < length (now work)) × (j < length (now work)) ⌝ }
+    ensures { λ _. ⌜ now (work .exit) ≡ set (set (set (set (now (work .entry)) (3 * n) (x .level)) (3 * n + 1) (x .low)) (3 * n + 2) (x .high)) j (n + 3) ⌝ }
+{
+    let i = 3 * (n as usize);
+    work[i] = x.level;
+    work[i + 1] = x.low;
+    work[i + 2] = x.high;
+    work[j] = n + 3;
+}
+
+// Adds the diagram r of the first m nodes to the new table of n nodes: low side first, then high, then the node itself.
+// A node without a note is in the new table nowhere, so it is written without a search. Of r's levels at most `left` are
+// left to ask.
+pub fn sweep(
+    nodes: &[u32],
+    m: u32,
+    work: &mut [u32],
+    c: usize,
+    n: u32,
+    levels: u32,
+    left: u32,
+    r: u32,
+) -> Swept
+    requires { ⌜ Noted (now nodes) m (now work) c n ⌝ }
+    requires { ⌜ (r < m + 2) × (left ≤ levels) ⌝ }
+    requires { ⌜ Fine (levels - left) levels (at (treesOf (now nodes) m) r) ⌝ }
+    ensures { λ x. ⌜ Emitted (now (nodes .entry)) m (now (work .entry)) (now (work .exit)) c n (x .count) (x .reference) (at (treesOf (now (nodes .entry)) m) r) ⌝ }
+{
+    if r < 2 {
+        return Swept {
+            count: n,
+            reference: r,
+        };
+    }
+    let j = 3 * c + (r as usize - 2);
+    let note = work[j];
+    if 0 < note {
+        return Swept {
+            count: n,
+            reference: note - 1,
+        };
+    }
+    let x = read(nodes, m, r);
+    let a = sweep(nodes, m, work, c, n, levels, left - 1, x.low);
+    let b = sweep(nodes, m, work, c, a.count, levels, left - 1, x.high);
+    let y = Node {
+        level: x.level,
+        low: a.reference,
+        high: b.reference,
+    };
+    emit(work, b.count, j, y);
+    Swept {
+        count: b.count + 1,
+        reference: b.count + 2,
+    }
+}
+
+// What the sweep of all rows answers: the count of nodes of the canonical table, and the rows' references there.
+pub struct Renewed {
+    pub kept: u32,
+    pub refs: [u32; 64],
+}
+
+// Sweeps the diagrams of the first `count` references, in order, into an empty table. The notes are 0 before.
+pub fn sweep_all(
+    nodes: &[u32],
+    m: u32,
+    work: &mut [u32],
+    c: usize,
+    levels: u32,
+    refs: [u32; 64],
+    count: u32,
+) -> Renewed
+    requires { ⌜ Table (now nodes) m ⌝ }
+    requires { ⌜ (length (now nodes) ≡ 3 * c) × (4 * c ≤ length (now work)) ⌝ }
+    requires { ⌜ ((i : ℕ) → 3 * c ≤ i → i < 4 * c → getD (now work) i 0 ≡ 0) ⌝ }
+    requires { ⌜ Rows (now nodes) m levels refs count ⌝ }
+    ensures { λ x. ⌜ Copied (now (nodes .entry)) m refs count (now (work .entry)) (now (work .exit)) c (x .kept) (x .refs) ⌝ }
+{
+    let mut out = [0; 64];
+    let mut n = 0;
+    let mut i = 0;
+    while i < count {
+        let j = i as usize;
+        let s = sweep(nodes, m, work, c, n, levels, levels, refs[j]);
+        out[j] = s.reference;
+        n = s.count;
+        i += 1;
+    }
+    Renewed { kept: n, refs: out }
+}
+
+// Copies the first n nodes of `work` to `nodes`, and sets the rest of `nodes` to 0.
+pub fn copy_back(work: &[u32], nodes: &mut [u32], n: u32)
+    requires { ⌜ (3 * n ≤ length (now work)) × (3 * n ≤ length (now nodes)) ⌝ }
+    ensures { λ _. ⌜ now (nodes .exit) ≡ take (3 * n) (now (work .entry)) ++ replicate (length (now (nodes .entry)) - 3 * n) 0 ⌝ }
+{
+    let k = 3 * (n as usize);
+    let mut i = 0;
+    while i < k {
+        nodes[i] = work[i];
+        i += 1;
+    }
+    let end = nodes.len();
+    zero(nodes, k, end);
+}
+
+// Makes the nodes the canonical table of the diagrams of the first `count` references: the rows in order, each diagram
+// low side first, children before parents, each node once.
+pub fn renew(
+    nodes: &mut [u32],
+    m: u32,
+    work: &mut [u32],
+    levels: u32,
+    refs: [u32; 64],
+    count: u32,
+) -> Renewed
+    requires { ⌜ Table (now nodes) m ⌝ }
+    requires { ⌜ (length (now nodes) ≡ 3 * (length (now nodes) / 3)) × (4 * (length (now nodes) / 3) ≤ length (now work)) ⌝ }
+    requires { ⌜ Rows (now nodes) m levels refs count ⌝ }
+    ensures { λ x. ⌜ Renewal (now (nodes .entry)) m refs count (now (work .entry)) (now (nodes .exit)) (now (work .exit)) (x .kept) (x .refs) ⌝ }
+{
+    let c = nodes.len() / 3;
+    zero(work, 3 * c, 4 * c);
+    let x = sweep_all(nodes, m, work, c, levels, refs, count);
+    copy_back(work, nodes, x.kept);
+    x
+}
