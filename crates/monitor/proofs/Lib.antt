@@ -2,3 +2,7 @@
 pub mod TablesLaws
 pub mod StartLaws
 pub mod OneOutcome
+pub mod DecisionLaws
+pub mod TakenLaws
+pub mod FormedLaws
+pub mod WorkLaws
