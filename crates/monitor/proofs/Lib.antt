@@ -6,3 +6,5 @@ pub mod DecisionLaws
 pub mod TakenLaws
 pub mod FormedLaws
 pub mod WorkLaws
+pub mod EventLaws
+pub mod WorkedLaws

@@ -1,17 +1,22 @@
 -- Laws of the lent tables: their lengths, and what clears them. Assumes nothing.
-use Prim.Native.Nat.{ℕ, zero, suc, _+_, _*_, _/_, _%_, _≤_, _<_}
-use mathlib.Core.Path.{_≡_, refl, sym, _∙_}
-use mathlib.Core.Bool.{false, _&&_}
-use mathlib.Core.List.{List, [], _∷_}
+use Prim.Native.Nat.{ℕ, zero, suc, _+_, _-_, _*_, _/_, _%_, _≤_, _<_}
+use mathlib.Core.Path.{_≡_, refl, ap, sym, _∙_}
+use mathlib.Core.Bool.{Bool, false, _&&_}
+use mathlib.Core.List.{List, [], _∷_, _++_}
 use mathlib.Core.Logic.{_≢_}
 use native.Mathlib.Decide.{ℕ-discrete}
 use native.Mathlib.Omega.{arith}
 use lib.Dec.{eqb, ltb, leb}
-use lib.ListN.{length, getD, set, replicate, length-set, length-replicate, getD-replicate}
-use lib.Seq.{ext-getD, getD-set-same, getD-set-other}
+use lib.ListN.{length, getD, set, drop, replicate, length-set, length-drop, length-append, length-replicate, getD-replicate}
+use lib.Seq.{drop-append-add, drop-drop, ext-getD, getD-set-same, getD-set-other}
 use borrow.Author.Tests.{eq-eqb, ne-eqb, lt-ltb, le-ltb, le-leb, lt-leb}
-use Rattle.meaning.specs.Tables.{most}
+use Rattle.trees.specs.Kept.{allBelow}
+use Rattle.meaning.specs.declared.State.{State}
+use Rattle.meaning.specs.Tables.{most, listRight}
 use Rattle.meaning.specs.Outcome.{capacity, nodesRight, valuesRight}
+use Rattle.numbers.specs.Asking.{withCounts}
+use Rattle.numbers.proofs.AskedLaws.{right-of}
+use Rattle.monitor.specs.Events.{listsRight, Beyond}
 
 -- the table of the source
 pub entry : (k : ℕ) → k ≤ 10 → getD (0 ∷ 1 ∷ 3 ∷ 7 ∷ 15 ∷ 31 ∷ 63 ∷ 127 ∷ 255 ∷ 511 ∷ 1023 ∷ []) k 0 ≡ most k
@@ -86,3 +91,27 @@ clear-more xs ys i h z = record { size = length-set ys i 0 ∙ z .size; zeros = 
 pub clear-all : (xs ys : List ℕ) (i : ℕ) → length ys ≤ i → Cleared xs i ys → ys ≡ replicate (length xs) 0
 clear-all xs ys i h z = ext-getD 0 ys (replicate (length xs) 0) (z .size ∙ sym (length-replicate {A = ℕ} (length xs) 0))
     (λ j l. z .zeros j (omega arith) ∙ sym (getD-replicate {A = ℕ} (length xs) j 0 0 (rw (z .size) at l)))
+
+-- the first h numbers are 0, and h is at most w
+pub beyond-zeros : (h w : ℕ) (xs ys : List ℕ) → h ≤ w → w ≤ length xs → ys ≡ replicate h 0 ++ drop h xs → Beyond w xs ys
+beyond-zeros h w xs ys a b e =
+    let size : length (replicate {A = ℕ} h 0) ≡ h = length-replicate h 0 in
+    let whole : length (replicate h 0 ++ drop h xs) ≡ length xs = length-append (replicate h 0) (drop h xs) ∙ rw (length-drop h xs) (omega (arith, size)) in
+    let split : length (replicate {A = ℕ} h 0) + (w - h) ≡ w = omega (arith, size) in
+    let rest : drop (length (replicate {A = ℕ} h 0) + (w - h)) (replicate h 0 ++ drop h xs) ≡ drop (h + (w - h)) xs =
+    drop-append-add (replicate h 0) (drop h xs) (w - h) ∙ drop-drop (w - h) h xs in
+    record { size = ap length e ∙ whole; rest = ap (drop w) e ∙ (rw split at rest) ∙ (let z : h + (w - h) ≡ w = omega arith in ap (λ (n : ℕ). drop n xs) z) }
+
+-- nothing is changed
+pub beyond-same : (w : ℕ) (xs : List ℕ) → Beyond w xs xs
+beyond-same w xs = record { size = refl; rest = refl }
+
+-- the count of rows is not the rule's
+pub other-rows : (s : State) (n : ℕ) (values : List ℕ) → s .rows ≢ n → false ≡ listsRight s n values
+unfolding listsRight
+other-rows s n values h = rw (ne-eqb (s .rows) n h) refl
+
+-- it is, and the lists are checked
+pub same-rows : (s : State) (n : ℕ) (values : List ℕ) (r : Bool) → s .rows ≡ n → r ≡ allBelow 4 (listRight (s .k) (withCounts (s .counts)) values) → r ≡ listsRight s n values
+unfolding listsRight
+same-rows s n values r h q = rw (eq-eqb (s .rows) n h) (q ∙ ap (allBelow 4) (sym (right-of (s .k) s values)))

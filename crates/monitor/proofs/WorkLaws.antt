@@ -43,6 +43,11 @@ enough-left rows m e g v h = unfold most in ltb-false (most (m .state .k)) (leng
     less : v < firstBelow 4 f
     less = let t = ltb-false (firstBelow 4 f) 4 g in omega arith
 
+-- a right rule has a row
+pub some-rows : (rows : List ℕ) → checkRows rows ≡ right → 0 < length (ruleOf rows)
+unfolding ruleOf
+some-rows rows cr = let c = checked rows cr .some in let l = rows-length rows (rowCount rows) in omega arith
+
 -- the diagrams shown are those of the references
 trees-are : (rows : List ℕ) (m : Machine) → shows rows m .trees ≡ diagrams (m .nodes) (m .state .kept) (m .state .refs) (length (ruleOf rows))
 unfolding shows read
@@ -50,10 +55,6 @@ trees-are rows m = refl
 
 module _ (rows : List ℕ) (m : Machine) (e : Event) (kr : kRight (m .state .k) ≡ true) (cr : checkRows rows ≡ right) (ls : lengths rows m e ≡ true)
     (masks : List ℕ) (free : Free rows masks) where
-  rows-some : 0 < length (ruleOf rows)
-  unfolding ruleOf
-  rows-some = let c = checked rows cr .some in let l = rows-length rows (rowCount rows) in omega arith
-
   whole : length (m .nodes) ≡ 3 * (length (m .nodes) / 3)
   unfolding nodesRight
   whole =
@@ -72,7 +73,7 @@ module _ (rows : List ℕ) (m : Machine) (e : Event) (kr : kRight (m .state .k) 
       let rest = and-true-r (thirds && size) _ ls in
       and-true _ _
       (and-true _ _ (le-leb 1 (m .state .k) (positive rows (m .state .k) C kr cr)) (and-true-r (ltb 0 (m .state .k)) (leb (m .state .k) 10) kr))
-      (and-true _ _ (and-true _ _ (le-leb 1 (length (ruleOf rows)) rows-some) (le-leb (length (ruleOf rows)) 64 (few rows (m .state .k) C kr cr)))
+      (and-true _ _ (and-true _ _ (le-leb 1 (length (ruleOf rows)) (some-rows rows cr)) (le-leb (length (ruleOf rows)) 64 (few rows (m .state .k) C kr cr)))
       (and-true _ _ (eq-eqb (length (m .nodes)) (3 * C) whole)
       (and-true _ _ (and-true _ _ (le-leb 1 C (ltb-true 0 C (and-true-l (ltb 0 C) (leb C 4096) sz))) (and-true-r (ltb 0 C) (leb C 4096) sz)) (and-true-r (valuesRight (m .state .k) (m .values)) (leb (16 * C + 1024) (length (m .work))) rest))))
 

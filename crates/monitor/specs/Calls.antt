@@ -2,9 +2,11 @@
 use Prim.Native.Nat.{ℕ}
 use mathlib.Core.Path.{_≡_}
 use mathlib.Core.List.{List}
+use Rattle.meaning.specs.declared.State.{State}
+use Rattle.meaning.specs.declared.Event.{Event}
 use Rattle.meaning.specs.declared.Turn.{Turn}
 use Rattle.meaning.specs.declared.Answer.the-variants.{Started, Refused}
-use Rattle.meaning.specs.Outcome.{stateOf, startOutcome}
+use Rattle.meaning.specs.Outcome.{stateOf, startOutcome, Machine, eventOutcome}
 
 -- the turn of a refused start: "A refused start returns an all-zero state"
 unfoldable pub refusedTurn : ℕ → ℕ → Turn
@@ -20,3 +22,19 @@ pub record Starts (k : ℕ) (rows nodes values : List ℕ) (t : Turn) (nodes′ 
   pub state : t .state ≡ startOutcome k rows nodes values .state
   pub nodes-are : nodes′ ≡ startOutcome k rows nodes values .nodes
   pub values-are : values′ ≡ startOutcome k rows nodes values .values
+
+-- the state and the slices that a call got
+abbrev pub machine : State → List ℕ → List ℕ → List ℕ → Machine
+machine s nodes values work = record { state = s; nodes = nodes; values = values; work = work }
+
+-- the turn of a refused event: "A refused event returns the state it got"
+unfoldable pub keptTurn : State → ℕ → ℕ → Turn
+keptTurn s number place = record { state = s; answer = Refused number place }
+
+-- an event that gave this back and left these slices had the outcome of the definitions
+pub record Happens (rows : List ℕ) (m : Machine) (e : Event) (t : Turn) (nodes′ values′ work′ : List ℕ) : Type 0 where
+  pub answer : t .answer ≡ eventOutcome rows m e .answer
+  pub state : t .state ≡ eventOutcome rows m e .left .state
+  pub nodes-are : nodes′ ≡ eventOutcome rows m e .left .nodes
+  pub values-are : values′ ≡ eventOutcome rows m e .left .values
+  pub work-is : work′ ≡ eventOutcome rows m e .left .work

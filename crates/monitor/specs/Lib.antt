@@ -1,3 +1,4 @@
 -- What the calls of the monitor promise.
 pub mod Decisions
 pub mod Calls
+pub mod Events

@@ -1,14 +1,16 @@
-// The monitor: a start checks k, the rule and the lengths, and clears the lent tables.
+// The monitor: a start checks k, the rule and the lengths, and clears the lent tables; an event is judged, and taken or refused.
 // What each call answers and leaves is defined in the crate `meaning`.
 mod decide;
 mod tables;
+mod working;
 
 use meaning::Answer;
+use meaning::Event;
 use meaning::State;
 use meaning::Turn;
 ghost use mathlib.Core.Path.{_≡_};
 ghost use Rattle.meaning.specs.Outcome.{stateOf};
-ghost use Rattle.monitor.specs.Calls.{refusedTurn, startedTurn, Starts};
+ghost use Rattle.monitor.specs.Calls.{refusedTurn, startedTurn, keptTurn, machine, Starts, Happens};
 
 // What is done with a call: it is taken, or refused with a number and a place.
 enum Decision {
@@ -61,4 +63,43 @@ pub fn start(k: u32, rows: &[u32], nodes: &mut [u32], values: &mut [u32]) -> Tur
     tables::zero(nodes);
     tables::zero(values);
     started(k, (rows.len() / 9) as u32)
+}
+
+// The turn of a refused event.
+fn refused(state: State, number: u32, place: u32) -> Turn
+    ensures { λ t. ⌜ t ≡ keptTurn state number place ⌝ }
+{
+    Turn {
+        state,
+        answer: Answer::Refused(number, place),
+    }
+}
+
+// Event: refusals 1 to 7 in their order, or the verdict of the rule on the events taken so far.
+pub fn event(
+    state: State,
+    rows: &[u32],
+    nodes: &mut [u32],
+    values: &mut [u32],
+    work: &mut [u32],
+    event: Event,
+) -> Turn
+    ensures { λ t. ⌜ Happens (now (rows .entry)) (machine state (now (nodes .entry)) (now (values .entry)) (now (work .entry))) event t (now (nodes .exit)) (now (values .exit)) (now (work .exit)) ⌝ }
+{
+    let rule = rule::check(rows);
+    let checked = rule.checked;
+    let decision = decide::judge(state.k, checked, nodes, values);
+    if let Decision::Refused(number, place) = decision {
+        return refused(state, number, place);
+    }
+    let w = 16 * (nodes.len() / 3) + 1024;
+    if work.len() < w {
+        return refused(state, 3, 0);
+    }
+    if !tables::lists_right(state, rows.len() / 9, values, w, work) {
+        tables::zero(&mut work[0..w]);
+        return refused(state, 4, 0);
+    }
+    let free = rule.free;
+    working::judged(state, free, rows, nodes, values, work, event)
 }

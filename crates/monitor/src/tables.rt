@@ -1,10 +1,12 @@
 // The lent tables: when their lengths are right, and how they are cleared.
+use meaning::State;
 ghost use mathlib.Core.Path.{_≡_};
 ghost use mathlib.Core.Bool.{_&&_};
-ghost use Prim.Native.Nat.{_≤_};
+ghost use Prim.Native.Nat.{_+_, _*_, _<_, _≤_};
 ghost use lib.ListN.{length, replicate};
 ghost use Rattle.meaning.specs.Tables;
 ghost use Rattle.meaning.specs.Outcome.{nodesRight, valuesRight};
+ghost use Rattle.monitor.specs.Events.{listsRight, Beyond};
 
 // 2^k − 1 for each k from 0 to 10.
 const MOST: [u32; 11] = [0, 1, 3, 7, 15, 31, 63, 127, 255, 511, 1023];
@@ -34,6 +36,32 @@ pub fn lengths_right(k: u32, nodes: &[u32], values: &[u32]) -> bool
         return false;
     }
     values.len() == (4 * most(k)) as usize
+}
+
+// How many buckets the check of the lists spreads values over, where the work slice has w numbers for it: it needs 1,023 more.
+fn heads(w: usize) -> usize
+    requires { ⌜ 1024 ≤ w ⌝ }
+    ensures { λ r. ⌜ (0 < r) × (r + 1023 ≤ w) ⌝ }
+{
+    if w < 2047 {
+        return w - 1023;
+    }
+    1024
+}
+
+// Whether the count of rows is the rule's n, and the value lists are right: a part of refusal 4. Only the first w numbers of the work
+// slice are used.
+pub fn lists_right(state: State, n: usize, values: &[u32], w: usize, work: &mut [u32]) -> bool
+    requires { ⌜ (state .k ≤ 10) × (length (now values) ≡ 4 * Tables.most (state .k)) ⌝ }
+    requires { ⌜ (1024 ≤ w) × (w ≤ length (now work)) ⌝ }
+    ensures { λ r. ⌜ r ≡ listsRight state n (now (values .entry)) ⌝ }
+    ensures { λ _. ⌜ Beyond w (now (work .entry)) (now (work .exit)) ⌝ }
+{
+    if state.rows as usize != n {
+        return false;
+    }
+    let counts = state.counts;
+    numbers::lists_right(state.k, counts, values, heads(w), work)
 }
 
 // Every number of the slice becomes 0.

@@ -1,0 +1,275 @@
+-- How the work on an event ends: with bad diagrams, without room, or done; and what is then left. Assumes nothing.
+use Prim.Native.Nat.{ℕ, _+_, _-_, _*_, _/_, _^_, _<_, _≤_}
+use mathlib.Core.Path.{_≡_, refl, ap, sym, subst, _∙_}
+use mathlib.Core.Bool.{Bool, true, false, _&&_}
+use mathlib.Core.List.{List, []}
+use mathlib.Core.Logic.{⊎-elim}
+use native.Mathlib.Omega.{arith}
+use lib.Dec.{eqb, ltb, leb}
+use lib.ListN.{length, getD}
+use borrow.Author.Tests.{eqb-true, leb-true, lt-ltb, le-ltb}
+use Rattle.trees.specs.Kept.{allBelow, wellKept}
+use Rattle.trees.proofs.Tests.{bool, and-true-l, and-true-r}
+use Rattle.trees.proofs.KeptLaws.{all-at}
+use Rattle.meaning.specs.declared.State.{State}
+use Rattle.meaning.specs.declared.Event.{Event}
+use Rattle.meaning.specs.declared.Turn.{Turn}
+use Rattle.meaning.specs.Rows.{truth, ruleOf, firstBelow}
+use Rattle.meaning.specs.Numbering.{Lists, place, listed, askRows}
+use Rattle.meaning.specs.Step.{Shown, step, roomOf}
+use Rattle.meaning.specs.Tables.{most, read, listOf, listRight, keptTable, layState, layNodes, layValues, freeLevel}
+use Rattle.meaning.specs.Outcome.{capacity, nodesRight, valuesRight, cleared, workSize, factOf, allAgree, countRight, taken, refused, judgeEvent, decideEvent, Machine, shows, EventOutcome, settleEvent, eventOutcome, verdictOf}
+use Rattle.meaning.proofs.AskingLaws.{Has, has-place}
+use Rattle.meaning.proofs.StepLaws.{trees-length}
+use Rattle.meaning.proofs.RunLaws.{few, Laid}
+use Rattle.meaning.proofs.AnyState.{laid-formed}
+use Rattle.numbers.specs.declared.Asked.{Asked}
+use Rattle.numbers.specs.Asking.{withCounts, numberIn, Asks, Askable}
+use Rattle.numbers.specs.Writing.{withFresh, Writable}
+use Rattle.numbers.proofs.AskedLaws.{lists-of, shortest-is, writable, written-is}
+use Rattle.diagram.specs.declared.Instruction.{Instruction}
+use Rattle.diagram.specs.declared.Instruction.the-variants.{Yes}
+use Rattle.diagram.specs.declared.Told.{Told}
+use Rattle.diagram.specs.declared.Told.the-variants.{Unfit, Bad, Full, Done}
+use Rattle.diagram.specs.declared.Stepped.{Stepped}
+use Rattle.diagram.specs.Steps
+use Rattle.diagram.specs.Steps.{judge, formedOutcome, stepOutcome, Leaves}
+use Rattle.instructions.specs.Plan.{instructionOf}
+use Rattle.instructions.specs.Planned.{Planned}
+use Rattle.instructions.specs.Worked.{workedOutcome}
+use Rattle.instructions.proofs.ReadLaws.{NumbersRight}
+use Rattle.instructions.proofs.PlannedLaws.{planned-is}
+use Rattle.monitor.specs.Calls.{keptTurn, Happens}
+use Rattle.monitor.specs.Events.{listsRight, formedTurn, takenTurn, Listed, Asking}
+use Rattle.monitor.proofs.DecisionLaws.{formed, short, fitting, decides-4, decides-5, decides-6, decides-room}
+use Rattle.monitor.proofs.StartLaws.{k-small}
+use Rattle.monitor.proofs.TakenLaws.{state-is, verdict-is}
+use Rattle.monitor.proofs.WorkLaws.{some-rows, enough-left, step-bad, step-works}
+use Rattle.monitor.proofs.EventLaws.{kept, ends, formed-kept, rows-are, refuses-late, refuses-formed, clear-same}
+
+-- the lists that a machine shows
+pub lists-are : (rows : List ℕ) (m : Machine) → shows rows m .lists ≡ listOf (m .state .k) (withCounts (m .state .counts)) (m .values)
+unfolding shows read
+lists-are rows m = lists-of (m .state .k) (m .state) (m .values)
+
+-- the number of a value that a list has is its place
+number-has : (xs : List ℕ) (y : ℕ) → Has xs y → numberIn xs y ≡ place xs y
+unfolding numberIn listed
+number-has xs y h = rw (lt-ltb _ _ (has-place xs y h)) refl
+
+-- an event that agrees has few values
+pub few-values : (rows : List ℕ) (e : Event) → countRight (ruleOf rows) e ≡ true → e .count ≤ 3
+unfolding countRight
+few-values rows e h = leb-true (e .count) 3 (and-true-l (leb (e .count) 3) (allAgree e (ruleOf rows)) h)
+
+-- where the lists are right, an event can ask
+module _ (rows masks : List ℕ) (m : Machine) (e : Event) (l : Listed rows masks m) where
+  pub values-length : length (m .values) ≡ 4 * most (m .state .k)
+  unfolding valuesRight
+  values-length =
+      eqb-true (length (m .values)) (4 * most (m .state .k))
+      (and-true-l (eqb (length (m .values)) (4 * most (m .state .k))) (leb (workSize (capacity (m .nodes))) (length (m .work))) (and-true-r (nodesRight (m .nodes)) _ (l .lengths)))
+
+  counts-few : (v : ℕ) → v < 4 → getD (m .state .counts) v 0 ≤ most (m .state .k)
+  unfolding listsRight listRight
+  counts-few v h =
+      leb-true (getD (m .state .counts) v 0) (most (m .state .k))
+      (and-true-l (leb (getD (m .state .counts) v 0) (most (m .state .k))) _
+      (all-at 4 (listRight (m .state .k) (m .state) (m .values)) (and-true-r (eqb (m .state .rows) (length (ruleOf rows))) (allBelow 4 (listRight (m .state .k) (m .state) (m .values))) (l .lists)) v h))
+
+  pub askable : countRight (ruleOf rows) e ≡ true → Askable (m .state .k) (m .state .counts) (m .values) rows e
+  askable c = record { bits = k-small (m .state .k) (l .k-right); counts = counts-few; parts = values-length; checked = l .rule-right; few = few-values rows e c }
+
+  -- the variable that is short, if one is
+  module _ (a : Asked) (t : Asks (m .state .k) (m .state .counts) (m .values) rows e a) where
+    short-is : firstBelow 4 (λ v. ltb (most (m .state .k)) (getD (a .counts) v 0)) ≡ short rows m e
+    short-is = shortest-is (m .state .k) (m .state .counts) (m .values) rows e a t (shows rows m) (lists-are rows m)
+
+    pub asking : countRight (ruleOf rows) e ≡ true → (v : ℕ) → v ≡ firstBelow 4 (λ w. ltb (most (m .state .k)) (getD (a .counts) w 0)) → 4 ≤ v → Asking rows masks m e a
+    asking c v q h = record { listed = l; count-right = c; enough = le-ltb _ _ (subst (λ (n : ℕ). 4 ≤ n) (q ∙ short-is) h); asks = t }
+
+    -- refusal 6
+    pub refuses-6 : countRight (ruleOf rows) e ≡ true → (v : ℕ) → v ≡ firstBelow 4 (λ w. ltb (most (m .state .k)) (getD (a .counts) w 0)) → v < 4
+        → (u : Turn) (ns vs ws : List ℕ) → u ≡ formedTurn (formedOutcome (m .state .k) (m .state .rows) masks (m .state .refs) (m .state .kept) (m .nodes) (m .work) .gives) (m .state) 6 v
+        → ws ≡ formedOutcome (m .state .k) (m .state .rows) masks (m .state .refs) (m .state .kept) (m .nodes) (m .work) .work → ns ≡ m .nodes → vs ≡ m .values → Happens rows m e u ns vs ws
+    refuses-6 c v q h u ns vs ws x y n w =
+        refuses-formed rows m e masks l 6 v u ns vs ws
+        (λ f. decides-6 rows m e (l .k-right) (l .rule-right) (l .lengths) f c (subst (λ (z : ℕ). z < 4) (q ∙ short-is) h) ∙ ap (refused 6) (sym (q ∙ short-is))) refl x y n w
+
+  -- refusal 5
+  pub refuses-5 : countRight (ruleOf rows) e ≡ false
+      → (u : Turn) (ns vs ws : List ℕ) → u ≡ formedTurn (formedOutcome (m .state .k) (m .state .rows) masks (m .state .refs) (m .state .kept) (m .nodes) (m .work) .gives) (m .state) 5 0
+      → ws ≡ formedOutcome (m .state .k) (m .state .rows) masks (m .state .refs) (m .state .kept) (m .nodes) (m .work) .work → ns ≡ m .nodes → vs ≡ m .values → Happens rows m e u ns vs ws
+  refuses-5 c u ns vs ws x y n w = refuses-formed rows m e masks l 5 0 u ns vs ws (λ f. decides-5 rows m e (l .k-right) (l .rule-right) (l .lengths) f c) refl x y n w
+
+module _ (rows masks : List ℕ) (m : Machine) (e : Event) (a : Asked) (s : Asking rows masks m e a) where
+  abbrev after : Shown
+  after = step (m .state .k) (ruleOf rows) (shows rows m) (factOf e)
+
+  abbrev C : ℕ
+  C = capacity (m .nodes)
+
+  numbers-right : NumbersRight (askRows (factOf e) (shows rows m .lists) (ruleOf rows)) (factOf e .values) (a .numbers)
+  numbers-right v j lv lj has =
+      s .asks .numbers v j lv lj
+      ∙ ap (λ (L : Lists). numberIn (askRows (factOf e) L (ruleOf rows) v) (getD (factOf e .values) j 0)) (sym (lists-are rows m))
+      ∙ number-has (askRows (factOf e) (shows rows m .lists) (ruleOf rows) v) (getD (factOf e .values) j 0) has
+
+  same-rows : m .state .rows ≡ length (ruleOf rows)
+  same-rows = rows-are rows m e masks (s .listed)
+
+  pub rows-few : (0 < m .state .rows) × (m .state .rows ≤ 64)
+  rows-few =
+      let l = s .listed in
+      let p = some-rows rows (l .rule-right) in
+      let q = few rows (m .state .k) C (l .k-right) (l .rule-right) in
+      (subst (λ (n : ℕ). 0 < n) (sym same-rows) p, subst (λ (n : ℕ). n ≤ 64) (sym same-rows) q)
+
+  -- the three ends of the work
+  pub data Ended (x : Stepped) (ns ws : List ℕ) : Type 0 where
+    bad : formed rows m e ≡ false → x .told ≡ Bad → ns ≡ m .nodes → ws ≡ cleared C (m .work) → Ended x ns ws
+    full : formed rows m e ≡ true → fitting rows m e ≡ false → x .told ≡ Full → ns ≡ m .nodes → ws ≡ cleared C (m .work) → Ended x ns ws
+    done : formed rows m e ≡ true → fitting rows m e ≡ true → x .told ≡ Done (length (keptTable after)) (roomOf (m .state .k) (ruleOf rows) (shows rows m .trees) (after .trees))
+        → x .refs ≡ layState (m .state .k) after .refs → ns ≡ layNodes C after → ws ≡ cleared C (m .work) → Ended x ns ws
+
+  module _ (plan : List Instruction) (p : Planned rows e (a .numbers) plan) (x : Stepped) (ns ws : List ℕ)
+      (left : Leaves (stepOutcome (m .state .k) (m .state .rows) plan masks (m .state .refs) (m .state .kept) (m .nodes) (m .work)) x ns ws) where
+    ends-as : (o : Steps.Outcome) → stepOutcome (m .state .k) (length (ruleOf rows)) plan masks (m .state .refs) (m .state .kept) (m .nodes) (m .work) ≡ o → Leaves o x ns ws
+    ends-as o q =
+        subst (λ (y : Steps.Outcome). Leaves y x ns ws)
+        (ap (λ (n : ℕ). stepOutcome (m .state .k) n plan masks (m .state .refs) (m .state .kept) (m .nodes) (m .work)) same-rows ∙ q) left
+
+    ends-bad : kept rows m e ≡ false → Ended x ns ws
+    unfolding capacity
+    ends-bad k =
+        let l = s .listed in
+        let o = ends-as _ (step-bad rows m e (l .k-right) (l .rule-right) (l .lengths) masks (l .free) plan k) in
+        bad (formed-kept rows m e masks l ∙ k) (ap (λ (y : Stepped). y .told) (o .result)) (o .nodes) (clear-same (length (m .nodes) / 3) (m .work) ws (o .work))
+
+    works : kept rows m e ≡ true → Leaves (workedOutcome (fitting rows m e) (m .state .k) C (ruleOf rows) (shows rows m) after (m .state .refs) (m .nodes) (m .work)) x ns ws
+    works k =
+        let l = s .listed in
+        ends-as _ (step-works rows m e (l .k-right) (l .rule-right) (l .lengths) masks (l .free) (l .counts, l .refs) (formed-kept rows m e masks l ∙ k) (s .enough) plan
+        (planned-is rows e (a .numbers) (shows rows m .lists) plan p numbers-right))
+
+    ends-full : kept rows m e ≡ true → fitting rows m e ≡ false → Ended x ns ws
+    unfolding workedOutcome
+    ends-full k f = let o = rw f at (works k) in full (formed-kept rows m e masks (s .listed) ∙ k) f (ap (λ (y : Stepped). y .told) (o .result)) (o .nodes) (o .work)
+
+    ends-done : kept rows m e ≡ true → fitting rows m e ≡ true → Ended x ns ws
+    unfolding workedOutcome
+    ends-done k f =
+        let o = rw f at (works k) in
+        done (formed-kept rows m e masks (s .listed) ∙ k) f (ap (λ (y : Stepped). y .told) (o .result)) (ap (λ (y : Stepped). y .refs) (o .result)) (o .nodes) (o .work)
+
+    ended : Ended x ns ws
+    ended = ⊎-elim (λ k. ⊎-elim (ends-done k) (ends-full k) (bool (fitting rows m e))) ends-bad (bool (kept rows m e))
+
+    decides : (b : Bool) → formed rows m e ≡ true → fitting rows m e ≡ b → decideEvent rows m e ≡ judgeEvent taken true true false (short rows m e) b
+    decides b f g = let l = s .listed in decides-room rows m e (l .k-right) (l .rule-right) (l .lengths) f (s .count-right) (s .enough) b g
+
+    decides-full : formed rows m e ≡ true → fitting rows m e ≡ false → decideEvent rows m e ≡ refused 7 0
+    unfolding judgeEvent
+    decides-full f g = decides false f g
+
+    decides-done : formed rows m e ≡ true → fitting rows m e ≡ true → decideEvent rows m e ≡ taken
+    unfolding judgeEvent
+    decides-done f g = decides true f g
+
+    -- a step without room is refused
+    pub refuses-full : (t : Turn) (vs : List ℕ) → x .told ≡ Full → t ≡ keptTurn (m .state) 7 0 → vs ≡ m .values → Happens rows m e t ns vs ws
+    refuses-full t vs y h v = go ended
+      where
+        go : Ended x ns ws → Happens rows m e t ns vs ws
+        go (bad f q n w) = let z : Full ≡ Bad = sym y ∙ q in let u : _≡_ {A = ℕ} 0 1 = cc in absurd (omega arith)
+        go (full f g q n w) = refuses-late rows m e 7 0 t ns vs ws (decides-full f g) refl h n v w
+        go (done f g q r n w) = let z : Full ≡ Done _ _ = sym y ∙ q in let u : _≡_ {A = ℕ} 0 1 = cc in absurd (omega arith)
+
+    -- one on bad diagrams is refused
+    pub refuses-bad : (t : Turn) (vs : List ℕ) → x .told ≡ Bad → t ≡ keptTurn (m .state) 4 0 → vs ≡ m .values → Happens rows m e t ns vs ws
+    refuses-bad t vs y h v = go ended
+      where
+        go : Ended x ns ws → Happens rows m e t ns vs ws
+        go (bad f q n w) = let l = s .listed in refuses-late rows m e 4 0 t ns vs ws (decides-4 rows m e (l .k-right) (l .rule-right) (l .lengths) f) refl h n v w
+        go (full f g q n w) = let z : Bad ≡ Full = sym y ∙ q in let u : _≡_ {A = ℕ} 0 1 = cc in absurd (omega arith)
+        go (done f g q r n w) = let z : Bad ≡ Done _ _ = sym y ∙ q in let u : _≡_ {A = ℕ} 0 1 = cc in absurd (omega arith)
+
+    -- the numbers and lengths are fit
+    pub never-unfit : {A : Type 0} → x .told ≡ Unfit → A
+    never-unfit {A} y = go ended
+      where
+        go : Ended x ns ws → A
+        go (bad f q n w) = let z : Unfit ≡ Bad = sym y ∙ q in let u : _≡_ {A = ℕ} 0 1 = cc in absurd (omega arith)
+        go (full f g q n w) = let z : Unfit ≡ Full = sym y ∙ q in let u : _≡_ {A = ℕ} 0 1 = cc in absurd (omega arith)
+        go (done f g q r n w) = let z : Unfit ≡ Done _ _ = sym y ∙ q in let u : _≡_ {A = ℕ} 0 1 = cc in absurd (omega arith)
+
+    -- one that is done has well-formed diagrams and room
+    module _ (n r : ℕ) (d : x .told ≡ Done n r) where
+      pub record Finished : Type 0 where
+        pub well : formed rows m e ≡ true
+        pub fits : fitting rows m e ≡ true
+        pub kept-is : n ≡ length (keptTable after)
+        pub room-is : r ≡ roomOf (m .state .k) (ruleOf rows) (shows rows m .trees) (after .trees)
+        pub refs-are : x .refs ≡ layState (m .state .k) after .refs
+        pub nodes-are : ns ≡ layNodes C after
+        pub work-is : ws ≡ cleared C (m .work)
+
+      finished : Finished
+      finished = go ended
+        where
+          go : Ended x ns ws → Finished
+          go (bad f q u w) = let z : Done n r ≡ Bad = sym d ∙ q in let y : _≡_ {A = ℕ} 0 1 = cc in absurd (omega arith)
+          go (full f g q u w) = let z : Done n r ≡ Full = sym d ∙ q in let y : _≡_ {A = ℕ} 0 1 = cc in absurd (omega arith)
+          go (done f g q p u w) =
+              let z : Done n r ≡ Done (length (keptTable after)) (roomOf (m .state .k) (ruleOf rows) (shows rows m .trees) (after .trees)) = sym d ∙ q in
+              record { well = f; fits = g; kept-is = cc; room-is = cc; refs-are = p; nodes-are = u; work-is = w }
+
+      laid : Laid rows (m .state .k) C (s .listed .k-right) (s .listed .rule-right) m (shows rows m)
+      laid = let l = s .listed in laid-formed rows m (l .counts, l .refs) (l .k-right) (l .rule-right) (l .lengths) (finished .well)
+
+      trees-count : length (after .trees) ≡ length (ruleOf rows)
+      unfolding step
+      trees-count =
+          trees-length (m .state .k) (askRows (factOf e) (shows rows m .lists) (ruleOf rows)) (factOf e) (shows rows m .trees) (laid .proper .fine) (ruleOf rows) []
+          ∙ (let z : 0 + length (ruleOf rows) ≡ length (ruleOf rows) = omega arith in z)
+
+      lists-after : after .lists ≡ askRows (factOf e) (listOf (m .state .k) (withCounts (m .state .counts)) (m .values)) (ruleOf rows)
+      unfolding step
+      lists-after = ap (λ (L : Lists). askRows (factOf e) L (ruleOf rows)) (lists-are rows m)
+
+      room-left : (v : ℕ) → v < 4 → getD (a .counts) v 0 ≤ most (m .state .k)
+      unfolding most
+      room-left v h =
+          let z = enough-left rows m e (s .enough) v h in
+          let q : length (askRows (factOf e) (shows rows m .lists) (ruleOf rows) v) ≡ getD (a .counts) v 0 =
+          ap (λ (L : Lists). length (askRows (factOf e) L (ruleOf rows) v)) (lists-are rows m) ∙ s .asks .counts v h in
+          subst (λ (y : ℕ). y ≤ 2 ^ (m .state .k) - 1) q z
+
+      -- the fresh values can be written
+      pub writes : Writable (m .state .k) (m .state .counts) a (m .values)
+      writes =
+          writable (m .state .k) (m .state .counts) (m .values) rows e a (s .asks) (k-small (m .state .k) (s .listed .k-right)) (values-length rows masks m e (s .listed))
+          (ap (layValues (m .state .k)) (sym (lists-are rows m)) ∙ sym (laid .values-are)) room-left
+
+      taken-outcome : eventOutcome rows m e ≡ record {
+        answer = verdictOf (m .state .k) (ruleOf rows) (shows rows m) after;
+        left = record { state = layState (m .state .k) after; nodes = layNodes C after; values = layValues (m .state .k) (after .lists); work = cleared C (m .work) };
+      }
+      unfolding eventOutcome settleEvent
+      taken-outcome = rw (decides-done (finished .well) (finished .fits)) refl
+
+      -- what is given back and left is the outcome of an event that is taken
+      pub takes : length (a .counts) ≡ 4 → (t : Turn) (vs : List ℕ)
+          → t ≡ takenTurn (m .state) (a .counts) (x .refs) n r (eqb (getD (x .refs) (m .state .rows - 1) 0) 1)
+          → vs ≡ layValues (m .state .k) (withFresh (m .state .counts) a (listOf (m .state .k) (withCounts (m .state .counts)) (m .values))) → Happens rows m e t ns vs ws
+      unfolding takenTurn
+      takes four t vs h v =
+          rw h
+          (ends rows m e _ taken-outcome _ ns vs ws
+          (rw (finished .refs-are, finished .kept-is, finished .room-is)
+          (sym (verdict-is (m .state .k) (m .state .rows) (ruleOf rows) (shows rows m) after (sym same-rows) (trees-count ∙ sym same-rows) (rows-few .0))))
+          (rw (finished .refs-are, finished .kept-is)
+          (sym (state-is (m .state .k) (m .state .rows) after (a .counts) (trees-count ∙ sym same-rows) four (λ w q. ap (λ (L : Lists). length (L w)) lists-after ∙ s .asks .counts w q))))
+          (finished .nodes-are)
+          (v ∙ written-is (m .state .k) (m .state .counts) (m .values) rows e a (s .asks) ∙ ap (layValues (m .state .k)) (sym lists-after))
+          (finished .work-is))
