@@ -8,3 +8,5 @@ pub mod FormedLaws
 pub mod WorkLaws
 pub mod EventLaws
 pub mod WorkedLaws
+pub mod RunLaws
+pub mod Demands

@@ -2,3 +2,4 @@
 pub mod Decisions
 pub mod Calls
 pub mod Events
+pub mod Runs
