@@ -2,7 +2,7 @@
 use Prim.Native.Nat.{ℕ, zero, suc, _+_, _-_, _*_, _/_, _%_, _≤_, _<_}
 use mathlib.Core.Path.{_≡_, refl, ap, sym, _∙_}
 use mathlib.Core.Bool.{Bool, false, _&&_}
-use mathlib.Core.List.{List, [], _∷_, _++_}
+use mathlib.Core.List.{List, _++_}
 use mathlib.Core.Logic.{_≢_}
 use native.Mathlib.Decide.{ℕ-discrete}
 use native.Mathlib.Omega.{arith}
@@ -17,38 +17,6 @@ use Rattle.meaning.specs.Outcome.{capacity, nodesRight, valuesRight}
 use Rattle.numbers.specs.Asking.{withCounts}
 use Rattle.numbers.proofs.AskedLaws.{right-of}
 use Rattle.monitor.specs.Events.{listsRight, Beyond}
-
--- the table of the source
-pub entry : (k : ℕ) → k ≤ 10 → getD (0 ∷ 1 ∷ 3 ∷ 7 ∷ 15 ∷ 31 ∷ 63 ∷ 127 ∷ 255 ∷ 511 ∷ 1023 ∷ []) k 0 ≡ most k
-unfolding most
-entry zero h = refl
-entry (suc zero) h = refl
-entry (suc (suc zero)) h = refl
-entry (suc (suc (suc zero))) h = refl
-entry (suc (suc (suc (suc zero)))) h = refl
-entry (suc (suc (suc (suc (suc zero))))) h = refl
-entry (suc (suc (suc (suc (suc (suc zero)))))) h = refl
-entry (suc (suc (suc (suc (suc (suc (suc zero))))))) h = refl
-entry (suc (suc (suc (suc (suc (suc (suc (suc zero)))))))) h = refl
-entry (suc (suc (suc (suc (suc (suc (suc (suc (suc zero))))))))) h = refl
-entry (suc (suc (suc (suc (suc (suc (suc (suc (suc (suc zero)))))))))) h = refl
-entry (suc (suc (suc (suc (suc (suc (suc (suc (suc (suc (suc k))))))))))) h = absurd (omega arith)
-
--- the product of the lengths' test is small
-pub most-small : (k : ℕ) → k ≤ 10 → most k ≤ 1023
-unfolding most
-most-small zero h = omega arith
-most-small (suc zero) h = omega arith
-most-small (suc (suc zero)) h = omega arith
-most-small (suc (suc (suc zero))) h = omega arith
-most-small (suc (suc (suc (suc zero)))) h = omega arith
-most-small (suc (suc (suc (suc (suc zero))))) h = omega arith
-most-small (suc (suc (suc (suc (suc (suc zero)))))) h = omega arith
-most-small (suc (suc (suc (suc (suc (suc (suc zero))))))) h = omega arith
-most-small (suc (suc (suc (suc (suc (suc (suc (suc zero)))))))) h = omega arith
-most-small (suc (suc (suc (suc (suc (suc (suc (suc (suc zero))))))))) h = omega arith
-most-small (suc (suc (suc (suc (suc (suc (suc (suc (suc (suc zero)))))))))) h = omega arith
-most-small (suc (suc (suc (suc (suc (suc (suc (suc (suc (suc (suc k))))))))))) h = absurd (omega arith)
 
 -- a node slice whose length three does not divide
 pub parts-left : (k : ℕ) (ns vs : List ℕ) → length ns % 3 ≢ 0 → false ≡ (nodesRight ns && valuesRight k vs)

@@ -8,18 +8,6 @@ ghost use Rattle.meaning.specs.Tables;
 ghost use Rattle.meaning.specs.Outcome.{nodesRight, valuesRight};
 ghost use Rattle.monitor.specs.Events.{listsRight, Beyond};
 
-// 2^k − 1 for each k from 0 to 10.
-const MOST: [u32; 11] = [0, 1, 3, 7, 15, 31, 63, 127, 255, 511, 1023];
-
-// The most values of a variable that have numbers.
-fn most(k: u32) -> u32
-    requires { ⌜ k ≤ 10 ⌝ }
-    ensures { λ r. ⌜ r ≡ Tables.most k ⌝ }
-{
-    let i = k as usize;
-    MOST[i]
-}
-
 // The node slice has 3 × C numbers, C from 1 to 4096, and the value slice 4 × (2^k − 1).
 pub fn lengths_right(k: u32, nodes: &[u32], values: &[u32]) -> bool
     requires { ⌜ k ≤ 10 ⌝ }
@@ -35,10 +23,11 @@ pub fn lengths_right(k: u32, nodes: &[u32], values: &[u32]) -> bool
     if 4096 < c {
         return false;
     }
-    values.len() == (4 * most(k)) as usize
+    values.len() == (4 * numbers::most(k)) as usize
 }
 
-// How many buckets the check of the lists spreads values over, where the work slice has w numbers for it: it needs 1,023 more.
+// How many buckets the check of the lists spreads values over, where the work slice has w numbers for it and for 1,023 links: a prime,
+// so that values numbered in steps of a round number don't all fall into one.
 fn heads(w: usize) -> usize
     requires { ⌜ 1024 ≤ w ⌝ }
     ensures { λ r. ⌜ (0 < r) × (r + 1023 ≤ w) ⌝ }
@@ -46,7 +35,7 @@ fn heads(w: usize) -> usize
     if w < 2047 {
         return w - 1023;
     }
-    1024
+    1021
 }
 
 // Whether the count of rows is the rule's n, and the value lists are right: a part of refusal 4. Only the first w numbers of the work

@@ -27,8 +27,8 @@ pub struct Asked {
     pub numbers: [u32; 12],
 }
 
-// The most values of a variable that have numbers.
-fn most(k: u32) -> u32
+// The most values of a variable that have numbers. The caller has checked k (refusal 1).
+pub fn most(k: u32) -> u32
     requires { ⌜ k ≤ 10 ⌝ }
     ensures { λ r. ⌜ r ≡ Tables.most k ⌝ }
 {

@@ -1,7 +1,8 @@
 -- `monitor::tables::lengths_right` meets its contract: each return by the tests that led there. Assumes nothing.
 use native.Mathlib.Omega.{arith}
 use borrow.Author.Needs.{needs}
-use Rattle.monitor.proofs.TablesLaws.{most-small, parts-left, no-room, much-room, room}
+use Rattle.numbers.proofs.StartLaws.{most-le}
+use Rattle.monitor.proofs.TablesLaws.{parts-left, no-room, much-room, room}
 use Rattle.monitor.proofs.tables.lengths_right.Statement.{statement}
 use Rattle.monitor.proofs.tables.lengths_right.Tie as tie
 
@@ -18,7 +19,7 @@ most-requires : tie.Need-most-requires
 most-requires c κs = search needs
 
 mul-result : tie.Need-mul-result
-mul-result c = omega (arith, c .most .ensures, most-small _ (c .before .before .before .before .before .before .pre))
+mul-result c = omega (arith, c .most .ensures, most-le _ (c .before .before .before .before .before .before .pre))
 
 cast-result : tie.Need-cast-result
 cast-result c = search needs
