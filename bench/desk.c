@@ -1,0 +1,65 @@
+#include "desk.h"
+
+#include <stdio.h>
+#include <stdlib.h>
+#include <string.h>
+
+void desk_start(struct desk *d, const struct monitor *m, const struct workload *w)
+{
+    d->nodes_len = 3 * w->capacity;
+    d->values_len = 4 * ((1u << w->k) - 1);
+    d->work_len = 16 * w->capacity + 1024 + PAST;
+    m->start(w->k, w->rows, 9 * w->row_count, d->nodes, d->nodes_len, d->values, d->values_len, d->state, STATE,
+             d->answer, ANSWER);
+    if (d->answer[0] != 0) {
+        fprintf(stderr, "bench: %s: no start %u %u by the %s monitor\n", w->name, d->answer[0], d->answer[1], m->name);
+        exit(1);
+    }
+}
+
+void desk_event(struct desk *d, const struct monitor *m, const struct workload *w, size_t i)
+{
+    const struct given *e = &w->events[i];
+    m->event(w->rows, 9 * w->row_count, d->nodes, d->nodes_len, d->values, d->values_len, d->work, d->work_len,
+             e->predicate, e->count, e->values[0], e->values[1], e->values[2], d->state, STATE, d->answer, ANSWER);
+}
+
+void desk_dirty(struct desk *d)
+{
+    memset(d->work, 0xd1, d->work_len * sizeof d->work[0]);
+}
+
+static bool same(const uint32_t *one, const uint32_t *other, size_t count)
+{
+    return memcmp(one, other, count * sizeof *one) == 0;
+}
+
+const char *desk_differs(const struct desk *one, const struct desk *other)
+{
+    if (!same(one->answer, other->answer, ANSWER))
+        return "answer";
+    if (!same(one->state, other->state, STATE))
+        return "state";
+    if (!same(one->nodes, other->nodes, one->nodes_len))
+        return "node slice";
+    if (!same(one->values, other->values, one->values_len))
+        return "value slice";
+    if (!same(one->work, other->work, one->work_len))
+        return "work slice";
+    return NULL;
+}
+
+double desk_paths(const struct desk *d, const struct workload *w)
+{
+    static double paths[2 + MOST_C];
+    double all = 0;
+    paths[0] = paths[1] = 1;
+    for (uint32_t j = 0; j < d->state[2]; j++)
+        paths[j + 2] = paths[d->nodes[3 * j + 1]] + paths[d->nodes[3 * j + 2]];
+    for (size_t i = 0; i < w->row_count; i++) {
+        uint32_t kind = w->rows[9 * i];
+        if (kind == AND || kind == NOT || kind == SINCE)
+            all += paths[d->state[7 + i]];
+    }
+    return all;
+}

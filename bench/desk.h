@@ -1,0 +1,30 @@
+// The tables of one run, and a monitor at work on them.
+#ifndef DESK_H
+#define DESK_H
+
+#include "calls.h"
+#include "workload.h"
+
+enum { STATE = 71, ANSWER = 4, PAST = 8, MOST_C = 4096, MOST_VALUES = 4 * 1023 };
+
+// Lent tables. The work slice is `PAST` numbers longer than it need be, and those must stay as they are.
+struct desk {
+    uint32_t state[STATE], answer[ANSWER];
+    uint32_t nodes[3 * MOST_C], values[MOST_VALUES], work[16 * MOST_C + 1024 + PAST];
+    size_t nodes_len, values_len, work_len;
+};
+
+void desk_start(struct desk *d, const struct monitor *m, const struct workload *w);
+void desk_event(struct desk *d, const struct monitor *m, const struct workload *w, size_t i);
+
+// Fills every number of the work slice with one that no call may read.
+void desk_dirty(struct desk *d);
+
+// Says where two desks differ, or gives NULL.
+const char *desk_differs(const struct desk *one, const struct desk *other);
+
+// The paths from the diagrams of the and, not and since rows to the leaves, all together: what a walk that remembers
+// nothing goes through at least in an event.
+double desk_paths(const struct desk *d, const struct workload *w);
+
+#endif

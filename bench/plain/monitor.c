@@ -1,0 +1,184 @@
+#include "diagram.h"
+#include "lists.h"
+#include "plain.h"
+#include "rule.h"
+
+#include <string.h>
+
+// The 71 numbers of a state.
+struct state {
+    uint32_t k, rows, kept;
+    uint32_t counts[VARIABLES];
+    uint32_t refs[MOST_ROWS];
+};
+
+enum { STATE = sizeof(struct state) / sizeof(uint32_t), ANSWER = 4, MOST_NODES = 4096 };
+
+static void say(uint32_t *answer, uint32_t a, uint32_t b, uint32_t c, uint32_t d)
+{
+    memcpy(answer, (uint32_t[ANSWER]){a, b, c, d}, ANSWER * sizeof *answer);
+}
+
+// Refusals 1 to 3 as start gives them, or 0.
+static uint32_t refused(uint32_t k, struct rule *rule, const uint32_t *rows, size_t rows_len, size_t nodes_len,
+                        size_t values_len, uint32_t *place)
+{
+    *place = 0;
+    if (k < 1 || k > 10)
+        return 1;
+    if (!rule_read(rule, rows, rows_len, place))
+        return 2;
+    *place = 0;
+    if (nodes_len % 3 != 0 || nodes_len < 3 || nodes_len > 3 * MOST_NODES || values_len != VARIABLES * ((1u << k) - 1))
+        return 3;
+    return 0;
+}
+
+bool plain_start(uint32_t k, const uint32_t *rows, size_t rows_len, uint32_t *nodes, size_t nodes_len,
+                 uint32_t *values, size_t values_len, uint32_t *state, size_t state_len, uint32_t *answer,
+                 size_t answer_len)
+{
+    if (state_len != STATE || answer_len != ANSWER)
+        return false;
+    struct rule rule;
+    uint32_t place;
+    uint32_t number = refused(k, &rule, rows, rows_len, nodes_len, values_len, &place);
+    say(answer, number, place, 0, 0);
+    memset(state, 0, STATE * sizeof *state);
+    if (number != 0)
+        return true;
+    memset(nodes, 0, nodes_len * sizeof *nodes);
+    memset(values, 0, values_len * sizeof *values);
+    state[0] = k;
+    state[1] = rule.count;
+    return true;
+}
+
+// The diagram of an atom that matches: its variables have the numbers of the event's values.
+static uint32_t cube(struct diagrams *d, uint32_t k, const struct row *row, const struct asked *asked)
+{
+    uint32_t number[VARIABLES];
+    memset(number, 0xff, sizeof number);
+    for (uint32_t j = 0; j < row->q; j++) {
+        uint32_t v = row->arguments[j].value;
+        if (row->arguments[j].mark == 0)
+            number[v] = asked->numbers[v][j];
+    }
+    uint32_t is = 1;
+    for (uint32_t v = VARIABLES; v-- > 0;) {
+        if (number[v] == NO_NUMBER)
+            continue;
+        for (uint32_t b = k; b-- > 0 && is != FULL;)
+            is = number[v] >> b & 1 ? diagrams_make(d, v * k + b, 0, is) : diagrams_make(d, v * k + b, is, 0);
+    }
+    return is;
+}
+
+// The diagram of row i, from those of the rows before it and from those before the event.
+static uint32_t work_row(struct diagrams *d, uint32_t k, const struct row *row, uint32_t i, const uint32_t *news,
+                         const uint32_t *olds, const struct event *event, const struct asked *asked)
+{
+    uint32_t is;
+    switch (row->kind) {
+    case TRUE:
+        return 1;
+    case ATOM:
+        return row_matches(row, event) ? cube(d, k, row, asked) : 0;
+    case AND:
+        return diagrams_since(d, news[row->p], 0, news[row->q]);
+    case NOT:
+        return diagrams_not(d, news[row->p]);
+    case SINCE:
+        return diagrams_since(d, news[row->p], news[row->q], olds[i]);
+    case PREVIOUS:
+        return olds[row->p];
+    default:
+        is = news[row->q];
+        for (uint32_t b = k; b-- > 0 && is != FULL;)
+            is = diagrams_without(d, row->p * k + b, is);
+        return is;
+    }
+}
+
+// Works all rows, and says whether there was room.
+static bool work_rows(struct diagrams *d, const struct state *state, const struct rule *rule,
+                      const struct event *event, const struct asked *asked, uint32_t news[MOST_ROWS])
+{
+    for (uint32_t i = 0; i < rule->count; i++) {
+        news[i] = work_row(d, state->k, &rule->rows[i], i, news, state->refs, event, asked);
+        if (news[i] == FULL)
+            return false;
+    }
+    return true;
+}
+
+static bool state_right(struct diagrams *d, const struct state *state, const struct rule *rule,
+                        const uint32_t *values)
+{
+    if (state->rows != rule->count)
+        return false;
+    for (uint32_t i = rule->count; i < MOST_ROWS; i++)
+        if (state->refs[i] != 0)
+            return false;
+    return lists_right((1u << state->k) - 1, state->counts, values) &&
+           diagrams_take(d, state->kept, state->k, state->refs, rule->free, rule->count);
+}
+
+// An event whose lengths are right. Gives the answer; d is left open, and *state and the nodes are as they must be.
+static void judge(struct diagrams *d, struct state *state, const struct rule *rule, uint32_t *values,
+                  const struct event *event, uint32_t *answer)
+{
+    uint32_t most = (1u << state->k) - 1;
+    if (!state_right(d, state, rule, values)) {
+        say(answer, 4, 0, 0, 0);
+        return;
+    }
+    if (event->count > ARGUMENTS || rule_disagrees(rule, event->predicate, event->count)) {
+        say(answer, 5, 0, 0, 0);
+        return;
+    }
+    struct asked asked;
+    lists_ask(&asked, most, state->counts, values, rule, event);
+    for (uint32_t v = 0; v < VARIABLES; v++)
+        if (asked.counts[v] > most) {
+            say(answer, 6, v, 0, 0);
+            return;
+        }
+    uint32_t news[MOST_ROWS];
+    if (!work_rows(d, state, rule, event, &asked, news)) {
+        say(answer, 7, 0, 0, 0);
+        return;
+    }
+    lists_write(&asked, most, state->counts, values);
+    memcpy(state->counts, asked.counts, sizeof state->counts);
+    state->kept = diagrams_sweep(d, news, rule->count);
+    memcpy(state->refs, news, rule->count * sizeof news[0]);
+    say(answer, 0, state->refs[rule->count - 1], state->kept, d->count);
+}
+
+bool plain_event(const uint32_t *rows, size_t rows_len, uint32_t *nodes, size_t nodes_len, uint32_t *values,
+                 size_t values_len, uint32_t *work, size_t work_len, uint32_t predicate, uint32_t count,
+                 uint32_t first, uint32_t second, uint32_t third, uint32_t *numbers, size_t state_len,
+                 uint32_t *answer, size_t answer_len)
+{
+    if (state_len != STATE || answer_len != ANSWER)
+        return false;
+    struct state *state = (struct state *)numbers;
+    struct rule rule;
+    uint32_t place;
+    uint32_t number = refused(state->k, &rule, rows, rows_len, nodes_len, values_len, &place);
+    uint32_t capacity = (uint32_t)(nodes_len / 3);
+    if (number == 0 && work_len < diagrams_work(capacity))
+        number = 3;
+    if (number != 0) {
+        say(answer, number, place, 0, 0);
+        return true;
+    }
+    struct diagrams d;
+    diagrams_open(&d, nodes, capacity, work);
+    struct event event = {predicate, count, {first, second, third}};
+    judge(&d, state, &rule, values, &event, answer);
+    // A state that is not well formed keeps all its nodes.
+    diagrams_close(&d, answer[0] == 4 ? d.count : state->kept);
+    return true;
+}
