@@ -56,10 +56,8 @@ double desk_paths(const struct desk *d, const struct workload *w)
     paths[0] = paths[1] = 1;
     for (uint32_t j = 0; j < d->state[2]; j++)
         paths[j + 2] = paths[d->nodes[3 * j + 1]] + paths[d->nodes[3 * j + 2]];
-    for (size_t i = 0; i < w->row_count; i++) {
-        uint32_t kind = w->rows[9 * i];
-        if (kind == AND || kind == NOT || kind == SINCE)
+    for (size_t i = 0; i < w->row_count; i++)
+        if (w->rows[9 * i] == NOT)
             all += paths[d->state[7 + i]];
-    }
     return all;
 }

@@ -23,8 +23,8 @@ void desk_dirty(struct desk *d);
 // Says where two desks differ, or gives NULL.
 const char *desk_differs(const struct desk *one, const struct desk *other);
 
-// The paths from the diagrams of the and, not and since rows to the leaves, all together: what a walk that remembers
-// nothing goes through at least in an event.
+// The paths from the diagrams of the not rows to the leaves, all together. A complement that remembers nothing goes down
+// each of them in an event.
 double desk_paths(const struct desk *d, const struct workload *w);
 
 #endif

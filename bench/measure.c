@@ -129,7 +129,7 @@ static const char *set_workload(const char *name)
         workload_pairs(&work, 10, 4096, 400, 200);
         says = "pairs, two variables";
     } else if (strcmp(name, "join") == 0) {
-        workload_join(&work, 10, 4096, 60, 1000);
+        workload_join(&work, 10, 4096, 60, 1600);
         says = "join, three variables";
     } else if (strcmp(name, "small") == 0) {
         workload_lots(&work, 3, 64, 6, 2000);
@@ -153,17 +153,29 @@ static const char *grouped(char text[32], double number)
     return text;
 }
 
+// A large number by its power of ten.
+static const char *rounded(char text[32], double number)
+{
+    int power = 0;
+    if (number < 1e6)
+        return grouped(text, number);
+    for (; number >= 9.95; power++)
+        number /= 10;
+    snprintf(text, 32, "%.1f × 10^%d", number, power);
+    return text;
+}
+
 static void main_table(void)
 {
-    char a[32], b[32];
-    printf("| Workload | k | C | Proved, events/s | Plain C, events/s | Ratio | Kept | Room | Most room | Paths in the last event | Paths in all events |\n");
-    printf("|---|---|---|---|---|---|---|---|---|---|---|\n");
+    char a[32], b[32], c[32], d[32], e[32];
+    printf("| Workload | k | C | Proved, events/s | Plain C, events/s | Ratio | Kept | Room | Most room");
+    printf(" | Paths, last event | Paths, all events |\n|---|---|---|---|---|---|---|---|---|---|---|\n");
     for (size_t i = 0; i < WORKLOADS; i++) {
         const char *says = set_workload(names[i]);
         struct figures f = measure();
-        printf("| %s | %u | %u | %s | %s | %.1f | %u | %u | %u | %.1e | %.1e |\n", says, work.k, work.capacity,
+        printf("| %s | %u | %s | %s | %s | %.1f | %u | %u | %u | %s | %s |\n", says, work.k, grouped(e, work.capacity),
                grouped(a, 1 / f.proved), grouped(b, 1 / f.plain), f.proved / f.plain, f.kept, f.room, f.most_room,
-               f.paths, f.all_paths);
+               rounded(c, f.paths), rounded(d, f.all_paths));
         fflush(stdout);
     }
 }

@@ -176,7 +176,7 @@ void workload_pairs(struct workload *w, uint32_t k, uint32_t capacity, uint32_t 
     }
 }
 
-enum { REQUEST = 1, ON = 2, OFF = 5 };
+enum { GRANTED = 1, ON = 2, OFF = 5, DENIED = 8 };
 
 static bool odd(uint32_t n)
 {
@@ -195,7 +195,10 @@ void workload_join(struct workload *w, uint32_t k, uint32_t capacity, uint32_t e
     for (uint32_t v = 0; v < 3; v++)
         sets[v] = lasting(w, ON + v, OFF + v, 1, v);
     uint32_t joined = differ(w, differ(w, sets[0], sets[1]), sets[2]);
-    never(w, row(w, AND, atom(w, REQUEST, 3, 0), joined), 3);
+    uint32_t granted = never(w, row(w, AND, atom(w, GRANTED, 3, 0), joined), 3);
+    uint32_t apart = row(w, NOT, joined, 0);
+    uint32_t denied = never(w, row(w, AND, atom(w, DENIED, 3, 0), apart), 3);
+    row(w, AND, granted, denied);
     for (uint32_t i = 0; i < numbers; i++)
         for (uint32_t v = 0; v < 3; v++)
             happens(w, (odd(i) ? ON : OFF) + v, 1, value(i), 0, 0);
@@ -208,9 +211,9 @@ void workload_join(struct workload *w, uint32_t k, uint32_t capacity, uint32_t e
         uint32_t a = chance(&seed, numbers), b = chance(&seed, numbers), c = chance(&seed, numbers);
         uint32_t v = chance(&seed, 3);
         happens(w, (odd(a) ? OFF : ON) + v, 1, value(a), 0, 0);
-        happens(w, REQUEST, 3, value(a), value(b), value(c));
+        happens(w, GRANTED, 3, value(a), value(b), value(c));
         happens(w, (odd(a) ? ON : OFF) + v, 1, value(a), 0, 0);
-        happens(w, REQUEST, 3, value(c), value(a), value(b));
+        happens(w, DENIED, 3, value(c), value(a), value(b));
     }
 }
 
