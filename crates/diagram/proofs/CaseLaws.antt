@@ -29,9 +29,9 @@ module _ (k count : ℕ) (allowed refs : List ℕ) (kept : ℕ) (ns w : List ℕ
   abbrev pub good : Bool
   good = wellKept (freeBy k allowed) (length ns / 3) count refs kept ns
 
-  -- the check has zeroed the first numbers of the work slice, and all that is to be zero at the end is zeroed after it
-  pub cleared-after : Fits k count (length ns) (length w) → {w₁ w₂ : List ℕ} → Zeroed 0 (length ns / 3) w w₁ → Zeroed 0 (16 * (length ns / 3) + 1024) w₁ w₂ → w₂ ≡ cleared (length ns / 3) w
-  cleared-after f z y = cleared-is (length ns / 3) w (f .room) (rest-more (z .rest) (omega arith)) (z .size) y
+  -- the check has changed only the first numbers of the work slice, and all that is to be zero at the end is zeroed after it
+  pub cleared-after : Fits k count (length ns) (length w) → {w₁ w₂ : List ℕ} → Rest (15 * (length ns / 3)) w w₁ → length w₁ ≡ length w → Zeroed 0 (16 * (length ns / 3) + 1024) w₁ w₂ → w₂ ≡ cleared (length ns / 3) w
+  cleared-after f r e y = cleared-is (length ns / 3) w (f .room) (rest-more r (omega arith)) e y
 
   module _ (plan : List Instruction) where
     -- unfit numbers or lengths
@@ -47,13 +47,13 @@ module _ (k count : ℕ) (allowed refs : List ℕ) (kept : ℕ) (ns w : List ℕ
       bad-leaves g e = rw (fits-of k count (length ns) (length w) f, g) (record { result = refl; nodes = refl; work = e })
 
       -- well kept diagrams: what the work leaves
-      pub good-leaves : {w₁ w₂ ns₂ : List ℕ} {x : Stepped} → good ≡ true → Zeroed 0 (length ns / 3) w w₁
+      pub good-leaves : {w₁ w₂ ns₂ : List ℕ} {x : Stepped} → good ≡ true → Rest (15 * (length ns / 3)) w w₁ → length w₁ ≡ length w
           → Leaves (workOutcome (leb (length (workTable k count plan refs kept ns)) (length ns / 3)) k count plan refs kept ns w₁) x ns₂ w₂
           → Leaves (stepOutcome k count plan allowed refs kept ns w) x ns₂ w₂
       unfolding stepOutcome
-      good-leaves {w₁} g z l =
+      good-leaves {w₁} g r e l =
           rw (fits-of k count (length ns) (length w) f, g)
-          (rw (outcome-same (leb (length (workTable k count plan refs kept ns)) (length ns / 3)) k count plan refs kept ns w w₁ (cleared-same (length ns / 3) w w₁ (f .room) (rest-more (z .rest) (omega arith)) (z .size))) at l)
+          (rw (outcome-same (leb (length (workTable k count plan refs kept ns)) (length ns / 3)) k count plan refs kept ns w w₁ (cleared-same (length ns / 3) w w₁ (f .room) (rest-more r (omega arith)) e)) at l)
 
   -- the check alone: unfit
   pub unfit-tells : (b : Bool) → Decides (Fits k count (length ns) (length w)) b → not b ≡ true → Tells (formedOutcome k count allowed refs kept ns w) formed.Unfit w

@@ -1,16 +1,23 @@
 -- Laws of the passes over references and single nodes. Assumes nothing.
 use Prim.Native.Nat.{ℕ, zero, suc, _+_, _*_, _-_, _≤_, _<_}
-use mathlib.Core.Path.{_≡_, refl}
-use mathlib.Core.Bool.{Bool, true, false, not}
+use mathlib.Core.Path.{_≡_, refl, sym}
+use mathlib.Core.Bool.{Bool, true, false, not, _&&_}
 use mathlib.Core.List.{List}
 use mathlib.Core.Logic.{_≢_, ⊎-elim}
 use native.Mathlib.Omega.{arith}
 use lib.Dec.{eqb, ltb}
 use lib.ListN.{length, getD, List·getD-eq-default}
-use borrow.Author.Tests.{eq-eqb, ne-eqb, lt-ltb, le-ltb}
+use borrow.Author.Tests.{eq-eqb, ne-eqb, eqb-true, lt-ltb, le-ltb}
+use Rattle.trees.specs.Table.{NodeIs}
 use Rattle.trees.specs.Kept.{above, nodeRight, equalNodes}
-use Rattle.trees.proofs.Tests.{lt-or-ge, false-true}
-use Rattle.diagram.specs.Checks.{Decides, ZeroFrom, Right, EqualBefore, Apart}
+use Rattle.trees.proofs.Tests.{lt-or-ge, false-true, not-true, and-true-l, and-true-r}
+use Rattle.diagram.specs.Checks.{Decides, ZeroFrom, Right, Apart}
+
+-- two equal nodes are told by the test
+pub equal-true : (ns : List ℕ) (i j : ℕ)
+    → getD ns (3 * i) 0 ≡ getD ns (3 * j) 0 → getD ns (3 * i + 1) 0 ≡ getD ns (3 * j + 1) 0 → getD ns (3 * i + 2) 0 ≡ getD ns (3 * j + 2) 0 → equalNodes ns i j ≡ true
+unfolding equalNodes
+equal-true ns i j e f g = rw (eq-eqb _ _ e, eq-eqb _ _ f, eq-eqb _ _ g)
 
 -- a test that failed
 pub says-no : (P : Type 0) (b : Bool) → Decides P b → not b ≡ true → P → ⊥
@@ -85,32 +92,24 @@ right-more {ns} {n} {levels} r e h = record {
   level = more (λ j. getD ns (3 * j) 0 < levels) n (r .level) h;
 }
 
--- two nodes' test, part by part
-module _ (ns : List ℕ) (i j : ℕ) where
-  pub equal-level : getD ns (3 * i) 0 ≢ getD ns (3 * j) 0 → false ≡ equalNodes ns i j
-  unfolding equalNodes
-  equal-level h = rw (ne-eqb _ _ h)
+-- two nodes that are told equal have the same numbers
+equal-node : (ns : List ℕ) (i j : ℕ) → equalNodes ns i j ≡ true → NodeIs ns j (getD ns (3 * i) 0) (getD ns (3 * i + 1) 0) (getD ns (3 * i + 2) 0)
+unfolding equalNodes
+equal-node ns i j e =
+    let level = eqb (getD ns (3 * i) 0) (getD ns (3 * j) 0) in
+    let low = eqb (getD ns (3 * i + 1) 0) (getD ns (3 * j + 1) 0) in
+    let high = eqb (getD ns (3 * i + 2) 0) (getD ns (3 * j + 2) 0) in
+    let f = and-true-r level (low && high) e in
+    record {
+      level = sym (eqb-true _ _ (and-true-l level (low && high) e));
+      low = sym (eqb-true _ _ (and-true-l low high f));
+      high = sym (eqb-true _ _ (and-true-r low high f));
+    }
 
-  -- equal levels and different low sides
-  pub equal-low : getD ns (3 * i) 0 ≡ getD ns (3 * j) 0 → getD ns (3 * i + 1) 0 ≢ getD ns (3 * j + 1) 0 → false ≡ equalNodes ns i j
-  unfolding equalNodes
-  equal-low e h = rw (eq-eqb _ _ e, ne-eqb _ _ h)
+-- one node more that stands at no place before
+pub apart-more : (ns : List ℕ) (n : ℕ) → Apart ns n → ((j : ℕ) → j < n → NodeIs ns j (getD ns (3 * n) 0) (getD ns (3 * n + 1) 0) (getD ns (3 * n + 2) 0) → ⊥) → Apart ns (n + 1)
+apart-more ns n a none i j = more (λ i. j < i → equalNodes ns i j ≡ false) n (λ i k l. a i j k l) (λ l. not-true (equalNodes ns n j) (λ e. none j l (equal-node ns n j e))) i
 
-  -- equal levels and low sides: the high sides decide
-  pub equal-high : getD ns (3 * i) 0 ≡ getD ns (3 * j) 0 → getD ns (3 * i + 1) 0 ≡ getD ns (3 * j + 1) 0 → eqb (getD ns (3 * i + 2) 0) (getD ns (3 * j + 2) 0) ≡ equalNodes ns i j
-  unfolding equalNodes
-  equal-high e f = rw (eq-eqb _ _ e, eq-eqb _ _ f)
-
--- one node more that equals none before it
-apart-more : (ns : List ℕ) (n : ℕ) → Apart ns n → ((j : ℕ) → j < n → equalNodes ns n j ≡ false) → Apart ns (n + 1)
-apart-more ns n a h i j = more (λ i. j < i → equalNodes ns i j ≡ false) n (λ i k l. a i j k l) (λ l. h j l) i
-
--- what the search for an equal node found
-pub before-some : (ns : List ℕ) (j : ℕ) (b : Bool) → EqualBefore ns j b → b ≡ true → Apart ns (j + 1) → ⊥
-before-some ns j true w e a = false-true (a j (w .0) (omega arith) (w .1)) (w .2)
-before-some ns j false w e a = false-true refl e
-
--- no node before j equals the one at j
-pub before-none : (ns : List ℕ) (j : ℕ) (b : Bool) → EqualBefore ns j b → b ≡ false → Apart ns j → Apart ns (j + 1)
-before-none ns j true w e a = absurd (false-true e refl)
-before-none ns j false w e a = apart-more ns j a w
+-- one that stands at a place before
+pub apart-not : (ns : List ℕ) (n i j : ℕ) → i < n → j < i → NodeIs ns j (getD ns (3 * i) 0) (getD ns (3 * i + 1) 0) (getD ns (3 * i + 2) 0) → Apart ns n → ⊥
+apart-not ns n i j h k w a = false-true (a i j h k) (equal-true ns i j (sym (w .level)) (sym (w .low)) (sym (w .high)))

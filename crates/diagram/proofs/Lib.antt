@@ -1,5 +1,6 @@
 -- The laws that the proofs of the diagram layer cite.
 pub mod NodesLaws
+pub mod ChainLaws
 pub mod SideLaws
 pub mod WalkLaws
 pub mod SettleLaws

@@ -18,6 +18,7 @@ use Rattle.diagram.specs.Nodes.{Table}
 use Rattle.diagram.specs.Sweeps.{Rows}
 use Rattle.diagram.specs.Checks.{Inside, Right, Apart}
 use Rattle.diagram.proofs.ReadLaws.{Back, at-node}
+use Rattle.diagram.proofs.CheckLaws.{equal-true}
 
 -- what the test of a node says
 pub record NodeRight (ns : List ℕ) (j : ℕ) : Type 0 where
@@ -48,12 +49,6 @@ node-right ns j e =
 -- the references of right nodes go back
 pub right-back : (ns : List ℕ) (n : ℕ) → ((j : ℕ) → j < n → nodeRight ns j ≡ true) → Back ns n
 right-back ns n r j h = let w = node-right ns j (r j h) in (w .low-back, w .high-back)
-
--- two equal nodes are told by the test
-equal-true : (ns : List ℕ) (i j : ℕ)
-    → getD ns (3 * i) 0 ≡ getD ns (3 * j) 0 → getD ns (3 * i + 1) 0 ≡ getD ns (3 * j + 1) 0 → getD ns (3 * i + 2) 0 ≡ getD ns (3 * j + 2) 0 → equalNodes ns i j ≡ true
-unfolding equalNodes
-equal-true ns i j e f g = rw (eq-eqb _ _ e, eq-eqb _ _ f, eq-eqb _ _ g)
 
 module _ (ns : List ℕ) (n levels : ℕ) (right : Right ns n levels) (apart : Apart ns n) where
   one-right : (j : ℕ) → j < n → NodeRight ns j

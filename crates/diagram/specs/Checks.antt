@@ -35,11 +35,6 @@ pub record Right (ns : List ℕ) (n levels : ℕ) : Type 0 where
   pub node : (j : ℕ) → j < n → nodeRight ns j ≡ true
   pub level : (j : ℕ) → j < n → getD ns (3 * j) 0 < levels
 
--- what a search for a node before j that equals the node at j answers
-abbrev pub EqualBefore : List ℕ → ℕ → Bool → Type 0
-EqualBefore ns j true = (i : ℕ) × (i < j) × (equalNodes ns j i ≡ true)
-EqualBefore ns j false = (i : ℕ) → i < j → equalNodes ns j i ≡ false
-
 -- no two of the first n nodes are equal
 abbrev pub Apart : List ℕ → ℕ → Type 0
 Apart ns n = (i j : ℕ) → i < n → j < i → equalNodes ns i j ≡ false

@@ -16,6 +16,11 @@ pub record Front (k : ℕ) (xs ys : List ℕ) : Type 0 where
 pub record Rest (k : ℕ) (xs ys : List ℕ) : Type 0 where
   pub eq : (i : ℕ) → k ≤ i → getD ys i 0 ≡ getD xs i 0
 
+-- the numbers before place j and those from place k on are the same
+pub record Between (j k : ℕ) (xs ys : List ℕ) : Type 0 where
+  pub same : Front j xs ys
+  pub rest : Rest k xs ys
+
 -- the first n nodes are a table: their references go back, and no two references lead to the same tree
 pub record Table (ns : List ℕ) (n : ℕ) : Type 0 where
   pub small : length ns ≤ 12288

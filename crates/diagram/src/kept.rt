@@ -1,5 +1,5 @@
 // Whether a state's diagrams are well kept: the clauses of refusal 4 that speak of nodes and references. Each pass is linear
-// in the kept nodes but for the search for equal nodes. Assumes nothing.
+// in the kept nodes, the search for equal nodes but for collisions. Assumes nothing.
 mod each; // references and nodes by themselves
 mod order; // canonical order
 mod free; // the rows' variables
@@ -11,17 +11,16 @@ use crate::kept::each::none_past;
 use crate::kept::each::rest_zero;
 use crate::kept::free::free_only;
 use crate::kept::order::rows_in_order;
-use crate::sweep::zero;
 ghost use mathlib.Core.Path.{_≡_};
-ghost use Prim.Native.Nat.{_/_, _≤_};
+ghost use Prim.Native.Nat.{_*_, _/_, _≤_};
 ghost use lib.ListN.{length};
 ghost use Rattle.trees.specs.Kept.{wellKept};
 ghost use Rattle.diagram.specs.Nodes.{Rest};
-ghost use Rattle.diagram.specs.Sweeps.{Zeroed};
 ghost use Rattle.diagram.specs.Checks.{freeBy, Sized};
 
-// Whether the diagrams are well kept, pass after pass. The last pass leaves its marks in the first numbers of `work`.
-fn passes(
+// Whether a state's diagrams are well kept, pass after pass, for a rule of `count` rows of which row i may ask the variables of
+// allowed[i]. With c nodes in the slice, the passes use the first 15 * c numbers of `work` and leave them as they fall.
+pub fn check(
     k: u32,
     count: u32,
     allowed: [u32; 64],
@@ -33,7 +32,7 @@ fn passes(
     requires { ⌜ (1 ≤ k) × (k ≤ 10) × (count ≤ 64) ⌝ }
     requires { ⌜ Sized (now nodes) (now work) ⌝ }
     ensures { λ b. ⌜ b ≡ wellKept (freeBy k allowed) (length (now (nodes .entry)) / 3) count refs kept (now (nodes .entry)) ⌝ }
-    ensures { λ _. ⌜ Rest (length (now (nodes .entry)) / 3) (now (work .entry)) (now (work .exit)) ⌝ }
+    ensures { λ _. ⌜ Rest (15 * (length (now (nodes .entry)) / 3)) (now (work .entry)) (now (work .exit)) ⌝ }
 {
     let c = nodes.len() / 3;
     let m = kept as usize;
@@ -52,32 +51,11 @@ fn passes(
     if !all_right(nodes, kept, 4 * k) {
         return false;
     }
-    if !all_differ(nodes, kept) {
+    if !all_differ(nodes, kept, work) {
         return false;
     }
     if !rows_in_order(nodes, kept, 4 * k, refs, count) {
         return false;
     }
     free_only(nodes, kept, work, k, allowed, refs, count)
-}
-
-// Whether a state's diagrams are well kept, for a rule of `count` rows of which row i may ask the variables of allowed[i].
-// The first numbers of `work`, one for each node of the slice, are 0 after it.
-pub fn check(
-    k: u32,
-    count: u32,
-    allowed: [u32; 64],
-    refs: [u32; 64],
-    kept: u32,
-    nodes: &[u32],
-    work: &mut [u32],
-) -> bool
-    requires { ⌜ (1 ≤ k) × (k ≤ 10) × (count ≤ 64) ⌝ }
-    requires { ⌜ Sized (now nodes) (now work) ⌝ }
-    ensures { λ b. ⌜ b ≡ wellKept (freeBy k allowed) (length (now (nodes .entry)) / 3) count refs kept (now (nodes .entry)) ⌝ }
-    ensures { λ _. ⌜ Zeroed 0 (length (now (nodes .entry)) / 3) (now (work .entry)) (now (work .exit)) ⌝ }
-{
-    let b = passes(k, count, allowed, refs, kept, nodes, work);
-    zero(work, 0, nodes.len() / 3);
-    b
 }

@@ -6,6 +6,7 @@
 ghost use lib.ListN.{length};
 ghost use Rattle.diagram.specs.Steps.{stepOutcome, formedOutcome, Leaves, Tells};
 
+mod chain;
 mod cube;
 mod kept;
 mod memory;

@@ -1,6 +1,7 @@
 // The rows' work, one after the other, and what follows it: the sweep, or the refusal. Regions of the work slice, with c nodes
 // in the node slice: the sweep's table before 3 * c, its notes before 4 * c, the map of complements before 5 * c, the memory
-// of results before 13 * c; from there to 15 * c nothing is kept yet: that is left for buckets of nodes.
+// of results before 13 * c, the heads of the buckets of nodes before 14 * c, their links before 15 * c. The check uses the
+// first c for its marks, and the buckets.
 ghost use mathlib.Core.Path.{_≡_};
 ghost use Prim.Native.Nat.{ℕ, _*_, _/_, _≤_};
 ghost use lib.Dec.{leb};

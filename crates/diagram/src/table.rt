@@ -4,28 +4,11 @@ ghost use Prim.Native.Nat.{_+_, _*_, _<_, _≤_};
 ghost use lib.ListN.{length};
 ghost use Rattle.trees.specs.Tree.{mk};
 ghost use Rattle.trees.specs.Table.{at, treesOf};
-ghost use Rattle.diagram.specs.Nodes.{Table, Holds, Found, Splits, Sides, firstLevel};
+ghost use Rattle.diagram.specs.Nodes.{Table, Found, Splits, Sides, firstLevel};
 ghost use Rattle.diagram.specs.Walks.{Added};
 use crate::Made;
 use crate::Node;
-
-// Whether the node at place j is this one.
-fn holds(nodes: &[u32], j: usize, level: u32, low: u32, high: u32) -> bool
-    requires { ⌜ 3 * j + 2 < length (now nodes) ⌝ }
-    ensures { λ r. ⌜ Holds (now (nodes .entry)) j level low high r ⌝ }
-{
-    let i = 3 * j;
-    if nodes[i] != level {
-        return false;
-    }
-    if nodes[i + 1] != low {
-        return false;
-    }
-    if nodes[i + 2] != high {
-        return false;
-    }
-    true
-}
+use crate::chain::holds;
 
 // The place of a node among the first n, or n.
 fn find(nodes: &[u32], n: u32, level: u32, low: u32, high: u32) -> u32

@@ -1,9 +1,14 @@
 // The passes over single references and single nodes, and the search for equal nodes. Assumes nothing.
+use crate::chain::join;
+use crate::chain::seek;
+use crate::chain::slot;
+use crate::sweep::zero;
 ghost use mathlib.Core.Path.{_≡_};
-ghost use Prim.Native.Nat.{_+_, _*_, _-_, _<_, _≤_};
+ghost use Prim.Native.Nat.{_+_, _*_, _-_, _/_, _<_, _≤_};
 ghost use lib.ListN.{length};
-ghost use Rattle.trees.specs.Kept.{above, nodeRight, equalNodes};
-ghost use Rattle.diagram.specs.Checks.{Decides, Inside, ZeroFrom, Right, EqualBefore, Apart};
+ghost use Rattle.trees.specs.Kept.{above, nodeRight};
+ghost use Rattle.diagram.specs.Nodes.{Between};
+ghost use Rattle.diagram.specs.Checks.{Decides, Inside, ZeroFrom, Right, Apart, Sized};
 
 // Whether the references of the first `count` rows lead to kept nodes or leaves.
 pub fn inside(refs: [u32; 64], count: u32, kept: u32) -> bool
@@ -105,47 +110,27 @@ pub fn all_right(nodes: &[u32], n: u32, levels: u32) -> bool
     true
 }
 
-// Whether the nodes at two places are equal.
-fn same_node(nodes: &[u32], i: u32, j: u32) -> bool
-    requires { ⌜ (3 * i + 2 < length (now nodes)) × (3 * j + 2 < length (now nodes)) ⌝ }
-    ensures { λ b. ⌜ b ≡ equalNodes (now (nodes .entry)) i j ⌝ }
-{
-    let p = 3 * (i as usize);
-    let q = 3 * (j as usize);
-    if nodes[p] != nodes[q] {
-        return false;
-    }
-    if nodes[p + 1] != nodes[q + 1] {
-        return false;
-    }
-    nodes[p + 2] == nodes[q + 2]
-}
-
-// Whether a node before place j equals the one at j.
-fn equal_before(nodes: &[u32], j: u32) -> bool
-    requires { ⌜ 3 * j + 2 < length (now nodes) ⌝ }
-    ensures { λ b. ⌜ EqualBefore (now (nodes .entry)) j b ⌝ }
-{
-    let mut i = 0;
-    while i < j {
-        if same_node(nodes, j, i) {
-            return true;
-        }
-        i += 1;
-    }
-    false
-}
-
-// Whether no two of the first n nodes are equal.
-pub fn all_differ(nodes: &[u32], n: u32) -> bool
-    requires { ⌜ 3 * n ≤ length (now nodes) ⌝ }
+// Whether no two of the first n nodes are equal. Each place is chained from the head of its node's bucket, so only that chain
+// is walked. With c nodes in the slice the heads stand in `work` from 13 * c on, and the links from 14 * c on.
+pub fn all_differ(nodes: &[u32], n: u32, work: &mut [u32]) -> bool
+    requires { ⌜ Sized (now nodes) (now work) × (3 * n ≤ length (now nodes)) ⌝ }
     ensures { λ b. ⌜ Decides (Apart (now (nodes .entry)) n) b ⌝ }
+    ensures { λ _. ⌜ Between (13 * (length (now (nodes .entry)) / 3)) (15 * (length (now (nodes .entry)) / 3)) (now (work .entry)) (now (work .exit)) ⌝ }
 {
+    let c = nodes.len() / 3;
+    let links = 14 * c;
+    zero(work, 13 * c, links);
     let mut j = 0;
     while j < n {
-        if equal_before(nodes, j) {
+        let i = 3 * (j as usize);
+        let level = nodes[i];
+        let low = nodes[i + 1];
+        let high = nodes[i + 2];
+        let head = 13 * c + slot(level, low, high, c);
+        if seek(nodes, work, links, work[head], level, low, high) != 0 {
             return false;
         }
+        join(work, head, links, j);
         j += 1;
     }
     true

@@ -1,8 +1,10 @@
 -- `slot` meets its contract. Assumes nothing.
+use mathlib.Core.Path.{refl}
 use native.Mathlib.Nat.{mod-lt}
 use borrow.Author.Needs.{needs}
-use Rattle.diagram.proofs.memory.slot.Statement.{statement}
-use Rattle.diagram.proofs.memory.slot.Tie as tie
+use Rattle.diagram.specs.Chains.{spread}
+use Rattle.diagram.proofs.chain.slot.Statement.{statement}
+use Rattle.diagram.proofs.chain.slot.Tie as tie
 
 mul-mixed : tie.Need-mul-mixed
 mul-mixed c = search needs
@@ -19,13 +21,17 @@ mul-mixed-3 c = search needs
 add-mixed-2 : tie.Need-add-mixed-2
 add-mixed-2 c = search needs
 
+add-result : tie.Need-add-result
+add-result c = search needs
+
 rem-result : tie.Need-rem-result
 rem-result c = search needs
 
 returns : tie.Need-returns
-returns c = mod-lt _ (c .pre)
+unfolding spread
+returns c = (mod-lt _ (c .pre), refl)
 
 pub slot-spec : {M : Type 1} → statement M
 slot-spec =
     tie.close
-    (tie.spec mul-mixed mul-mixed-2 add-mixed mul-mixed-3 add-mixed-2 rem-result returns)
+    (tie.spec mul-mixed mul-mixed-2 add-mixed mul-mixed-3 add-mixed-2 add-result rem-result returns)
