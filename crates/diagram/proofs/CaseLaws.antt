@@ -1,6 +1,6 @@
 -- The cases of a step and of a check, by the tests that tell them apart. Assumes nothing.
-use Prim.Native.Nat.{ℕ, _+_, _*_, _/_, _≤_}
-use mathlib.Core.Path.{_≡_, refl, sym, _∙_}
+use Prim.Native.Nat.{ℕ, _+_, _*_, _/_}
+use mathlib.Core.Path.{_≡_, refl}
 use mathlib.Core.Bool.{Bool, true, false, not}
 use mathlib.Core.List.{List}
 use native.Mathlib.Omega.{arith}
@@ -11,12 +11,12 @@ use Rattle.diagram.specs.declared.Instruction.{Instruction}
 use Rattle.diagram.specs.declared.Stepped.{Stepped}
 use Rattle.diagram.specs.declared.Told.the-variants.{Unfit, Bad}
 use Rattle.diagram.specs.declared.Formed.the-variants as formed
-use Rattle.diagram.specs.Nodes.{Rest}
-use Rattle.diagram.specs.Sweeps.{Zeroed}
-use Rattle.diagram.specs.Checks.{Decides, freeBy, Sized}
-use Rattle.diagram.specs.Steps.{workTable, cleared, workOutcome, judge, stepOutcome, Leaves, judgeFormed, formedOutcome, Tells}
+use Rattle.trees.proofs.KeptLaws.{not-false}
+use Rattle.nodes.specs.Nodes.{Rest, Zeroed, Decides}
+use Rattle.keeping.specs.Checks.{freeBy, Sized}
+use Rattle.diagram.specs.Steps.{workTable, cleared, workOutcome, stepOutcome, Leaves, formedOutcome, Tells}
 use Rattle.diagram.specs.Works.{Fits}
-use Rattle.diagram.proofs.FitLaws.{fits-of, fits-is, turned-true}
+use Rattle.diagram.proofs.FitLaws.{fits-of, fits-is}
 use Rattle.diagram.proofs.ClearLaws.{cleared-is, cleared-same, rest-more}
 use Rattle.diagram.proofs.OutcomeLaws.{outcome-same}
 
@@ -38,7 +38,7 @@ module _ (k count : ℕ) (allowed refs : List ℕ) (kept : ℕ) (ns w : List ℕ
     pub unfit-leaves : (b : Bool) → Decides (Fits k count (length ns) (length w)) b → not b ≡ true
         → Leaves (stepOutcome k count plan allowed refs kept ns w) (record { told = Unfit; refs = refs }) ns w
     unfolding stepOutcome
-    unfit-leaves b d e = rw (fits-is k count (length ns) (length w) b d, turned-true b e) (record { result = refl; nodes = refl; work = refl })
+    unfit-leaves b d e = rw (fits-is k count (length ns) (length w) b d, not-false b e) (record { result = refl; nodes = refl; work = refl })
 
     module _ (f : Fits k count (length ns) (length w)) where
       -- diagrams that are not well kept
@@ -58,7 +58,7 @@ module _ (k count : ℕ) (allowed refs : List ℕ) (kept : ℕ) (ns w : List ℕ
   -- the check alone: unfit
   pub unfit-tells : (b : Bool) → Decides (Fits k count (length ns) (length w)) b → not b ≡ true → Tells (formedOutcome k count allowed refs kept ns w) formed.Unfit w
   unfolding formedOutcome
-  unfit-tells b d e = rw (fits-is k count (length ns) (length w) b d, turned-true b e) (record { result = refl; work = refl })
+  unfit-tells b d e = rw (fits-is k count (length ns) (length w) b d, not-false b e) (record { result = refl; work = refl })
 
   module _ (f : Fits k count (length ns) (length w)) {w₂ : List ℕ} (e : w₂ ≡ cleared (length ns / 3) w) where
     -- not well kept

@@ -1,6 +1,6 @@
 // The memory of results: four numbers a slot, three of the key and one more than the result, 0 in an empty slot. A key
 // has one slot, by a mix of its numbers, and is compared in full. Assumes that there is a slot.
-use crate::chain::slot;
+use nodes::chain::slot;
 ghost use Prim.Native.Nat.{_<_, _≤_};
 ghost use lib.ListN.{length};
 ghost use Rattle.diagram.specs.Walks.{Looked, Noted};

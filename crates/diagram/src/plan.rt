@@ -7,8 +7,7 @@ ghost use Prim.Native.Nat.{ℕ, _*_, _/_, _≤_};
 ghost use lib.Dec.{leb};
 ghost use lib.ListN.{length, getD};
 ghost use Rattle.trees.specs.Kept.{diagrams};
-ghost use Rattle.diagram.specs.Nodes.{Rest};
-ghost use Rattle.diagram.specs.Checks.{Decides};
+ghost use Rattle.nodes.specs.Nodes.{Rest, Decides};
 ghost use Rattle.diagram.specs.Steps.{workTable, workOutcome, Leaves};
 ghost use Rattle.diagram.specs.Works.{Fits, Desk, Leads, Ran, Ready};
 use crate::Instruction;
@@ -17,7 +16,7 @@ use crate::Stepped;
 use crate::Told;
 use crate::row::row;
 use crate::sweep::renew;
-use crate::sweep::zero;
+use nodes::zero;
 
 // Whether the numbers and lengths are ones that a step can work with.
 pub fn fit(k: u32, count: u32, nodes: usize, work: usize) -> bool

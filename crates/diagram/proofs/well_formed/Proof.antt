@@ -3,16 +3,16 @@ use mathlib.Core.Path.{sym, _∙_}
 use native.Mathlib.Omega.{arith}
 use lib.ListN.{length}
 use Rattle.diagram.specs.Works.{Fits}
-use Rattle.diagram.proofs.CheckLaws.{says-yes}
+use Rattle.keeping.proofs.CheckLaws.{says-yes}
 use Rattle.diagram.proofs.CaseLaws.{sized, cleared-after, unfit-tells, bad-tells, good-tells}
 use borrow.Author.Needs.{needs}
 use Rattle.diagram.proofs.well_formed.Statement.{statement}
 use Rattle.diagram.proofs.well_formed.Tie as tie
 use Rattle.diagram.proofs.well_formed.Reads as reads
 use Rattle.diagram.proofs.well_formed.Lts as lts
-use Rattle.diagram.proofs.kept.check.Reads as check-reads
+use Rattle.keeping.proofs.check.Reads as check-reads
 use Rattle.diagram.proofs.plan.fit.Reads as fit-reads
-use Rattle.diagram.proofs.sweep.zero.Reads as zero-reads
+use Rattle.nodes.proofs.zero.Reads as zero-reads
 
 fit-requires : tie.Need-fit-requires
 fit-requires c κs = search needs
