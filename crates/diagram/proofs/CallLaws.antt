@@ -9,9 +9,9 @@ use Rattle.trees.specs.Table.{at, treesOf}
 use Rattle.trees.proofs.FunctionLaws.{fine-of}
 use Rattle.diagram.specs.declared.Made.{Made}
 use Rattle.diagram.specs.declared.Made.the-variants.{Full, At}
-use Rattle.diagram.specs.Nodes.{Grown}
+use Rattle.nodes.specs.Nodes.{Grown}
 use Rattle.diagram.specs.Walks.{Added, AddedWith, Within, Memory, Complements}
-use Rattle.diagram.proofs.WalkLaws.{grown-ref}
+use Rattle.nodes.proofs.ReadLaws.{grown-ref}
 
 -- zeros as a memory
 pub memory-none : (ns mm : List ℕ) (n levels : ℕ) → 4 ≤ length mm → ((i : ℕ) → getD mm i 0 ≡ 0) → Memory ns n levels mm

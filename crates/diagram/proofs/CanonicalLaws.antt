@@ -1,22 +1,22 @@
 -- Laws of the canonical table: the rows' diagrams added in order, and the numbers that show it. Assumes nothing.
-use Prim.Native.Nat.{ℕ, zero, suc, _+_, _*_, _-_, _/_, _%_, _≤_, _<_}
+use Prim.Native.Nat.{ℕ, zero, suc, _+_, _*_, _-_, _/_, _≤_, _<_}
 use mathlib.Core.Path.{_≡_, refl, sym, ap, _∙_}
-use mathlib.Core.List.{List, [], _∷_, _++_, map, append-nil}
+use mathlib.Core.List.{List, [], _++_}
 use mathlib.Core.Logic.{⊎-elim}
 use native.Mathlib.Omega.{arith}
 use native.Mathlib.Decide.{ℕ-discrete}
-use native.Mathlib.Numerals.{add-one}
-use lib.ListN.{length, getD, set, take, replicate, length-append, length-set, length-replicate, getD-replicate, List·getD-append, List·getD-eq-default}
-use lib.Seq.{ext-getD, getD-take, getD-append-add, length-take-le, take-suc, take-take, getD-set-same, getD-set-other}
-use Rattle.trees.specs.Tree.{Tree, off}
-use Rattle.trees.specs.Table.{addTree, addTrees, at, refOf, show, nodeAt, treesOf, Ref, NodeIs}
+use lib.ListN.{length, getD, set, take, replicate, length-append, length-set, length-replicate, getD-replicate, List·getD-append}
+use lib.Seq.{ext-getD, getD-take, getD-append-add, length-take-le, take-take, getD-set-same, getD-set-other}
+use Rattle.trees.specs.Tree.{Tree}
+use Rattle.trees.specs.Table.{addTree, addTrees, at, refOf, show, treesOf, Ref}
 use Rattle.trees.specs.Kept.{diagrams}
 use Rattle.trees.proofs.Tests.{lt-or-ge}
-use Rattle.trees.proofs.TableLaws.{at-index, goes-ref}
-use Rattle.trees.proofs.ShowLaws.{IsNode, ref-whole, show-length, show-at}
-use Rattle.diagram.specs.Nodes.{Rest, Table}
-use Rattle.diagram.specs.Sweeps.{Zeroed, Noted, Emitted, canonical, Copied, Renewal}
-use Rattle.diagram.proofs.ReadLaws.{length-trees, at-node, grown-goes}
+use Rattle.trees.proofs.TableLaws.{goes-ref}
+use Rattle.nodes.specs.Nodes.{Rest, Table, Zeroed, canonical}
+use Rattle.diagram.specs.Sweeps.{Noted, Emitted, Copied, Renewal}
+use Rattle.trees.proofs.CanonicalLaws.{zeros-at}
+use Rattle.trees.proofs.ReadLaws.{length-trees, ref-is, numbers-show}
+use Rattle.nodes.proofs.ReadLaws.{grown-goes, canonical-suc}
 
 -- the numbers copied so far
 pub record CopiedTo (work nodes₀ nodes : List ℕ) (i : ℕ) : Type 0 where
@@ -50,66 +50,6 @@ copied-all work nodes₀ nodes ms k h u w z =
         let e : length (take k work) + (i - k) ≡ i = rw front (omega arith) in
         rw (← e) (getD-append-add (take k work) (replicate (length nodes₀ - k) 0) (i - k) 0 ∙ getD-replicate (length nodes₀ - k) (i - k) 0 0 (omega arith))
 
--- one diagram more
-adds-snoc : (ds ts : List Tree) (d : Tree) → addTrees ts (ds ++ d ∷ []) ≡ addTree (addTrees ts ds) d
-unfolding addTrees
-adds-snoc [] ts d = refl
-adds-snoc (x ∷ ds) ts d = adds-snoc ds (addTree ts x) d
-
--- a map over one element more
-map-snoc : (f : ℕ → Tree) (xs : List ℕ) (x : ℕ) → map f (xs ++ x ∷ []) ≡ map f xs ++ f x ∷ []
-map-snoc f [] x = refl
-map-snoc f (y ∷ xs) x = ap (λ (l : List Tree). f y ∷ l) (map-snoc f xs x)
-
--- the canonical table of one row more
-pub canonical-suc : (ns : List ℕ) (m : ℕ) (refs : List ℕ) (i : ℕ) → i < length refs
-    → canonical ns m refs (i + 1) ≡ addTree (canonical ns m refs i) (at (treesOf ns m) (getD refs i 0))
-unfolding canonical diagrams
-canonical-suc ns m refs i h = rw (add-one, take-suc refs i 0 h, map-snoc) (adds-snoc (map (at (treesOf ns m)) (take i refs)) [] (at (treesOf ns m) (getD refs i 0)))
-
--- a reference into a table is the one that its tree has
-pub ref-is : (ns : List ℕ) (n r : ℕ) (d : Tree) → Table ns n → Ref (treesOf ns n) r d → r ≡ refOf (treesOf ns n) d
-ref-is ns n r d t w =
-    let len = length-trees ns n in
-    let v = ref-whole (treesOf ns n) d (r, w) in
-    t .one r (refOf (treesOf ns n) d) (omega (arith, w .below)) (omega (arith, v .below)) (w .is ∙ sym (v .is))
-
--- the trees that numbers show are nodes
-trees-nodes : (ns : List ℕ) (n : ℕ) → Table ns n → (j : ℕ) → j < length (treesOf ns n) → IsNode (getD (treesOf ns n) j off)
-unfolding nodeAt
-trees-nodes ns n t j h = rw (← at-index (treesOf ns n) j, at-node ns n j (t .back) (omega (arith, length-trees ns n))) tt
-
--- the numbers of a table are those that show its trees
-module _ (ns : List ℕ) (n : ℕ) (t : Table ns n) where
-  shown : (j : ℕ) → j < n → NodeIs (show (treesOf ns n) (treesOf ns n)) j (getD ns (3 * j) 0) (getD ns (3 * j + 1) 0) (getD ns (3 * j + 2) 0)
-  unfolding nodeAt
-  shown j h =
-      let len = length-trees ns n in
-      let T : List Tree = treesOf ns n in
-      let e = sym (at-index T j) ∙ at-node ns n j (t .back) h in
-      let v = rw append-nil at (show-at T T [] j (getD ns (3 * j) 0) (at T (getD ns (3 * j + 1) 0)) (at T (getD ns (3 * j + 2) 0)) (trees-nodes ns n t) (omega arith) e) in
-      let b = t .back j h in
-      record {
-        level = v .level;
-        low = v .low ∙ sym (ref-is ns n (getD ns (3 * j + 1) 0) _ t (record { below = omega arith; is = refl }));
-        high = v .high ∙ sym (ref-is ns n (getD ns (3 * j + 2) 0) _ t (record { below = omega arith; is = refl }));
-      }
-
-  -- so the first numbers are those that show the table
-  pub numbers-show : take (3 * n) ns ≡ show (treesOf ns n) (treesOf ns n)
-  numbers-show =
-      ext-getD 0 (take (3 * n) ns) (show (treesOf ns n) (treesOf ns n)) (size ∙ sym (show-length _ _ (trees-nodes ns n t) ∙ ap (λ (k : ℕ). 3 * k) (length-trees ns n)))
-      (λ i h. getD-take (3 * n) ns i 0 (omega (arith, size)) ∙ sym (third i (i / 3) (omega (arith, size)) (i % 3) (omega arith) (omega arith)))
-    where
-      size : length (take (3 * n) ns) ≡ 3 * n
-      size = length-take-le (3 * n) ns (t .fits)
-
-      third : (i j : ℕ) → j < n → (k : ℕ) → k < 3 → i ≡ 3 * j + k → getD (show (treesOf ns n) (treesOf ns n)) i 0 ≡ getD ns i 0
-      third i j h zero l e = let z : i ≡ 3 * j = omega arith in rw z (shown j h .level)
-      third i j h (suc zero) l e = let z : i ≡ 3 * j + 1 = omega arith in rw z (shown j h .low)
-      third i j h (suc (suc zero)) l e = let z : i ≡ 3 * j + 2 = omega arith in rw z (shown j h .high)
-      third i j h (suc (suc (suc k))) l e = absurd (omega arith)
-
 -- the sweep of the first i references
 pub record Going (ns : List ℕ) (m : ℕ) (refs w₀ w : List ℕ) (c n i : ℕ) (out : List ℕ) : Type 0 where
   pub notes : Noted ns m w c n
@@ -119,10 +59,6 @@ pub record Going (ns : List ℕ) (m : ℕ) (refs w₀ w : List ℕ) (c n i : ℕ
   pub wide : length out ≡ 64
   pub size : length w ≡ length w₀
   pub rest : Rest (4 * c) w₀ w
-
--- a list of zeros reads as 0 everywhere
-zeros-at : (k j : ℕ) → _≡_ {A = ℕ} (getD (replicate k 0) j 0) 0
-zeros-at k j = ⊎-elim (λ h. getD-replicate k j 0 0 h) (λ h. List·getD-eq-default (replicate k 0) 0 (rw length-replicate h)) (lt-or-ge j k)
 
 -- before the first reference: an empty table and no notes
 pub going-none : (ns : List ℕ) (m : ℕ) (refs w : List ℕ) (c : ℕ) → Table ns m → length ns ≡ 3 * c → 4 * c ≤ length w
@@ -191,11 +127,11 @@ going-all {ns} {m} {refs} {w = w} {c} {n} {i} {out} g =
     record {
       size = sym (length-trees (take (3 * c) w) n) ∙ ap length (g .trees);
       fits = omega arith;
-      numbers = sym (take-take (3 * n) (3 * c) w (omega arith)) ∙ numbers-show (take (3 * c) w) n t ∙ ap (λ (ts : List Tree). show ts ts) (g .trees);
+      numbers = sym (take-take (3 * n) (3 * c) w (omega arith)) ∙ numbers-show (take (3 * c) w) n (t .fits) (t .back) (t .one) ∙ ap (λ (ts : List Tree). show ts ts) (g .trees);
       references =
           record {
             wide = g .wide;
-            is = λ j h. ref-is (take (3 * c) w) n (getD out j 0) _ t (g .refs-are j h) ∙ ap (λ (ts : List Tree). refOf ts (at (treesOf ns m) (getD refs j 0))) (g .trees);
+            is = λ j h. ref-is (take (3 * c) w) n (getD out j 0) _ (t .one) (g .refs-are j h) ∙ ap (λ (ts : List Tree). refOf ts (at (treesOf ns m) (getD refs j 0))) (g .trees);
             none = g .none;
           };
       rest = g .rest;

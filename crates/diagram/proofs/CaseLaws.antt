@@ -1,6 +1,6 @@
 -- The cases of a step and of a check, by the tests that tell them apart. Assumes nothing.
-use Prim.Native.Nat.{ℕ, _+_, _*_, _/_, _≤_}
-use mathlib.Core.Path.{_≡_, refl, sym, _∙_}
+use Prim.Native.Nat.{ℕ, _+_, _*_, _/_}
+use mathlib.Core.Path.{_≡_, refl}
 use mathlib.Core.Bool.{Bool, true, false, not}
 use mathlib.Core.List.{List}
 use native.Mathlib.Omega.{arith}
@@ -11,12 +11,12 @@ use Rattle.diagram.specs.declared.Instruction.{Instruction}
 use Rattle.diagram.specs.declared.Stepped.{Stepped}
 use Rattle.diagram.specs.declared.Told.the-variants.{Unfit, Bad}
 use Rattle.diagram.specs.declared.Formed.the-variants as formed
-use Rattle.diagram.specs.Nodes.{Rest}
-use Rattle.diagram.specs.Sweeps.{Zeroed}
-use Rattle.diagram.specs.Checks.{Decides, freeBy, Sized}
-use Rattle.diagram.specs.Steps.{workTable, cleared, workOutcome, judge, stepOutcome, Leaves, judgeFormed, formedOutcome, Tells}
+use Rattle.trees.proofs.KeptLaws.{not-false}
+use Rattle.nodes.specs.Nodes.{Rest, Zeroed, Decides}
+use Rattle.keeping.specs.Checks.{freeBy, Sized}
+use Rattle.diagram.specs.Steps.{workTable, cleared, workOutcome, stepOutcome, Leaves, formedOutcome, Tells}
 use Rattle.diagram.specs.Works.{Fits}
-use Rattle.diagram.proofs.FitLaws.{fits-of, fits-is, turned-true}
+use Rattle.diagram.proofs.FitLaws.{fits-of, fits-is}
 use Rattle.diagram.proofs.ClearLaws.{cleared-is, cleared-same, rest-more}
 use Rattle.diagram.proofs.OutcomeLaws.{outcome-same}
 
@@ -29,16 +29,16 @@ module _ (k count : ℕ) (allowed refs : List ℕ) (kept : ℕ) (ns w : List ℕ
   abbrev pub good : Bool
   good = wellKept (freeBy k allowed) (length ns / 3) count refs kept ns
 
-  -- the check has zeroed the first numbers of the work slice, and all that is to be zero at the end is zeroed after it
-  pub cleared-after : Fits k count (length ns) (length w) → {w₁ w₂ : List ℕ} → Zeroed 0 (length ns / 3) w w₁ → Zeroed 0 (16 * (length ns / 3) + 1024) w₁ w₂ → w₂ ≡ cleared (length ns / 3) w
-  cleared-after f z y = cleared-is (length ns / 3) w (f .room) (rest-more (z .rest) (omega arith)) (z .size) y
+  -- the check has changed only the first numbers of the work slice, and all that is to be zero at the end is zeroed after it
+  pub cleared-after : Fits k count (length ns) (length w) → {w₁ w₂ : List ℕ} → Rest (15 * (length ns / 3)) w w₁ → length w₁ ≡ length w → Zeroed 0 (16 * (length ns / 3) + 1024) w₁ w₂ → w₂ ≡ cleared (length ns / 3) w
+  cleared-after f r e y = cleared-is (length ns / 3) w (f .room) (rest-more r (omega arith)) e y
 
   module _ (plan : List Instruction) where
     -- unfit numbers or lengths
     pub unfit-leaves : (b : Bool) → Decides (Fits k count (length ns) (length w)) b → not b ≡ true
         → Leaves (stepOutcome k count plan allowed refs kept ns w) (record { told = Unfit; refs = refs }) ns w
     unfolding stepOutcome
-    unfit-leaves b d e = rw (fits-is k count (length ns) (length w) b d, turned-true b e) (record { result = refl; nodes = refl; work = refl })
+    unfit-leaves b d e = rw (fits-is k count (length ns) (length w) b d, not-false b e) (record { result = refl; nodes = refl; work = refl })
 
     module _ (f : Fits k count (length ns) (length w)) where
       -- diagrams that are not well kept
@@ -47,18 +47,18 @@ module _ (k count : ℕ) (allowed refs : List ℕ) (kept : ℕ) (ns w : List ℕ
       bad-leaves g e = rw (fits-of k count (length ns) (length w) f, g) (record { result = refl; nodes = refl; work = e })
 
       -- well kept diagrams: what the work leaves
-      pub good-leaves : {w₁ w₂ ns₂ : List ℕ} {x : Stepped} → good ≡ true → Zeroed 0 (length ns / 3) w w₁
+      pub good-leaves : {w₁ w₂ ns₂ : List ℕ} {x : Stepped} → good ≡ true → Rest (15 * (length ns / 3)) w w₁ → length w₁ ≡ length w
           → Leaves (workOutcome (leb (length (workTable k count plan refs kept ns)) (length ns / 3)) k count plan refs kept ns w₁) x ns₂ w₂
           → Leaves (stepOutcome k count plan allowed refs kept ns w) x ns₂ w₂
       unfolding stepOutcome
-      good-leaves {w₁} g z l =
+      good-leaves {w₁} g r e l =
           rw (fits-of k count (length ns) (length w) f, g)
-          (rw (outcome-same (leb (length (workTable k count plan refs kept ns)) (length ns / 3)) k count plan refs kept ns w w₁ (cleared-same (length ns / 3) w w₁ (f .room) (rest-more (z .rest) (omega arith)) (z .size))) at l)
+          (rw (outcome-same (leb (length (workTable k count plan refs kept ns)) (length ns / 3)) k count plan refs kept ns w w₁ (cleared-same (length ns / 3) w w₁ (f .room) (rest-more r (omega arith)) e)) at l)
 
   -- the check alone: unfit
   pub unfit-tells : (b : Bool) → Decides (Fits k count (length ns) (length w)) b → not b ≡ true → Tells (formedOutcome k count allowed refs kept ns w) formed.Unfit w
   unfolding formedOutcome
-  unfit-tells b d e = rw (fits-is k count (length ns) (length w) b d, turned-true b e) (record { result = refl; work = refl })
+  unfit-tells b d e = rw (fits-is k count (length ns) (length w) b d, not-false b e) (record { result = refl; work = refl })
 
   module _ (f : Fits k count (length ns) (length w)) {w₂ : List ℕ} (e : w₂ ≡ cleared (length ns / 3) w) where
     -- not well kept

@@ -4,13 +4,12 @@ use mathlib.Core.Path.{_≡_, sym, ap, _∙_}
 use mathlib.Core.List.{List, _++_}
 use mathlib.Core.Logic.{⊎-elim}
 use native.Mathlib.Omega.{arith}
-use lib.ListN.{length, getD, take, drop, replicate, length-append, length-drop, length-replicate, List·getD-append, List·getD-eq-default}
+use lib.ListN.{length, getD, drop, replicate, length-append, length-drop, length-replicate, List·getD-append, List·getD-eq-default}
 use lib.Seq.{ext-getD, getD-append-add, getD-drop, getD-take}
 use borrow.Rule.Slice.PartMut.{mid-len}
 use Rattle.trees.proofs.Tests.{lt-or-ge}
 use Rattle.trees.proofs.CanonicalLaws.{zeros-at}
-use Rattle.diagram.specs.Nodes.{Table, Rest}
-use Rattle.diagram.specs.Sweeps.{Zeroed}
+use Rattle.nodes.specs.Nodes.{Table, Rest, Zeroed}
 use Rattle.diagram.specs.Steps.{cleared}
 use Rattle.diagram.specs.Works.{part, Desk}
 use Rattle.diagram.proofs.CallLaws.{memory-none, map-none}

@@ -1,19 +1,15 @@
 -- The functions that the rows' work meets ask only the levels, so that their room is that of their diagrams. Assumes nothing.
 use Prim.Native.Nat.{ℕ, zero, suc, _+_, _*_, _%_, _^_, _≤_, _<_}
-use mathlib.Core.Path.{_≡_, refl, sym, ap, ap₂, _∙_}
-use mathlib.Core.Bool.{Bool, true, false, not, _&&_, _||_}
+use mathlib.Core.Path.{_≡_, refl, ap, ap₂}
+use mathlib.Core.Bool.{false, not, _&&_, _||_}
 use mathlib.Core.List.{List, [], _∷_, _++_, map}
-use mathlib.Core.Logic.{⊎-elim}
-use native.Mathlib.Nat.{eq-or-lt-of-le}
 use native.Mathlib.Omega.{arith}
 use lib.Dec.{eqb}
-use lib.ListN.{length, getD, length-append, length-map, List·getD-append, List·getD-map}
-use lib.Seq.{getD-append-add}
-use Rattle.trees.specs.Bits.{Bits, Function, Same, Asks, drop}
+use lib.ListN.{length, getD}
+use Rattle.trees.specs.Bits.{Function, Same, Asks, drop}
 use Rattle.trees.specs.Tree.{Tree, off, eval, Fine, treeOf}
 use Rattle.trees.specs.Table.{addTrees}
 use Rattle.trees.specs.Room.{Room}
-use Rattle.trees.proofs.Tests.{lt-or-ge}
 use Rattle.trees.proofs.BitsLaws.{number-agree, asks-drop, asks-drops}
 use Rattle.trees.proofs.TreeLaws.{asks-eval, fine-off}
 use Rattle.trees.proofs.FunctionLaws.{fine-of, eval-of}

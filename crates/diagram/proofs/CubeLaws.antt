@@ -21,11 +21,12 @@ use Rattle.trees.proofs.TableLaws.{Closed, add-in, closed-add, has-add}
 use Rattle.diagram.specs.declared.Made.{Made}
 use Rattle.diagram.specs.declared.Place.{Place}
 use Rattle.diagram.specs.declared.Place.the-variants.{Any, Is}
-use Rattle.diagram.specs.Nodes.{Table, Grown, Stuck}
+use Rattle.nodes.specs.Nodes.{Table, Grown, Stuck}
 use Rattle.diagram.specs.Walks.{Added}
 use Rattle.diagram.specs.Cubes.{placeSays, cubeSays, bitsOver, placeOver}
-use Rattle.diagram.proofs.NodesLaws.{table-closed}
-use Rattle.diagram.proofs.WalkLaws.{After, after-trans, low-after, high-after, stays, stuck-first, first-then, stuck-low, stuck-high, joined}
+use Rattle.trees.proofs.ReadLaws.{back-closed}
+use Rattle.diagram.proofs.WalkLaws.{After, after-trans, low-after, high-after, stuck-first, first-then, stuck-low, stuck-high, joined}
+use Rattle.nodes.proofs.ReadLaws.{stays}
 
 -- one bit more, as the code counts
 over-zero : (base m : ℕ) (d : Tree) (count : ℕ) → count ≡ 0 → bitsOver base count m d ≡ d
@@ -91,12 +92,12 @@ place-after base k (Is m) d ts cl = over-after k base (m .0) d ts cl
 module _ {ns : List ℕ} {n : ℕ} (t : Table ns n) (base k : ℕ) (p : Place) (d : Tree) where
   -- no room for what stands below the variable
   place-stuck : {ms : List ℕ} → Stuck ns ms n d → Stuck ns ms n (placeOver base k p d)
-  place-stuck s = stuck-first d (placeOver base k p d) (place-after base k p d (treesOf ns n) (table-closed ns n t)) s
+  place-stuck s = stuck-first d (placeOver base k p d) (place-after base k p d (treesOf ns n) (back-closed ns n (t .back))) s
 
   -- what stands below is added, and then the variable
   place-then : {ns₁ : List ℕ} {n₁ q : ℕ} → Grown ns ns₁ n n₁ q d → (ms : List ℕ) (x : Made)
       → Added ns₁ ms n₁ (placeOver base k p (at (treesOf ns₁ n₁) q)) x → Added ns ms n (placeOver base k p d) x
-  place-then g ms x w = first-then d (placeOver base k p d) (place-after base k p d (treesOf ns n) (table-closed ns n t)) g ms x (rw (g .ref .is) at w)
+  place-then g ms x w = first-then d (placeOver base k p d) (place-after base k p d (treesOf ns n) (back-closed ns n (t .back))) g ms x (rw (g .ref .is) at w)
 
 -- bits and their numbers, lowest bit apart
 eqb-double : (b c x y : ℕ) → b < 2 → c < 2 → eqb (b + 2 * x) (c + 2 * y) ≡ (eqb b c && eqb x y)

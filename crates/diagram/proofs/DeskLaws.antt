@@ -3,13 +3,13 @@ use Prim.Native.Nat.{ℕ, _+_, _*_, _-_, _≤_, _<_}
 use mathlib.Core.Path.{_≡_, refl, sym, ap, _∙_}
 use mathlib.Core.List.{List, _++_}
 use native.Mathlib.Omega.{arith}
-use lib.ListN.{length, getD, take, drop, length-take, length-drop, List·getD-append}
+use lib.ListN.{length, getD, take, drop, List·getD-append}
 use lib.Seq.{ext-getD, getD-take, getD-drop, take-at, drop-at, length-take-le}
 use borrow.Rule.Slice.PartMut.{putMid, postOf, same-len-mid, mid-len, drop-put}
 use Rattle.trees.specs.Tree.{Tree}
 use Rattle.diagram.specs.declared.Made.{Made}
 use Rattle.diagram.specs.declared.Made.the-variants.{Full, At}
-use Rattle.diagram.specs.Nodes.{Grown, Rest}
+use Rattle.nodes.specs.Nodes.{Grown, Rest}
 use Rattle.diagram.specs.Walks.{Added, AddedWith, Memory, Complements}
 use Rattle.diagram.specs.Works.{part, Desk}
 use Rattle.diagram.proofs.MemoryLaws.{memory-grown}

@@ -1,7 +1,7 @@
 -- The steps of a bit's removal. Assumes nothing.
 use Prim.Native.Nat.{ℕ, zero, suc, _-_, _<_}
 use mathlib.Core.Path.{_≡_, sym, ap, ap₂, _∙_, fun-ext}
-use mathlib.Core.Bool.{Bool, true, false, _||_, or-self}
+use mathlib.Core.Bool.{Bool, true, false, or-self, _||_}
 use mathlib.Core.List.{List}
 use native.Mathlib.Omega.{arith}
 use Rattle.trees.specs.Bits.{Bits, put, drop}

@@ -6,7 +6,7 @@ use native.Mathlib.Omega.{arith}
 use lib.Dec.{leb, eqb}
 use borrow.Author.Tests.{leb-true, leb-false, le-leb, eqb-true, eq-eqb}
 use Rattle.trees.proofs.Tests.{not-true, and-true-l, and-true-r}
-use Rattle.diagram.specs.Checks.{Decides}
+use Rattle.nodes.specs.Nodes.{Decides}
 use Rattle.diagram.specs.Steps.{fits}
 use Rattle.diagram.specs.Works.{Fits}
 
@@ -58,10 +58,6 @@ module _ (k count nodes work : ℕ) where
   fits-is false f = not-true (fits k count nodes work) (λ e. f (of-fits e))
 
 -- a negated answer, turned
-pub turned-true : (b : Bool) → not b ≡ true → b ≡ false
-turned-true true e = sym e
-turned-true false e = refl
-
 pub turned-false : (b : Bool) → not b ≡ false → b ≡ true
 turned-false true e = refl
 turned-false false e = sym e

@@ -10,16 +10,8 @@ pub mod NotLaws
 pub mod DropLaws
 pub mod CubeLaws
 pub mod CallLaws
-pub mod ReadLaws
-pub mod PartLaws
-pub mod ZeroLaws
 pub mod SweepLaws
 pub mod CanonicalLaws
-pub mod CheckLaws
-pub mod OrderLaws
-pub mod FreeLaws
-pub mod SoundLaws
-pub mod VerdictLaws
 pub mod DeskLaws
 pub mod RemovalLaws
 pub mod RowLaws

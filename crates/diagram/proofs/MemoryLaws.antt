@@ -9,10 +9,11 @@ use lib.Seq.{getD-set-same, getD-set-other}
 use Rattle.trees.specs.Tree.{Tree, mk, sinceT, dropT}
 use Rattle.trees.specs.Table.{at, treesOf, Ref}
 use Rattle.trees.proofs.TableLaws.{goes-ref}
-use Rattle.diagram.specs.Nodes.{Table, Grown}
+use Rattle.nodes.specs.Nodes.{Table, Grown}
 use Rattle.diagram.specs.Walks.{Within, recalled, Key, SlotIs, Memory, Looked, Noted}
-use Rattle.diagram.proofs.NodesLaws.{length-trees}
-use Rattle.diagram.proofs.WalkLaws.{grown-goes, grown-count, grown-ref, kept, stays}
+use Rattle.trees.proofs.ReadLaws.{length-trees}
+use Rattle.nodes.proofs.ReadLaws.{grown-goes, grown-count, grown-ref, stays}
+use Rattle.diagram.proofs.WalkLaws.{kept}
 
 -- the key of a since
 pub recalled-since : (levels : ℕ) (ts : List Tree) (a b c : ℕ) → 1 ≤ a → recalled levels ts a b c ≡ sinceT levels (at ts a) (at ts b) (at ts c)

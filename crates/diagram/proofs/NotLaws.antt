@@ -13,10 +13,11 @@ use Rattle.trees.specs.Table.{at, treesOf, Ref}
 use Rattle.trees.proofs.TreeLaws.{side, eval-side, eval-agree, fine-off, fine-on}
 use Rattle.trees.proofs.FunctionLaws.{tree-one, tree-same, tree-step}
 use Rattle.trees.proofs.TableLaws.{goes-ref}
-use Rattle.diagram.specs.Nodes.{Table, Grown}
+use Rattle.nodes.specs.Nodes.{Table, Grown}
 use Rattle.diagram.specs.Walks.{Complements}
-use Rattle.diagram.proofs.NodesLaws.{length-trees}
-use Rattle.diagram.proofs.WalkLaws.{grown-goes, grown-count, grown-ref, kept, stays}
+use Rattle.trees.proofs.ReadLaws.{length-trees}
+use Rattle.nodes.proofs.ReadLaws.{grown-goes, grown-count, grown-ref, stays}
+use Rattle.diagram.proofs.WalkLaws.{kept}
 use Rattle.diagram.proofs.StepLaws.{Step}
 
 module _ (levels : ℕ) where

@@ -1,8 +1,8 @@
 -- What well kept diagrams give the work, and what the work leaves. Assumes nothing.
-use Prim.Native.Nat.{ℕ, _+_, _*_, _-_, _/_, _≤_, _<_}
+use Prim.Native.Nat.{ℕ, _*_, _-_, _/_, _≤_, _<_}
 use mathlib.Core.Path.{_≡_, refl, sym, ap, ap₂, _∙_}
 use mathlib.Core.Bool.{Bool, true, false}
-use mathlib.Core.List.{List, [], _++_, map}
+use mathlib.Core.List.{List, _++_, map}
 use mathlib.Core.Logic.{⊎-elim}
 use native.Mathlib.Omega.{arith}
 use lib.Dec.{leb}
@@ -18,19 +18,18 @@ use Rattle.trees.proofs.CanonicalLaws.{zeros-past}
 use Rattle.diagram.specs.declared.Instruction.{Instruction}
 use Rattle.diagram.specs.declared.Stepped.{Stepped}
 use Rattle.diagram.specs.declared.Told.the-variants.{Full, Done}
-use Rattle.diagram.specs.Nodes.{Table, Front, Rest}
+use Rattle.nodes.specs.Nodes.{Table, Zeroed, Rows, canonical}
 use Rattle.diagram.specs.Walks.{Within}
-use Rattle.diagram.specs.Sweeps.{Zeroed, Rows, canonical, References, Renewal}
-use Rattle.diagram.specs.Checks.{freeBy, Right}
+use Rattle.diagram.specs.Sweeps.{References, Renewal}
+use Rattle.keeping.specs.Checks.{freeBy, Right}
 use Rattle.diagram.specs.Steps.{newTrees, stages, workTable, cleared, layout, workOutcome, Leaves}
-use Rattle.diagram.specs.Works.{Fits, Leads, Ready, Short, Through}
+use Rattle.diagram.specs.Works.{Fits, Ready, Short, Through}
 use Rattle.diagram.proofs.CallLaws.{within-all}
 use Rattle.diagram.proofs.RemovalLaws.{within-fine}
 use Rattle.diagram.proofs.RowLaws.{within-no}
 use Rattle.diagram.proofs.PlanLaws.{length-new}
-use Rattle.diagram.proofs.SoundLaws.{sound-table, sound-rows}
-use Rattle.diagram.proofs.VerdictLaws.{kept-right}
-use Rattle.diagram.proofs.ClearLaws.{cleared-is, cleared-same}
+use Rattle.keeping.proofs.SoundLaws.{sound-table, sound-rows}
+use Rattle.keeping.proofs.VerdictLaws.{kept-right}
 
 -- well kept diagrams are ready for the work
 pub ready : (k : ℕ) (allowed : List ℕ) (C count : ℕ) (refs : List ℕ) (kept : ℕ) (ns : List ℕ) → 1 ≤ k → count ≤ 64 → length refs ≡ 64 → length ns ≡ 3 * C → C ≤ 4096

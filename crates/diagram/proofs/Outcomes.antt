@@ -1,25 +1,23 @@
 -- What the layer's promises say: an outcome is one, and the room is document 01's. Assumes nothing.
-use Prim.Native.Nat.{ℕ, _*_, _/_, _≤_, _<_}
-use mathlib.Core.Path.{_≡_, refl, sym, ap, _∙_}
+use Prim.Native.Nat.{ℕ, _*_, _/_, _<_}
+use mathlib.Core.Path.{_≡_, refl, sym, _∙_}
 use mathlib.Core.Bool.{Bool, true, false}
-use mathlib.Core.List.{List, [], map}
+use mathlib.Core.List.{List}
 use native.Mathlib.Omega.{arith}
 use lib.Dec.{leb}
-use lib.ListN.{length, getD}
+use lib.ListN.{length}
 use borrow.Author.Tests.{leb-false}
-use Rattle.trees.specs.Tree.{Tree, off, Fine, treeOf}
-use Rattle.trees.specs.Table.{addTrees, at, treesOf}
+use Rattle.trees.specs.Table.{at}
 use Rattle.trees.specs.Room.{Room}
 use Rattle.trees.specs.Kept.{diagrams, WellKept, wellKept}
 use Rattle.trees.proofs.KeptLaws.{kept-of}
 use Rattle.diagram.specs.declared.Instruction.{Instruction}
 use Rattle.diagram.specs.declared.Stepped.{Stepped}
-use Rattle.diagram.specs.declared.Told.{Told}
-use Rattle.diagram.specs.declared.Told.the-variants.{Unfit, Bad, Full, Done}
+use Rattle.diagram.specs.declared.Told.the-variants.{Full, Done}
 use Rattle.diagram.specs.declared.Formed.{Formed}
-use Rattle.diagram.specs.Checks.{freeBy}
-use Rattle.diagram.specs.Steps.{stages, workTable, counted, Outcome, fits, layout, workOutcome, judge, stepOutcome, Leaves, Checked, Tells}
-use Rattle.diagram.specs.Works.{Fits, Ready}
+use Rattle.keeping.specs.Checks.{freeBy}
+use Rattle.diagram.specs.Steps.{workTable, counted, Outcome, fits, layout, workOutcome, judge, stepOutcome, Leaves, Checked, Tells}
+use Rattle.diagram.specs.Works.{Fits}
 use Rattle.diagram.proofs.RemovalLaws.{within-fine}
 use Rattle.diagram.proofs.PlanLaws.{old-are}
 use Rattle.diagram.proofs.FitLaws.{of-fits}

@@ -1,7 +1,7 @@
 -- The rows worked one after the other. Assumes nothing.
-use Prim.Native.Nat.{ℕ, zero, suc, _+_, _*_, _-_, _≤_, _<_}
+use Prim.Native.Nat.{ℕ, zero, suc, _+_, _*_, _≤_, _<_}
 use mathlib.Core.Path.{_≡_, refl, sym, ap, _∙_, fun-ext}
-use mathlib.Core.List.{List, [], _∷_, _++_, map, append-nil}
+use mathlib.Core.List.{List, [], _∷_, _++_, map}
 use mathlib.Core.Logic.{⊎-elim}
 use native.Mathlib.Nat.{eq-or-lt-of-le}
 use native.Mathlib.Decide.{ℕ-discrete}
@@ -20,7 +20,6 @@ use Rattle.trees.proofs.ReadLaws.{length-trees}
 use Rattle.trees.proofs.CanonicalLaws.{zeros-at}
 use Rattle.diagram.specs.declared.Instruction.{Instruction}
 use Rattle.diagram.specs.declared.Instruction.the-variants.{Yes}
-use Rattle.diagram.specs.Nodes.{Front}
 use Rattle.diagram.specs.Walks.{Within}
 use Rattle.diagram.specs.Steps.{says, instructionSays, stagesOf, withRow, newTrees, stages}
 use Rattle.diagram.specs.Works.{Desk, Leads, led, Reached, Short, Are, Through}

@@ -1,10 +1,10 @@
 -- The bits of a variable removed one at a time: what is left to do stays the same while it is done. Assumes nothing.
 use Prim.Native.Nat.{ℕ, zero, suc, _+_, _*_, _-_, _≤_, _<_}
 use mathlib.Core.Path.{_≡_, refl, sym, ap, ap₂, _∙_, fun-ext}
-use mathlib.Core.Bool.{Bool, true, false, _||_, or-self}
-use mathlib.Core.List.{List, [], _∷_, map}
+use mathlib.Core.Bool.{Bool, true, false, or-self, _||_}
+use mathlib.Core.List.{List, _∷_, map}
 use native.Mathlib.Omega.{arith}
-use lib.ListN.{length, getD}
+use lib.ListN.{length}
 use Rattle.trees.specs.Bits.{Bits, Function, Asks, put, drop, drops}
 use Rattle.trees.specs.Tree.{Tree, eval, Fine, treeOf, dropT}
 use Rattle.trees.specs.Table.{addTree, addTrees, at, treesOf}
@@ -12,12 +12,13 @@ use Rattle.trees.proofs.BitsLaws.{put-other, asks-drop}
 use Rattle.trees.proofs.TreeLaws.{asks-eval}
 use Rattle.trees.proofs.FunctionLaws.{fine-of, eval-of, tree-one}
 use Rattle.trees.proofs.TableLaws.{adds-goes, goes-length}
-use Rattle.diagram.specs.Nodes.{Front, Grown, Stuck}
+use Rattle.nodes.specs.Nodes.{Front, Grown, Stuck}
 use Rattle.diagram.specs.Walks.{Within}
 use Rattle.diagram.specs.Steps.{dropStages}
 use Rattle.diagram.specs.Works.{Desk, Reached, Short}
-use Rattle.diagram.proofs.WalkLaws.{grown-count, grown-ref, front-trans}
-use Rattle.diagram.proofs.CallLaws.{within-all, fine-drop}
+use Rattle.nodes.proofs.ReadLaws.{grown-count, grown-ref}
+use Rattle.diagram.proofs.WalkLaws.{front-trans}
+use Rattle.diagram.proofs.CallLaws.{within-all}
 
 -- a function that asks only the levels is what its tree says
 pub eval-tree : (n : ℕ) (g : Function) → Asks 0 n g → eval (treeOf n g) ≡ g

@@ -1,14 +1,14 @@
 -- The walks give the diagrams that the instructions say. Assumes nothing.
-use Prim.Native.Nat.{ℕ, zero, suc, _+_, _*_, _-_, _≤_, _<_}
+use Prim.Native.Nat.{ℕ, _+_, _*_, _-_, _≤_, _<_}
 use mathlib.Core.Path.{_≡_, refl, sym, ap, _∙_}
-use mathlib.Core.Bool.{Bool, true, false}
-use mathlib.Core.List.{List, [], _∷_, map}
+use mathlib.Core.Bool.{true, false}
+use mathlib.Core.List.{List, [], _∷_}
 use mathlib.Core.Logic.{⊎-elim}
 use native.Mathlib.Nat.{mul-le-mul-right}
 use native.Mathlib.Omega.{arith}
-use lib.ListN.{length, getD}
+use lib.ListN.{getD}
 use Rattle.trees.specs.Bits.{Function, Asks, drops}
-use Rattle.trees.specs.Tree.{Tree, off, on, eval, Fine, treeOf, notT, sinceT}
+use Rattle.trees.specs.Tree.{Tree, off, on, eval, treeOf, notT, sinceT}
 use Rattle.trees.specs.Table.{addTrees, at, treesOf}
 use Rattle.trees.proofs.Tests.{lt-or-ge}
 use Rattle.trees.proofs.TreeLaws.{asks-eval, fine-off, fine-on}
@@ -18,12 +18,11 @@ use Rattle.diagram.specs.declared.Made.the-variants.{Full, At}
 use Rattle.diagram.specs.declared.Place.{Place}
 use Rattle.diagram.specs.declared.Instruction.{Instruction}
 use Rattle.diagram.specs.declared.Instruction.the-variants.{Yes, No, Cube, And, Not, Since, Old, Drop}
-use Rattle.diagram.specs.Nodes.{Table, Grown}
 use Rattle.diagram.specs.Walks.{AddedWith, Within}
 use Rattle.diagram.specs.Cubes.{cubeSays}
 use Rattle.diagram.specs.Steps.{instructionSays, dropStages, stagesOf}
 use Rattle.diagram.specs.Works.{Desk, Leads, led, Base, Reached, Short, Worked}
-use Rattle.diagram.proofs.WalkLaws.{grown-ref, stays}
+use Rattle.nodes.proofs.ReadLaws.{grown-ref, stays}
 use Rattle.diagram.proofs.SinceLaws.{and-since}
 use Rattle.diagram.proofs.RemovalLaws.{tree-eval, within-fine, stages-past, drops-past}
 

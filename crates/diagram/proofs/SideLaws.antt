@@ -7,9 +7,9 @@ use native.Mathlib.Omega.{arith}
 use Rattle.trees.specs.Tree.{Tree, off, on, node, Fine}
 use Rattle.trees.specs.Table.{at, treesOf}
 use Rattle.trees.proofs.TreeLaws.{side, side-own, side-later, node-fine}
-use Rattle.diagram.specs.Nodes.{Table, Splits, Sides, firstLevel}
+use Rattle.nodes.specs.Nodes.{Table, Splits, Sides, firstLevel}
 use Rattle.diagram.specs.Walks.{Within}
-use Rattle.diagram.proofs.NodesLaws.{splits}
+use Rattle.nodes.proofs.ReadLaws.{splits}
 
 -- a leaf asks no level
 pub top-leaf : (ns : List ℕ) (n r : ℕ) → r < 2 → 4294967295 ≡ firstLevel (at (treesOf ns n) r)
@@ -64,6 +64,6 @@ fine-first lo hi (node m a b) l h f = (h, f .1, f .2, f .3, f .4)
 pub first-hi : {ns : List ℕ} {n levels left p : ℕ} → Table ns n → 2 ≤ p → Within ns n levels left p → firstLevel (at (treesOf ns n) p) < levels
 unfolding firstLevel
 first-hi {ns} {n} {levels} {left} {p} t h w =
-    let s = splits ns n p t h (w .below) in
+    let s = splits ns n p (t .back) h (w .below) in
     let f = node-fine (levels - left) levels _ _ _ (rw (s .is) at (w .fine)) in
     rw (s .is) (f .1)

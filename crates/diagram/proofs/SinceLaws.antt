@@ -11,10 +11,11 @@ use Rattle.trees.specs.Table.{at, treesOf}
 use Rattle.trees.proofs.Tests.{lt-or-ge}
 use Rattle.trees.proofs.TreeLaws.{side, fine-side, eval-side, eval-agree, fine-lower, fine-on}
 use Rattle.trees.proofs.FunctionLaws.{tree-one, tree-same, tree-step}
-use Rattle.diagram.specs.Nodes.{Table, To, Grown}
+use Rattle.nodes.specs.Nodes.{Table, To, Grown}
 use Rattle.diagram.specs.Walks.{Within, Among, sure, left, right, old, Easy, Hard, Forks}
 use Rattle.diagram.proofs.SideLaws.{first-lo, first-hi, fine-first}
-use Rattle.diagram.proofs.WalkLaws.{stays, kept}
+use Rattle.nodes.proofs.ReadLaws.{stays}
+use Rattle.diagram.proofs.WalkLaws.{kept}
 
 -- and, as since
 pub and-since : (n : ℕ) (p q : Tree) → sinceT n p off q ≡ treeOf n (λ s. eval p s && eval q s)

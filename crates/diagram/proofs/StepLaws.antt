@@ -7,7 +7,7 @@ use native.Mathlib.Omega.{arith}
 use Rattle.trees.specs.Tree.{Fine}
 use Rattle.trees.specs.Table.{at, treesOf}
 use Rattle.trees.proofs.TreeLaws.{side, side-own, fine-lower, fine-node, node-fine}
-use Rattle.diagram.specs.Nodes.{Splits}
+use Rattle.nodes.specs.Nodes.{Splits}
 use Rattle.diagram.specs.Walks.{Within}
 
 -- a level is left, the sides ask the levels after it, and they are the sides of the diagram there

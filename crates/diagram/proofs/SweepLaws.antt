@@ -8,16 +8,16 @@ use native.Mathlib.Decide.{ℕ-discrete, decLt}
 use native.Mathlib.Omega.{arith}
 use lib.ListN.{length, getD, set, take, length-append, length-set}
 use lib.Seq.{take-set-le, take-set-lt, length-take-le, getD-set-same, getD-set-other}
-use Rattle.trees.specs.Tree.{Tree, node, Fine}
+use Rattle.trees.specs.Tree.{Tree, node}
 use Rattle.trees.specs.Table.{mem, addTree, at, treesOf, Ref}
 use Rattle.trees.proofs.Tests.{lt-or-ge, not-true, false-true}
-use Rattle.trees.proofs.TreeLaws.{node-fine, fine-lower}
 use Rattle.trees.proofs.TableLaws.{Goes, goes-ref, goes-at, at-index, mem-place, ref-mem, push-out}
 use Rattle.trees.proofs.RoomLaws.{pigeon}
-use Rattle.diagram.specs.Nodes.{Table, Splits}
+use Rattle.nodes.specs.Nodes.{Table, Splits}
 use Rattle.diagram.specs.Sweeps.{Noted, Emitted}
-use Rattle.diagram.proofs.ReadLaws.{length-trees, at-end, grown-goes, grown-count, grown-ref, stays, stored, stored-front, stored-rest, stored-trees, stored-table}
-use Rattle.diagram.proofs.PartLaws.{sides-only}
+use Rattle.trees.proofs.ReadLaws.{length-trees, at-end}
+use Rattle.nodes.proofs.ReadLaws.{grown-goes, grown-count, grown-ref, stays, stored, stored-front, stored-rest, stored-trees, stored-table}
+use Rattle.nodes.proofs.PartLaws.{sides-only}
 
 -- a leaf's reference leads to the leaf in every table
 pub at-leaf : (ts us : List Tree) (r : ℕ) → r < 2 → at ts r ≡ at us r
@@ -25,25 +25,6 @@ unfolding at
 at-leaf ts us zero h = refl
 at-leaf ts us (suc zero) h = refl
 at-leaf ts us (suc (suc r)) h = absurd (omega arith)
-
--- the sides of a diagram with `left` levels left have one less
-pub record Steps (levels left : ℕ) (x y : Tree) : Type 0 where
-  pub some : 1 ≤ left
-  pub low : Fine (levels - (left - 1)) levels x
-  pub high : Fine (levels - (left - 1)) levels y
-
--- the sides of a node have one level less
-pub steps : {ns : List ℕ} {m r l a b : ℕ} → Splits ns m r l a b → (levels left : ℕ) → left ≤ levels → Fine (levels - left) levels (at (treesOf ns m) r)
-    → Steps levels left (at (treesOf ns m) a) (at (treesOf ns m) b)
-steps {ns} {m} {l = l} {a} {b} s levels left le f =
-    let g = node-fine (levels - left) levels l (at (treesOf ns m) a) (at (treesOf ns m) b) (rw (s .is) at f) in
-    let p = g .0 in
-    let q = g .1 in
-    record {
-      some = omega arith;
-      low = fine-lower (suc l) levels (levels - (left - 1)) _ (omega arith) (g .2);
-      high = fine-lower (suc l) levels (levels - (left - 1)) _ (omega arith) (g .3);
-    }
 
 -- notes that stand for different places are no more than the places
 notes-le : (m n : ℕ) (f : ℕ → ℕ) → ((p : ℕ) → p < n → (i : ℕ) × (i < m) × (f i ≡ p + 3)) → n ≤ m
@@ -247,12 +228,12 @@ module _ {ns : List ℕ} {m : ℕ} {w : List ℕ} {c n : ℕ} (o : Noted ns m w 
             ref = here;
             same =
                 record {
-                  eq = λ i u. rw part (stored-front front n₂ l p q (h .grown .table) hp hq fits out′ .eq i (omega (arith, grown-count (g .grown), grown-count (h .grown))))
+                  eq = λ i u. rw part (stored-front front n₂ l p q fits .eq i (omega (arith, grown-count (g .grown), grown-count (h .grown))))
                       ∙ h .grown .same .eq i (omega (arith, grown-count (g .grown))) ∙ g .grown .same .eq i u;
                 };
             rest =
                 record {
-                  eq = λ i u. rw part (stored-rest front n₂ l p q (h .grown .table) hp hq fits out′ .eq i u)
+                  eq = λ i u. rw part (stored-rest front n₂ l p q fits .eq i (omega arith))
                       ∙ h .grown .rest .eq i (omega arith) ∙ g .grown .rest .eq i (omega (arith, grown-count (h .grown)));
                 };
           };

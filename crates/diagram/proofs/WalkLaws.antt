@@ -1,34 +1,23 @@
 -- How the steps of a walk join: low side, high side, node. Assumes nothing.
 use Prim.Native.Nat.{ℕ, _+_, _/_, _≤_, _<_}
-use mathlib.Core.Path.{_≡_, refl, sym, ap, _∙_}
+use mathlib.Core.Path.{_≡_, sym, ap, _∙_}
 use mathlib.Core.List.{List}
 use native.Mathlib.Omega.{arith}
 use lib.ListN.{length, take}
 use lib.Seq.{take-append-le}
 use Rattle.trees.specs.Tree.{Tree, mk}
-use Rattle.trees.specs.Table.{addTree, at, treesOf, Ref}
+use Rattle.trees.specs.Table.{addTree, at, treesOf}
 use Rattle.trees.proofs.TableLaws.{Closed, Goes, goes-length, goes-at, add-goes, add-mk, add-in, closed-add, has-add}
 use Rattle.diagram.specs.declared.Made.{Made}
 use Rattle.diagram.specs.declared.Made.the-variants.{Full, At}
-use Rattle.diagram.specs.Nodes.{Front, Rest, Table, Grown, Stuck}
+use Rattle.nodes.specs.Nodes.{Front, Rest, Table, Grown, Stuck}
 use Rattle.diagram.specs.Walks.{Added, AddedWith, Within}
-use Rattle.diagram.proofs.NodesLaws.{length-trees, table-closed}
-
--- the table of a walk goes on from the one before
-pub grown-goes : {ns ms : List ℕ} {n m r : ℕ} {d : Tree} → Grown ns ms n m r d → Goes (treesOf ns n) (treesOf ms m)
-grown-goes {ns} {n = n} {d = d} g = rw (g .trees) (add-goes (treesOf ns n) d)
-
--- the count of nodes does not fall
-pub grown-count : {ns ms : List ℕ} {n m r : ℕ} {d : Tree} → Grown ns ms n m r d → n ≤ m
-grown-count {ns} {ms} {n} {m} g = omega (arith, goes-length (grown-goes g), length-trees ns n, length-trees ms m)
+use Rattle.trees.proofs.ReadLaws.{length-trees, back-closed}
+use Rattle.nodes.proofs.ReadLaws.{grown-goes, grown-count, grown-ref}
 
 -- a reference of before still leads to its tree
 pub kept : {ns ms : List ℕ} {n m r : ℕ} {d : Tree} → Grown ns ms n m r d → (q : ℕ) → q < n + 2 → at (treesOf ms m) q ≡ at (treesOf ns n) q
 kept {ns} {n = n} g q h = goes-at (grown-goes g) q (omega (arith, length-trees ns n))
-
--- the result is a reference of the table
-pub grown-ref : {ns ms : List ℕ} {n m r : ℕ} {d : Tree} → Grown ns ms n m r d → r < m + 2
-grown-ref {ms = ms} {m = m} g = omega (arith, g .ref .below, length-trees ms m)
 
 -- and still asks the same levels
 pub within-grown : {ns ms : List ℕ} {n m r : ℕ} {d : Tree} {levels left p : ℕ} → Grown ns ms n m r d → Within ns n levels left p → Within ms m levels left p
@@ -101,7 +90,7 @@ high-after ts l x y cl = add-mk ts l x y cl ∙ sym (low-after ts l x y cl)
 module _ {ns : List ℕ} {n : ℕ} (l : ℕ) (x y : Tree) (t : Table ns n) where
   -- the low side comes first
   low : After (treesOf ns n) x (mk l x y)
-  low = low-after (treesOf ns n) l x y (table-closed ns n t)
+  low = low-after (treesOf ns n) l x y (back-closed ns n (t .back))
 
   -- no room for the low side
   pub stuck-low : {ms : List ℕ} → Stuck ns ms n x → Stuck ns ms n (mk l x y)
@@ -110,7 +99,7 @@ module _ {ns : List ℕ} {n : ℕ} (l : ℕ) (x y : Tree) (t : Table ns n) where
   module _ {ns₁ : List ℕ} {n₁ p : ℕ} (g : Grown ns ns₁ n n₁ p x) where
     -- then the high side
     high : After (treesOf ns₁ n₁) y (mk l x y)
-    high = rw (g .trees) (high-after (treesOf ns n) l x y (table-closed ns n t))
+    high = rw (g .trees) (high-after (treesOf ns n) l x y (back-closed ns n (t .back)))
 
     -- no room for the high side
     pub stuck-high : {ms : List ℕ} → Stuck ns₁ ms n₁ y → Stuck ns ms n (mk l x y)
@@ -127,9 +116,3 @@ module _ {ns : List ℕ} {n : ℕ} (l : ℕ) (x y : Tree) (t : Table ns n) where
       pub joined-with : (I : List ℕ → ℕ → Type 0) (ms : List ℕ) (m : Made) → AddedWith I ns₂ ms n₂ (mk l (at (treesOf ns₂ n₂) p) (at (treesOf ns₂ n₂) q)) m → AddedWith I ns ms n (mk l x y) m
       joined-with I ms Full w = joined ms Full w
       joined-with I ms (At k r) w = (joined ms (At k r) (w .0), w .1)
-
--- the result is a tree that has a reference
-pub stays : (ns : List ℕ) (n r : ℕ) (d : Tree) → Table ns n → r < n + 2 → d ≡ at (treesOf ns n) r → Grown ns ns n n r d
-stays ns n r d t h e =
-    let w : Ref (treesOf ns n) r d = record { below = omega (arith, length-trees ns n); is = sym e } in
-    record { table = t; size = refl; trees = sym (add-in (treesOf ns n) d (table-closed ns n t) (r, w)); ref = w; same = record { eq = λ i h. refl }; rest = record { eq = λ i h. refl } }

@@ -12,13 +12,12 @@ use Rattle.trees.specs.Table.{addTrees, refOf, show, treesOf}
 use Rattle.trees.specs.Kept.{diagrams, wellKept}
 use Rattle.diagram.specs.declared.Instruction.{Instruction}
 use Rattle.diagram.specs.declared.Instruction.the-variants.{Yes, No, Cube, And, Not, Since, Old, Drop}
-use Rattle.diagram.specs.declared.Told.{Told}
 use Rattle.diagram.specs.declared.Told.the-variants.{Unfit, Bad, Full, Done}
 use Rattle.diagram.specs.declared.Stepped.{Stepped}
 use Rattle.diagram.specs.declared.Formed.{Formed}
 use Rattle.diagram.specs.declared.Formed.the-variants as formed
 use Rattle.diagram.specs.Cubes.{cubeSays}
-use Rattle.diagram.specs.Checks.{freeBy}
+use Rattle.keeping.specs.Checks.{freeBy}
 
 -- the function of row a of some diagrams: no where there is no row a
 unfoldable pub says : List Tree → ℕ → Function

@@ -1,19 +1,11 @@
 -- What the canonical sweep keeps and leaves. Assumes nothing: these are definitions.
 use Prim.Native.Nat.{ℕ, _+_, _*_, _-_, _/_, _≤_, _<_}
 use mathlib.Core.Path.{_≡_}
-use mathlib.Core.List.{List, [], _++_}
+use mathlib.Core.List.{List, _++_}
 use lib.ListN.{length, getD, take, replicate}
-use Rattle.trees.specs.Tree.{Tree, Fine}
-use Rattle.trees.specs.Table.{addTrees, at, refOf, show, treesOf, Ref}
-use Rattle.trees.specs.Kept.{diagrams}
-use Rattle.diagram.specs.Nodes.{Table, Front, Rest, Grown}
-
--- the numbers from one place on and before another are 0, and the others as they were
-pub record Zeroed (from to : ℕ) (xs ys : List ℕ) : Type 0 where
-  pub size : length ys ≡ length xs
-  pub zero : (i : ℕ) → from ≤ i → i < to → getD ys i 0 ≡ 0
-  pub same : Front from xs ys
-  pub rest : Rest to xs ys
+use Rattle.trees.specs.Tree.{Tree}
+use Rattle.trees.specs.Table.{at, refOf, show, treesOf, Ref}
+use Rattle.nodes.specs.Nodes.{Table, Rest, Grown, canonical}
 
 -- the first 3 * c numbers of w hold a table of n nodes, and behind it stands, for each of the first m nodes of ns, 0 or one
 -- more than the reference of its tree in the table; every tree of the table has such a note
@@ -30,16 +22,6 @@ pub record Emitted (ns : List ℕ) (m : ℕ) (w w′ : List ℕ) (c n n′ r : �
   pub grown : Grown (take (3 * c) w) (take (3 * c) w′) n n′ r d
   pub notes : Noted ns m w′ c n′
   pub rest : Rest (4 * c) w w′
-
--- the first count references lead to diagrams of the first m nodes, over so many levels
-pub record Rows (ns : List ℕ) (m levels : ℕ) (refs : List ℕ) (count : ℕ) : Type 0 where
-  pub few : count ≤ 64
-  pub inside : (i : ℕ) → i < count → getD refs i 0 < m + 2
-  pub fine : (i : ℕ) → i < count → Fine 0 levels (at (treesOf ns m) (getD refs i 0))
-
--- the canonical table of the diagrams of the first count references
-unfoldable pub canonical : List ℕ → ℕ → List ℕ → ℕ → List Tree
-canonical ns m refs count = addTrees [] (diagrams ns m refs count)
 
 -- the new references: each diagram's in the canonical table, and 0 past the rows
 pub record References (ns : List ℕ) (m : ℕ) (refs : List ℕ) (count : ℕ) (refs′ : List ℕ) : Type 0 where

@@ -10,7 +10,7 @@ use Rattle.diagram.specs.declared.Made.{Made}
 use Rattle.diagram.specs.declared.Made.the-variants.{Full, At}
 use Rattle.diagram.specs.declared.walk.Settled.{Settled}
 use Rattle.diagram.specs.declared.walk.Settled.the-variants.{Is, Open}
-use Rattle.diagram.specs.Nodes.{Grown, Stuck, Sides, firstLevel}
+use Rattle.nodes.specs.Nodes.{Grown, Stuck, Sides, firstLevel}
 
 -- a walk that is to add the diagram d to the first n nodes of ns left ns′ and said m
 abbrev pub Added : List ℕ → List ℕ → ℕ → Tree → Made → Type 0

@@ -10,7 +10,7 @@ use Rattle.trees.specs.Table.{addTrees, at, treesOf}
 use Rattle.diagram.specs.declared.Made.{Made}
 use Rattle.diagram.specs.declared.Made.the-variants.{Full, At}
 use Rattle.diagram.specs.declared.Instruction.{Instruction}
-use Rattle.diagram.specs.Nodes.{Table, Front, To}
+use Rattle.nodes.specs.Nodes.{Table, Front, To}
 use Rattle.diagram.specs.Walks.{Within, Memory, Complements}
 use Rattle.diagram.specs.Steps.{newTrees, stages}
 

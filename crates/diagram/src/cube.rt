@@ -2,7 +2,7 @@
 ghost use Prim.Native.Nat.{_+_, _*_, _<_, _≤_};
 ghost use Rattle.trees.specs.Tree.{treeOf};
 ghost use Rattle.trees.specs.Table.{at, treesOf};
-ghost use Rattle.diagram.specs.Nodes.{Table};
+ghost use Rattle.nodes.specs.Nodes.{Table};
 ghost use Rattle.diagram.specs.Walks.{Added};
 ghost use Rattle.diagram.specs.Cubes.{bitsOver, placeOver, cubeSays};
 use crate::Made;

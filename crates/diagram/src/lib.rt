@@ -3,11 +3,9 @@
 // and j + 2 is the node at place j. The layer's surface is two calls: `step` works a plan, one instruction a row, and
 // `well_formed` only checks the diagrams. Both are total. Assumes nothing.
 
-ghost use lib.ListN.{length};
 ghost use Rattle.diagram.specs.Steps.{stepOutcome, formedOutcome, Leaves, Tells};
 
 mod cube;
-mod kept;
 mod memory;
 mod plan;
 mod row;
@@ -15,22 +13,15 @@ mod sweep;
 mod table;
 mod walk;
 
-use crate::kept::check;
 use crate::plan::fit;
 use crate::plan::worked;
-use crate::sweep::zero;
+use keeping::check;
+use nodes::zero;
 
 // What a walk answers: the count of nodes and the reference of the result, or that the slice is full.
 pub enum Made {
     Full,
     At(u32, u32),
-}
-
-// A node's three numbers.
-pub struct Node {
-    pub level: u32,
-    pub low: u32,
-    pub high: u32,
 }
 
 // A number that stands for a value.

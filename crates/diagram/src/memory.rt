@@ -1,17 +1,9 @@
 // The memory of results: four numbers a slot, three of the key and one more than the result, 0 in an empty slot. A key
 // has one slot, by a mix of its numbers, and is compared in full. Assumes that there is a slot.
+use nodes::chain::slot;
 ghost use Prim.Native.Nat.{_<_, _≤_};
 ghost use lib.ListN.{length};
 ghost use Rattle.diagram.specs.Walks.{Looked, Noted};
-
-// The slot of a key in a memory of `size` slots: the products spread each number, and the fold mixes high bits into low ones.
-fn slot(a: u32, b: u32, c: u32, size: usize) -> usize
-    requires { ⌜ 0 < size ⌝ }
-    ensures { λ r. ⌜ r < size ⌝ }
-{
-    let mixed = a as usize * 625341585 + b as usize * 668265263 + c as usize * 374761393;
-    (mixed ^ (mixed >> 13)) % size
-}
 
 // What the memory has for a key: one more than the reference of the result, or 0.
 pub fn recall(memory: &[u32], a: u32, b: u32, c: u32) -> u32

@@ -1,13 +1,13 @@
 // The rows' work, one after the other, and what follows it: the sweep, or the refusal. Regions of the work slice, with c nodes
 // in the node slice: the sweep's table before 3 * c, its notes before 4 * c, the map of complements before 5 * c, the memory
-// of results before 13 * c; from there to 15 * c nothing is kept yet: that is left for buckets of nodes.
+// of results before 13 * c, the heads of the buckets of nodes before 14 * c, their links before 15 * c. The check uses the
+// first c for its marks, and the buckets.
 ghost use mathlib.Core.Path.{_≡_};
 ghost use Prim.Native.Nat.{ℕ, _*_, _/_, _≤_};
 ghost use lib.Dec.{leb};
 ghost use lib.ListN.{length, getD};
 ghost use Rattle.trees.specs.Kept.{diagrams};
-ghost use Rattle.diagram.specs.Nodes.{Rest};
-ghost use Rattle.diagram.specs.Checks.{Decides};
+ghost use Rattle.nodes.specs.Nodes.{Rest, Decides};
 ghost use Rattle.diagram.specs.Steps.{workTable, workOutcome, Leaves};
 ghost use Rattle.diagram.specs.Works.{Fits, Desk, Leads, Ran, Ready};
 use crate::Instruction;
@@ -16,7 +16,7 @@ use crate::Stepped;
 use crate::Told;
 use crate::row::row;
 use crate::sweep::renew;
-use crate::sweep::zero;
+use nodes::zero;
 
 // Whether the numbers and lengths are ones that a step can work with.
 pub fn fit(k: u32, count: u32, nodes: usize, work: usize) -> bool

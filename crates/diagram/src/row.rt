@@ -2,11 +2,11 @@
 // and before 5 * c, and the memory of results, from 5 * c on and before 13 * c. Assumes that the first n nodes are a table.
 ghost use mathlib.Core.Path.{_≡_};
 ghost use Prim.Native.Nat.{_*_, _≤_};
-ghost use lib.ListN.{length, getD};
+ghost use lib.ListN.{getD};
 ghost use Rattle.trees.specs.Bits.{drops};
 ghost use Rattle.trees.specs.Tree.{eval, notT, sinceT, dropT};
 ghost use Rattle.trees.specs.Table.{at, treesOf};
-ghost use Rattle.diagram.specs.Nodes.{Rest};
+ghost use Rattle.nodes.specs.Nodes.{Rest};
 ghost use Rattle.diagram.specs.Walks.{Within, AddedWith};
 ghost use Rattle.diagram.specs.Steps.{instructionSays, dropStages, stagesOf};
 ghost use Rattle.diagram.specs.Works.{Desk, Leads, led, Worked, Base};

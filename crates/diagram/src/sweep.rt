@@ -1,46 +1,22 @@
 // The canonical sweep: the diagrams of some references, copied in canonical order into a table of their own. The work
 // slice holds that table in its first 3 * c numbers, and behind it, for each place of the nodes, 0 or one more than the
 // reference that its diagram has in the new table. Assumes nothing.
-use crate::Node;
+use nodes::Node;
+use nodes::read;
+use nodes::zero;
 ghost use mathlib.Core.Path.{_≡_};
 ghost use Prim.Native.Nat.{ℕ, _+_, _*_, _-_, _/_, _<_, _≤_};
 ghost use mathlib.Core.List.{_++_};
 ghost use lib.ListN.{length, getD, set, take, replicate};
 ghost use Rattle.trees.specs.Tree.{Fine};
 ghost use Rattle.trees.specs.Table.{at, treesOf};
-ghost use Rattle.diagram.specs.Nodes.{Table, Splits};
-ghost use Rattle.diagram.specs.Sweeps.{Zeroed, Noted, Emitted, Rows, Copied, Renewal};
+ghost use Rattle.nodes.specs.Nodes.{Table, Rows};
+ghost use Rattle.diagram.specs.Sweeps.{Noted, Emitted, Copied, Renewal};
 
 // What the sweep of a diagram answers: the count of nodes of the new table, and the diagram's reference there.
 pub struct Swept {
     pub count: u32,
     pub reference: u32,
-}
-
-// Sets the numbers from `from` on and before `to` to 0.
-pub fn zero(xs: &mut [u32], from: usize, to: usize)
-    requires { ⌜ to ≤ length (now xs) ⌝ }
-    ensures { λ _. ⌜ Zeroed from to (now (xs .entry)) (now (xs .exit)) ⌝ }
-{
-    let mut i = from;
-    while i < to {
-        xs[i] = 0;
-        i += 1;
-    }
-}
-
-// The three numbers of the node that r leads to.
-pub fn read(nodes: &[u32], m: u32, r: u32) -> Node
-    requires { ⌜ Table (now nodes) m ⌝ }
-    requires { ⌜ (2 ≤ r) × (r < m + 2) ⌝ }
-    ensures { λ x. ⌜ Splits (now (nodes .entry)) m r (x .level) (x .low) (x .high) ⌝ }
-{
-    let i = 3 * (r as usize - 2);
-    Node {
-        level: nodes[i],
-        low: nodes[i + 1],
-        high: nodes[i + 2],
-    }
 }
 
 // Writes a node at place n of the new table, and at j the note that it stands there.

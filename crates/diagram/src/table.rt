@@ -4,28 +4,12 @@ ghost use Prim.Native.Nat.{_+_, _*_, _<_, _≤_};
 ghost use lib.ListN.{length};
 ghost use Rattle.trees.specs.Tree.{mk};
 ghost use Rattle.trees.specs.Table.{at, treesOf};
-ghost use Rattle.diagram.specs.Nodes.{Table, Holds, Found, Splits, Sides, firstLevel};
+ghost use Rattle.nodes.specs.Nodes.{Table, Found, Sides, firstLevel};
 ghost use Rattle.diagram.specs.Walks.{Added};
 use crate::Made;
-use crate::Node;
-
-// Whether the node at place j is this one.
-fn holds(nodes: &[u32], j: usize, level: u32, low: u32, high: u32) -> bool
-    requires { ⌜ 3 * j + 2 < length (now nodes) ⌝ }
-    ensures { λ r. ⌜ Holds (now (nodes .entry)) j level low high r ⌝ }
-{
-    let i = 3 * j;
-    if nodes[i] != level {
-        return false;
-    }
-    if nodes[i + 1] != low {
-        return false;
-    }
-    if nodes[i + 2] != high {
-        return false;
-    }
-    true
-}
+use nodes::Node;
+use nodes::chain::holds;
+use nodes::read;
 
 // The place of a node among the first n, or n.
 fn find(nodes: &[u32], n: u32, level: u32, low: u32, high: u32) -> u32
@@ -65,20 +49,6 @@ pub fn make(nodes: &mut [u32], n: u32, level: u32, low: u32, high: u32) -> Made
     Made::At(n + 1, n + 2)
 }
 
-// The three numbers of the node that r leads to.
-pub fn split(nodes: &[u32], n: u32, r: u32) -> Node
-    requires { ⌜ Table (now nodes) n ⌝ }
-    requires { ⌜ (2 ≤ r) × (r < n + 2) ⌝ }
-    ensures { λ x. ⌜ Splits (now (nodes .entry)) n r (x .level) (x .low) (x .high) ⌝ }
-{
-    let i = 3 * (r as usize - 2);
-    Node {
-        level: nodes[i],
-        low: nodes[i + 1],
-        high: nodes[i + 2],
-    }
-}
-
 // The first level that r asks; past all levels for a leaf.
 pub fn top(nodes: &[u32], n: u32, r: u32) -> u32
     requires { ⌜ Table (now nodes) n ⌝ }
@@ -88,7 +58,7 @@ pub fn top(nodes: &[u32], n: u32, r: u32) -> u32
     if r < 2 {
         return 4294967295;
     }
-    let x = split(nodes, n, r);
+    let x = read(nodes, n, r);
     x.level
 }
 
@@ -105,7 +75,7 @@ pub fn sides(nodes: &[u32], n: u32, r: u32, level: u32) -> Node
             high: r,
         };
     }
-    let x = split(nodes, n, r);
+    let x = read(nodes, n, r);
     if x.level != level {
         return Node {
             level,

@@ -6,16 +6,16 @@ ghost use mathlib.Core.Path.{_≡_};
 ghost use Prim.Native.Nat.{_+_, _<_, _≤_, min};
 ghost use Rattle.trees.specs.Tree.{mk, notT, sinceT, dropT};
 ghost use Rattle.trees.specs.Table.{at, treesOf};
-ghost use Rattle.diagram.specs.Nodes.{Table};
+ghost use Rattle.nodes.specs.Nodes.{Table};
 ghost use Rattle.diagram.specs.Walks.{Within, Eased, Forks, recalled, Key, Memory, Complements, AddedWith};
 use crate::Made;
-use crate::Node;
 use crate::memory::note;
 use crate::memory::recall;
 use crate::table::make;
 use crate::table::sides;
-use crate::table::split;
 use crate::table::top;
+use nodes::Node;
+use nodes::read;
 
 // What the references alone tell of since: the reference of the result, or nothing.
 enum Settled {
@@ -204,7 +204,7 @@ pub fn not_walk(nodes: &mut [u32], map: &mut [u32], n: u32, levels: u32, left: u
     if 0 < hit {
         return Made::At(n, hit - 1);
     }
-    let mut x = split(nodes, n, p);
+    let mut x = read(nodes, n, p);
     let Made::At(n1, a) = not_walk(nodes, map, n, levels, left - 1, x.low) else {
         return Made::Full;
     };
@@ -234,7 +234,7 @@ pub fn drop_walk(
     if p < 2 {
         return Made::At(n, p);
     }
-    let mut x = split(nodes, n, p);
+    let mut x = read(nodes, n, p);
     if v < x.level {
         return Made::At(n, p);
     }

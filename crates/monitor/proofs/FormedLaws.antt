@@ -16,7 +16,7 @@ use Rattle.meaning.specs.Tables.{freeLevel}
 use Rattle.meaning.proofs.RowsLaws.{checked, rows-length, free-beyond}
 use Rattle.rule.specs.Masks.{hasBit}
 use Rattle.rule.specs.Checking.{Free}
-use Rattle.diagram.specs.Checks.{freeBy}
+use Rattle.keeping.specs.Checks.{freeBy}
 
 -- tests that agree below n
 all-same : (n : ℕ) (f g : ℕ → Bool) → ((i : ℕ) → i < n → f i ≡ g i) → allBelow n f ≡ allBelow n g

@@ -24,7 +24,7 @@ use Rattle.meaning.proofs.AnyState.{Arrays, laid-formed}
 use Rattle.rule.specs.Checking.{Free}
 use Rattle.diagram.specs.declared.Instruction.{Instruction}
 use Rattle.diagram.specs.declared.Instruction.the-variants.{Yes}
-use Rattle.diagram.specs.Checks.{freeBy}
+use Rattle.keeping.specs.Checks.{freeBy}
 use Rattle.diagram.specs.Steps.{fits, judge, judgeFormed, stepOutcome, formedOutcome}
 use Rattle.instructions.specs.Plan.{instructionOf}
 use Rattle.instructions.specs.Worked.{workedOutcome}

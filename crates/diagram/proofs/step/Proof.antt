@@ -3,11 +3,11 @@ use Prim.Native.Nat.{_/_}
 use mathlib.Core.Path.{sym, _∙_}
 use native.Mathlib.Omega.{arith}
 use lib.ListN.{length}
-use Rattle.trees.proofs.KeptLaws.{kept-of}
-use Rattle.diagram.specs.Checks.{freeBy}
+use Rattle.trees.proofs.KeptLaws.{kept-of, not-false}
+use Rattle.keeping.specs.Checks.{freeBy}
 use Rattle.diagram.specs.Works.{Fits}
-use Rattle.diagram.proofs.CheckLaws.{says-yes}
-use Rattle.diagram.proofs.FitLaws.{turned-true, turned-false}
+use Rattle.keeping.proofs.CheckLaws.{says-yes}
+use Rattle.diagram.proofs.FitLaws.{turned-false}
 use Rattle.diagram.proofs.OutcomeLaws.{ready}
 use Rattle.diagram.proofs.CaseLaws.{sized, cleared-after, unfit-leaves, bad-leaves, good-leaves}
 use borrow.Author.Needs.{needs}
@@ -15,10 +15,10 @@ use Rattle.diagram.proofs.step.Statement.{statement}
 use Rattle.diagram.proofs.step.Tie as tie
 use Rattle.diagram.proofs.step.Reads as reads
 use Rattle.diagram.proofs.step.Lts as lts
-use Rattle.diagram.proofs.kept.check.Reads as check-reads
+use Rattle.keeping.proofs.check.Reads as check-reads
 use Rattle.diagram.proofs.plan.fit.Reads as fit-reads
 use Rattle.diagram.proofs.plan.worked.Reads as worked-reads
-use Rattle.diagram.proofs.sweep.zero.Reads as zero-reads
+use Rattle.nodes.proofs.zero.Reads as zero-reads
 
 fit-requires : tie.Need-fit-requires
 fit-requires c κs = search needs
@@ -50,7 +50,7 @@ zero-requires c κs =
     let first = test .before in
     let s = first .before .before .before in
     let f = says-yes (Fits (s .args .k) (s .args .count) (length (s .args .nodes .now)) (length (s .args .work .now))) (first .fit .result) (first .fit .ensures) (test .if1 .left) in
-    omega (arith, f .room, checked .check .ensures .1 .size)
+    omega (arith, f .room, checked .check .kept .1 .1 .1 .1 .1 .1 .0)
 
 same-length : tie.Need-same-length
 same-length c = search needs
@@ -67,8 +67,8 @@ returns-2 c =
     let first = test .before in
     let s = first .before .before .before in
     let f = says-yes (Fits (s .args .k) (s .args .count) (length (s .args .nodes .now)) (length (s .args .work .now))) (first .fit .result) (first .fit .ensures) (test .if1 .left) in
-    bad-leaves (s .args .k) (s .args .count) (s .args .allowed) (s .args .refs) (s .args .kept) (s .args .nodes .now) (s .args .work .now) (s .args .plan) f (sym (checked .check .ensures .0) ∙ turned-true (checked .check .result) (second .if2 .taken))
-    (cleared-after (s .args .k) (s .args .count) (s .args .allowed) (s .args .refs) (s .args .kept) (s .args .nodes .now) (s .args .work .now) f (checked .check .ensures .1) (last .zero .ensures))
+    bad-leaves (s .args .k) (s .args .count) (s .args .allowed) (s .args .refs) (s .args .kept) (s .args .nodes .now) (s .args .work .now) (s .args .plan) f (sym (checked .check .ensures .0) ∙ not-false (checked .check .result) (second .if2 .taken))
+    (cleared-after (s .args .k) (s .args .count) (s .args .allowed) (s .args .refs) (s .args .kept) (s .args .nodes .now) (s .args .work .now) f (checked .check .ensures .1) (checked .check .kept .1 .1 .1 .1 .1 .1 .0) (last .zero .ensures))
 
 worked-requires : tie.Need-worked-requires
 worked-requires c κs =
@@ -78,7 +78,7 @@ worked-requires c κs =
     let first = test .before in
     let s = first .before .before .before in
     let f = says-yes (Fits (s .args .k) (s .args .count) (length (s .args .nodes .now)) (length (s .args .work .now))) (first .fit .result) (first .fit .ensures) (test .if1 .left) in (
-      rw (checked .check .ensures .1 .size) f,
+      rw (checked .check .kept .1 .1 .1 .1 .1 .1 .0) f,
       ready (s .args .k) (s .args .allowed) (length (s .args .nodes .now) / 3) (s .args .count) (s .args .refs) (s .args .kept) (s .args .nodes .now)
           (f .least) (f .few) (s .good .1 .1 .1 .1 .0 .1 .0 .1) (f .whole) (f .small)
           (kept-of (freeBy (s .args .k) (s .args .allowed)) _ (s .args .count) (s .args .refs) (s .args .kept) (s .args .nodes .now) (sym (checked .check .ensures .0) ∙ turned-false (checked .check .result) (second .if2 .left))),
@@ -99,7 +99,7 @@ returns-3 c =
     let first = test .before in
     let s = first .before .before .before in
     let f = says-yes (Fits (s .args .k) (s .args .count) (length (s .args .nodes .now)) (length (s .args .work .now))) (first .fit .result) (first .fit .ensures) (test .if1 .left) in
-    good-leaves (s .args .k) (s .args .count) (s .args .allowed) (s .args .refs) (s .args .kept) (s .args .nodes .now) (s .args .work .now) (s .args .plan) f (sym (checked .check .ensures .0) ∙ turned-false (checked .check .result) (second .if2 .left)) (checked .check .ensures .1) (last .worked .ensures)
+    good-leaves (s .args .k) (s .args .count) (s .args .allowed) (s .args .refs) (s .args .kept) (s .args .nodes .now) (s .args .work .now) (s .args .plan) f (sym (checked .check .ensures .0) ∙ turned-false (checked .check .result) (second .if2 .left)) (checked .check .ensures .1) (checked .check .kept .1 .1 .1 .1 .1 .1 .0) (last .worked .ensures)
 
 pub step-spec : {M : Type 1} → statement M
 step-spec =

@@ -3,16 +3,16 @@ use mathlib.Core.Path.{sym, _∙_}
 use native.Mathlib.Omega.{arith}
 use lib.ListN.{length}
 use Rattle.diagram.specs.Works.{Fits}
-use Rattle.diagram.proofs.CheckLaws.{says-yes}
+use Rattle.keeping.proofs.CheckLaws.{says-yes}
 use Rattle.diagram.proofs.CaseLaws.{sized, cleared-after, unfit-tells, bad-tells, good-tells}
 use borrow.Author.Needs.{needs}
 use Rattle.diagram.proofs.well_formed.Statement.{statement}
 use Rattle.diagram.proofs.well_formed.Tie as tie
 use Rattle.diagram.proofs.well_formed.Reads as reads
 use Rattle.diagram.proofs.well_formed.Lts as lts
-use Rattle.diagram.proofs.kept.check.Reads as check-reads
+use Rattle.keeping.proofs.check.Reads as check-reads
 use Rattle.diagram.proofs.plan.fit.Reads as fit-reads
-use Rattle.diagram.proofs.sweep.zero.Reads as zero-reads
+use Rattle.nodes.proofs.zero.Reads as zero-reads
 
 fit-requires : tie.Need-fit-requires
 fit-requires c κs = search needs
@@ -44,7 +44,7 @@ zero-requires c κs =
     let first = test .before in
     let s = first .before .before .before in
     let f = says-yes (Fits (s .args .k) (s .args .count) (length (s .args .nodes .now)) (length (s .args .work .now))) (first .fit .result) (first .fit .ensures) (test .if1 .left) in
-    omega (arith, f .room, checked .check .ensures .1 .size)
+    omega (arith, f .room, checked .check .kept .1 .1 .1 .1 .1 .1 .0)
 
 same-length : tie.Need-same-length
 same-length c = search needs
@@ -57,7 +57,7 @@ returns-2 c =
     let first = test .before in
     let s = first .before .before .before in
     let f = says-yes (Fits (s .args .k) (s .args .count) (length (s .args .nodes .now)) (length (s .args .work .now))) (first .fit .result) (first .fit .ensures) (test .if1 .left) in
-    good-tells (s .args .k) (s .args .count) (s .args .allowed) (s .args .refs) (s .args .kept) (s .args .nodes .now) (s .args .work .now) f (cleared-after (s .args .k) (s .args .count) (s .args .allowed) (s .args .refs) (s .args .kept) (s .args .nodes .now) (s .args .work .now) f (checked .check .ensures .1) (last .zero .ensures)) (sym (checked .check .ensures .0) ∙ c .if2 .taken)
+    good-tells (s .args .k) (s .args .count) (s .args .allowed) (s .args .refs) (s .args .kept) (s .args .nodes .now) (s .args .work .now) f (cleared-after (s .args .k) (s .args .count) (s .args .allowed) (s .args .refs) (s .args .kept) (s .args .nodes .now) (s .args .work .now) f (checked .check .ensures .1) (checked .check .kept .1 .1 .1 .1 .1 .1 .0) (last .zero .ensures)) (sym (checked .check .ensures .0) ∙ c .if2 .taken)
 
 same-length-2 : tie.Need-same-length-2
 same-length-2 c = search needs
@@ -70,7 +70,7 @@ returns-3 c =
     let first = test .before in
     let s = first .before .before .before in
     let f = says-yes (Fits (s .args .k) (s .args .count) (length (s .args .nodes .now)) (length (s .args .work .now))) (first .fit .result) (first .fit .ensures) (test .if1 .left) in
-    bad-tells (s .args .k) (s .args .count) (s .args .allowed) (s .args .refs) (s .args .kept) (s .args .nodes .now) (s .args .work .now) f (cleared-after (s .args .k) (s .args .count) (s .args .allowed) (s .args .refs) (s .args .kept) (s .args .nodes .now) (s .args .work .now) f (checked .check .ensures .1) (last .zero .ensures)) (sym (checked .check .ensures .0) ∙ c .if2 .left)
+    bad-tells (s .args .k) (s .args .count) (s .args .allowed) (s .args .refs) (s .args .kept) (s .args .nodes .now) (s .args .work .now) f (cleared-after (s .args .k) (s .args .count) (s .args .allowed) (s .args .refs) (s .args .kept) (s .args .nodes .now) (s .args .work .now) f (checked .check .ensures .1) (checked .check .kept .1 .1 .1 .1 .1 .1 .0) (last .zero .ensures)) (sym (checked .check .ensures .0) ∙ c .if2 .left)
 
 pub well-formed-spec : {M : Type 1} → statement M
 well-formed-spec =

@@ -5,7 +5,7 @@ use borrow.Author.Needs.{needs}
 use borrow.Fn.Kinds.{In}
 use borrow.Fn.PlainCycle.{Measures, is, falls, and}
 use Rattle.diagram.proofs.CubeLaws.{bits-end, bits-stuck, bits-even, bits-odd}
-use Rattle.diagram.proofs.WalkLaws.{grown-ref}
+use Rattle.nodes.proofs.ReadLaws.{grown-ref}
 use Rattle.diagram.proofs.cube.+bits_of.{statement}
 use Rattle.diagram.proofs.cube.+bits_of.Tie.{close}
 use Rattle.diagram.proofs.cube.bits_of.Reads as own

@@ -3,7 +3,7 @@ use native.Mathlib.Omega.{arith}
 use borrow.Author.Needs.{needs}
 use Rattle.diagram.specs.Walks.{Added}
 use Rattle.diagram.proofs.CubeLaws.{last, later, early, last-made, later-made, early-made, cube-made, last-stuck, later-stuck, early-stuck}
-use Rattle.diagram.proofs.WalkLaws.{grown-ref}
+use Rattle.nodes.proofs.ReadLaws.{grown-ref}
 use Rattle.diagram.proofs.cube.cube.Statement.{statement}
 use Rattle.diagram.proofs.cube.cube.Tie as tie
 

@@ -1,7 +1,7 @@
 -- `variable` meets its contract. Assumes nothing.
 use mathlib.Core.Path.{refl}
 use borrow.Author.Needs.{needs}
-use Rattle.diagram.proofs.WalkLaws.{stays}
+use Rattle.nodes.proofs.ReadLaws.{stays}
 use Rattle.diagram.proofs.cube.variable.Statement.{statement}
 use Rattle.diagram.proofs.cube.variable.Tie as tie
 

@@ -5,7 +5,7 @@ use native.Mathlib.Omega.{arith}
 use lib.ListN.{length}
 use borrow.Author.Needs.{needs}
 use Rattle.trees.specs.Kept.{diagrams}
-use Rattle.diagram.specs.Nodes.{Rest}
+use Rattle.nodes.specs.Nodes.{Rest}
 use Rattle.diagram.specs.Works.{Through}
 use Rattle.diagram.proofs.WalkLaws.{rest-trans}
 use Rattle.diagram.proofs.PlanLaws.{old-are, through-none, through-short, through-more}

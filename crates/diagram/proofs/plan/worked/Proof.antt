@@ -13,7 +13,7 @@ use Rattle.diagram.proofs.plan.worked.Reads as reads
 use Rattle.diagram.proofs.plan.worked.Lts as lts
 use Rattle.diagram.proofs.plan.rows.Reads as rows-reads
 use Rattle.diagram.proofs.sweep.renew.Reads as renew-reads
-use Rattle.diagram.proofs.sweep.zero.Reads as zero-reads
+use Rattle.nodes.proofs.zero.Reads as zero-reads
 
 mul-zero : tie.Need-mul-zero
 mul-zero c = search needs

@@ -5,7 +5,7 @@ use mathlib.Core.Path.{_≡_, refl, _∙_}
 use native.Mathlib.Omega.{arith}
 use lib.ListN.{length}
 use borrow.Author.Needs.{needs}
-use Rattle.diagram.specs.Nodes.{Rest}
+use Rattle.nodes.specs.Nodes.{Rest}
 use Rattle.diagram.proofs.WalkLaws.{rest-trans}
 use Rattle.diagram.proofs.RemovalLaws.{Removing, removing-none, removing-more, removing-short, removing-all}
 use Rattle.diagram.proofs.RowLaws.{removal-short, removal-done}

@@ -1,5 +1,6 @@
 -- `sweep::sweep` meets its contract: the laws of SweepLaws, one for each way out. The measure is the levels left. Assumes nothing.
-use Rattle.diagram.proofs.SweepLaws.{steps, swept-leaf, swept-hit, swept-room, swept}
+use Rattle.nodes.proofs.ReadLaws.{steps}
+use Rattle.diagram.proofs.SweepLaws.{swept-leaf, swept-hit, swept-room, swept}
 use borrow.Author.Needs.{needs}
 use native.Mathlib.Omega.{arith}
 use Prim.Native.Nat.{ℕ, _<_}
@@ -9,7 +10,7 @@ use Rattle.diagram.proofs.sweep.sweep.Reads as sweep
 use Rattle.diagram.proofs.sweep.sweep.Kinds as sweep-kinds
 use Rattle.diagram.proofs.sweep.+sweep.Lts-sweep as sweep-lts
 use Rattle.diagram.proofs.sweep.emit.Reads as emit-reads
-use Rattle.diagram.proofs.sweep.read.Reads as read-reads
+use Rattle.nodes.proofs.read.Reads as read-reads
 use Rattle.diagram.proofs.sweep.+sweep.{statement}
 use Rattle.diagram.proofs.sweep.+sweep.Tie.{close}
 

@@ -2,7 +2,8 @@
 use native.Mathlib.Omega.{arith}
 use lib.ListN.{length-set}
 use borrow.Author.Needs.{needs}
-use Rattle.diagram.proofs.NodesLaws.{make-side, make-found, make-stuck, make-new, stored}
+use Rattle.diagram.proofs.NodesLaws.{make-side, make-found, make-stuck, make-new}
+use Rattle.nodes.proofs.ReadLaws.{stored-front, stored-rest, stored-is}
 use Rattle.diagram.proofs.table.make.Statement.{statement}
 use Rattle.diagram.proofs.table.make.Tie as tie
 
@@ -76,9 +77,8 @@ same-length-3 c = search needs
 returns-4 : tie.Need-returns-4
 returns-4 c =
     let s = c .before .before .before .before .before .before in
-    let w = stored (s .args .nodes .now) (s .args .n) (s .args .level) (s .args .low) (s .args .high) (c .if3 .left) in
     make-new _ _ _ _ _ (s .pre .0) (s .pre .1 .0) (s .pre .1 .1) (c .before .before .before .before .if1 .left)
-    (λ k h. c .before .before .find .ensures .first k (omega arith)) _ (simp length-set) (c .if3 .left) (w .0) (w .1) (w .2)
+    (λ k h. c .before .before .find .ensures .first k (omega arith)) _ (simp length-set) (c .if3 .left) (stored-front (s .args .nodes .now) (s .args .n) (s .args .level) (s .args .low) (s .args .high) (c .if3 .left)) (stored-rest (s .args .nodes .now) (s .args .n) (s .args .level) (s .args .low) (s .args .high) (c .if3 .left)) (stored-is (s .args .nodes .now) (s .args .n) (s .args .level) (s .args .low) (s .args .high) (c .if3 .left))
 
 pub make-spec : {M : Type 1} → statement M
 make-spec =

@@ -7,14 +7,14 @@ use Rattle.diagram.proofs.table.sides.Tie as tie
 returns : tie.Need-returns
 returns c = sides-leaf _ _ _ _ (c .if1 .taken)
 
-split-requires : tie.Need-split-requires
-split-requires c κs = search needs
+read-requires : tie.Need-read-requires
+read-requires c κs = search needs
 
 returns-2 : tie.Need-returns-2
-returns-2 c = sides-later (c .before .before .split .ensures) _ (c .if2 .taken) (c .before .before .before .before .before .pre .1)
+returns-2 c = sides-later (c .before .before .read .ensures) _ (c .if2 .taken) (c .before .before .before .before .before .pre .1)
 
 returns-3 : tie.Need-returns-3
-returns-3 c = sides-own (c .before .before .split .ensures) _ (c .if2 .left)
+returns-3 c = sides-own (c .before .before .read .ensures) _ (c .if2 .left)
 
 pub sides-spec : {M : Type 1} → statement M
-sides-spec = tie.close (tie.spec returns split-requires returns-2 returns-3)
+sides-spec = tie.close (tie.spec returns read-requires returns-2 returns-3)

@@ -7,11 +7,11 @@ use Rattle.diagram.proofs.table.top.Tie as tie
 returns : tie.Need-returns
 returns c = top-leaf _ _ _ (c .if1 .taken)
 
-split-requires : tie.Need-split-requires
-split-requires c κs = search needs
+read-requires : tie.Need-read-requires
+read-requires c κs = search needs
 
 returns-2 : tie.Need-returns-2
-returns-2 c = top-node (c .split .ensures)
+returns-2 c = top-node (c .read .ensures)
 
 pub top-spec : {M : Type 1} → statement M
-top-spec = tie.close (tie.spec returns split-requires returns-2)
+top-spec = tie.close (tie.spec returns read-requires returns-2)

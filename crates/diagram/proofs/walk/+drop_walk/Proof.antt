@@ -7,19 +7,20 @@ use borrow.Fn.Kinds.{In}
 use borrow.Fn.PlainCycle.{Measures, is, falls, and}
 use Rattle.trees.specs.Table.{at, treesOf}
 use Rattle.trees.specs.Tree.{mk, dropT}
-use Rattle.diagram.specs.Nodes.{Grown}
+use Rattle.nodes.specs.Nodes.{Grown}
 use Rattle.diagram.specs.Walks.{Memory}
 use Rattle.diagram.proofs.DropLaws.{drop-leaf, drop-stay, drop-here, drop-node, within-sure}
 use Rattle.diagram.proofs.StepLaws.{Step, steps}
 use Rattle.diagram.proofs.MemoryLaws.{drop-key, recalled-drop, memory-hit, key-later, recalled-over}
-use Rattle.diagram.proofs.WalkLaws.{grown-ref, grown-count, kept, stays, within-grown, stuck-low, stuck-high, joined-with}
+use Rattle.nodes.proofs.ReadLaws.{grown-ref, grown-count, stays}
+use Rattle.diagram.proofs.WalkLaws.{kept, within-grown, stuck-low, stuck-high, joined-with}
 use Rattle.diagram.proofs.walk.+drop_walk.{statement}
 use Rattle.diagram.proofs.walk.+drop_walk.Tie.{close}
 use Rattle.diagram.proofs.walk.drop_walk.Reads as own
 use Rattle.diagram.proofs.walk.drop_walk.Kinds as kinds
 use Rattle.diagram.proofs.walk.+drop_walk.Lts-drop_walk as lts
 use Rattle.diagram.proofs.memory.recall.Reads as recall-reads
-use Rattle.diagram.proofs.table.split.Reads as split-reads
+use Rattle.nodes.proofs.read.Reads as read-reads
 use Rattle.diagram.proofs.walk.keep.Reads as keep-reads
 use Rattle.diagram.proofs.walk.since_walk.Reads as since-walk-reads
 
@@ -36,23 +37,23 @@ below t =
 -- the calls, at the measure t
 module _ (t : ℕ) where
   abbrev calls : lts.Claims
-  calls = (split-reads.Asked, split-reads.Learnt, since-walk-reads.Asked, since-walk-reads.Learnt, recall-reads.Asked, recall-reads.Learnt, below t, own.Post, keep-reads.Asked, keep-reads.Learnt)
+  calls = (read-reads.Asked, read-reads.Learnt, since-walk-reads.Asked, since-walk-reads.Learnt, recall-reads.Asked, recall-reads.Learnt, below t, own.Post, keep-reads.Asked, keep-reads.Learnt)
 
-  abbrev start : lts.After-split calls (now-at t) own.Post → lts.Start calls (now-at t) own.Post
+  abbrev start : lts.After-read calls (now-at t) own.Post → lts.Start calls (now-at t) own.Post
   start c = c .before .before .before .before .before
 
   -- what the node gives
-  abbrev stepped : (c : lts.After-split calls (now-at t) own.Post)
+  abbrev stepped : (c : lts.After-read calls (now-at t) own.Post)
       → let a = start c .args in
-      let x = c .split .result in
+      let x = c .read .result in
       Step (a .nodes .now) (a .n) (a .levels) (a .left) (a .p) (x .level) (x .low) (x .high)
-  stepped c = steps (start c .pre .1 .1 .1 .0) (start c .pre .1 .1 .1 .1) (c .split .ensures)
+  stepped c = steps (start c .pre .1 .1 .1 .0) (start c .pre .1 .1 .1 .1) (c .read .ensures)
 
   -- what is left to do before the level is reached
   abbrev early : (c : lts.Else3 calls (now-at t) own.Post)
       → let at-split = c .before .before .before .before in
       let a = start at-split .args in
-      let x = at-split .split .result in
+      let x = at-split .read .result in
       let ts = treesOf (a .nodes .now) (a .n) in
       dropT (a .levels) (a .v) (at ts (a .p)) ≡ mk (x .level) (dropT (a .levels) (a .v) (at ts (x .low))) (dropT (a .levels) (a .v) (at ts (x .high)))
   early c =
@@ -65,7 +66,7 @@ module _ (t : ℕ) where
       → let after = c .before .before .before .before .before .before in
       let at-split = after .before .before .before .before .before .before .before .before .before .before in
       let a = start at-split .args in
-      let x = at-split .split .result in
+      let x = at-split .read .result in
       let v = c .n1 .given .0 in
       Grown (a .nodes .now) (after .drop-walk .last .0) (a .n) (v .0) (v .1 .0) (dropT (a .levels) (a .v) (at (treesOf (a .nodes .now) (a .n)) (x .low)))
       × Memory (after .drop-walk .last .0) (v .0) (a .levels) (after .drop-walk .last .1 .0)
@@ -77,7 +78,7 @@ module _ (t : ℕ) where
       let after = at-n1 .before .before .before .before .before .before in
       let at-split = after .before .before .before .before .before .before .before .before .before .before in
       let a = start at-split .args in
-      let x = at-split .split .result in
+      let x = at-split .read .result in
       let v = c .n2 .given .0 in
       Grown (after .drop-walk .last .0) (after2 .drop-walk2 .last .0) (at-n1 .n1 .given .0 .0) (v .0) (v .1 .0) (dropT (a .levels) (a .v) (at (treesOf (a .nodes .now) (a .n)) (x .high)))
       × Memory (after2 .drop-walk2 .last .0) (v .0) (a .levels) (after2 .drop-walk2 .last .1 .0)
@@ -91,8 +92,8 @@ module _ (t : ℕ) where
       let s = c .before .before .before in
       (stays _ _ _ _ (s .pre .1 .0) (s .pre .1 .1 .1 .1 .below) (drop-leaf (s .args .levels) (s .args .v) _ _ _ (c .if1 .taken)), s .pre .1 .1 .0)
 
-  split-requires : lts.Need-split-requires calls (now-at t) own.Post
-  split-requires c κs =
+  read-requires : lts.Need-read-requires calls (now-at t) own.Post
+  read-requires c κs =
       let s = c .before .before .before .before in
       (s .pre .1 .0, (omega arith, s .pre .1 .1 .1 .1 .below))
 
@@ -242,4 +243,4 @@ module _ (t : ℕ) where
 
 pub +drop-walk-spec : {M : Type 1} → statement M
 +drop-walk-spec = close μ λ t. lts.spec (calls t) (now-at t) own.Post
-    (returns t) (split-requires t) (same-length t) (returns-2 t) (sub-since-walk t) (since-walk-requires t) (same-length-2 t) (same-length-3 t) (returns-3 t) (recall-requires t) (sub-t24 t) (same-length-4 t) (same-length-5 t) (returns-4 t) (sub-drop-walk t) (drop-walk-requires t) (enum-known-n1 t) (enum-told t) (same-length-6 t) (same-length-7 t) (returns-5 t) (sub-drop-walk-2 t) (drop-walk-requires-2 t) (enum-known-n2 t) (enum-told-2 t) (same-length-8 t) (same-length-9 t) (returns-6 t) (keep-requires t) (same-length-10 t) (same-length-11 t) (returns-7 t)
+    (returns t) (read-requires t) (same-length t) (returns-2 t) (sub-since-walk t) (since-walk-requires t) (same-length-2 t) (same-length-3 t) (returns-3 t) (recall-requires t) (sub-t24 t) (same-length-4 t) (same-length-5 t) (returns-4 t) (sub-drop-walk t) (drop-walk-requires t) (enum-known-n1 t) (enum-told t) (same-length-6 t) (same-length-7 t) (returns-5 t) (sub-drop-walk-2 t) (drop-walk-requires-2 t) (enum-known-n2 t) (enum-told-2 t) (same-length-8 t) (same-length-9 t) (returns-6 t) (keep-requires t) (same-length-10 t) (same-length-11 t) (returns-7 t)

@@ -6,17 +6,18 @@ use borrow.Fn.Kinds.{In}
 use borrow.Fn.PlainCycle.{Measures, is, falls, and}
 use Rattle.trees.specs.Table.{at, treesOf}
 use Rattle.trees.specs.Tree.{notT}
-use Rattle.diagram.specs.Nodes.{Grown}
+use Rattle.nodes.specs.Nodes.{Grown}
 use Rattle.diagram.specs.Walks.{Complements}
 use Rattle.diagram.proofs.NotLaws.{not-leaf, not-node, not-over, map-hit}
 use Rattle.diagram.proofs.StepLaws.{Step, steps}
-use Rattle.diagram.proofs.WalkLaws.{grown-ref, grown-count, kept, within-grown, stuck-low, stuck-high, joined-with}
+use Rattle.nodes.proofs.ReadLaws.{grown-ref, grown-count}
+use Rattle.diagram.proofs.WalkLaws.{kept, within-grown, stuck-low, stuck-high, joined-with}
 use Rattle.diagram.proofs.walk.+not_walk.{statement}
 use Rattle.diagram.proofs.walk.+not_walk.Tie.{close}
 use Rattle.diagram.proofs.walk.not_walk.Reads as own
 use Rattle.diagram.proofs.walk.not_walk.Kinds as kinds
 use Rattle.diagram.proofs.walk.+not_walk.Lts-not_walk as lts
-use Rattle.diagram.proofs.table.split.Reads as split-reads
+use Rattle.nodes.proofs.read.Reads as read-reads
 use Rattle.diagram.proofs.walk.keep_not.Reads as keep-not-reads
 
 abbrev μ : Measures 2 kinds.ps ℕ
@@ -32,24 +33,24 @@ below t =
 -- the calls, at the measure t
 module _ (t : ℕ) where
   abbrev calls : lts.Claims
-  calls = (split-reads.Asked, split-reads.Learnt, below t, own.Post, keep-not-reads.Asked, keep-not-reads.Learnt)
+  calls = (read-reads.Asked, read-reads.Learnt, below t, own.Post, keep-not-reads.Asked, keep-not-reads.Learnt)
 
-  abbrev start : lts.After-split calls (now-at t) own.Post → lts.Start calls (now-at t) own.Post
+  abbrev start : lts.After-read calls (now-at t) own.Post → lts.Start calls (now-at t) own.Post
   start c = c .before .before .before .before .before .before .before
 
   -- what the node gives
-  abbrev stepped : (c : lts.After-split calls (now-at t) own.Post)
+  abbrev stepped : (c : lts.After-read calls (now-at t) own.Post)
       → let a = start c .args in
-      let x = c .split .result in
+      let x = c .read .result in
       Step (a .nodes .now) (a .n) (a .levels) (a .left) (a .p) (x .level) (x .low) (x .high)
-  stepped c = steps (start c .pre .1 .1 .1 .0) (start c .pre .1 .1 .1 .1) (c .split .ensures)
+  stepped c = steps (start c .pre .1 .1 .1 .0) (start c .pre .1 .1 .1 .1) (c .read .ensures)
 
   -- what the low side gives, and the high side
   low-done : (c : lts.After-n1 calls (now-at t) own.Post)
       → let after = c .before .before .before .before .before .before in
       let at-split = after .before .before .before in
       let a = start at-split .args in
-      let x = at-split .split .result in
+      let x = at-split .read .result in
       let v = c .n1 .given .0 in
       Grown (a .nodes .now) (after .not-walk .last .0) (a .n) (v .0) (v .1 .0) (notT (a .levels) (at (treesOf (a .nodes .now) (a .n)) (x .low)))
       × Complements (after .not-walk .last .0) (v .0) (a .levels) (after .not-walk .last .1 .0)
@@ -61,7 +62,7 @@ module _ (t : ℕ) where
       let after = at-n1 .before .before .before .before .before .before in
       let at-split = after .before .before .before in
       let a = start at-split .args in
-      let x = at-split .split .result in
+      let x = at-split .read .result in
       let v = c .n2 .given .0 in
       Grown (after .not-walk .last .0) (after2 .not-walk2 .last .0) (at-n1 .n1 .given .0 .0) (v .0) (v .1 .0) (notT (a .levels) (at (treesOf (a .nodes .now) (a .n)) (x .high)))
       × Complements (after2 .not-walk2 .last .0) (v .0) (a .levels) (after2 .not-walk2 .last .1 .0)
@@ -99,8 +100,8 @@ module _ (t : ℕ) where
       let s = c .before .before .before .before .before in
       (map-hit _ _ _ _ _ (s .pre .1 .0) (s .pre .1 .1 .0) (omega arith) (c .if2 .taken), s .pre .1 .1 .0)
 
-  split-requires : lts.Need-split-requires calls (now-at t) own.Post
-  split-requires c κs =
+  read-requires : lts.Need-read-requires calls (now-at t) own.Post
+  read-requires c κs =
       let s = c .before .before .before .before .before .before in
       (s .pre .1 .0, (omega arith, s .pre .1 .1 .1 .1 .below))
 
@@ -205,4 +206,4 @@ module _ (t : ℕ) where
 
 pub +not-walk-spec : {M : Type 1} → statement M
 +not-walk-spec = close μ λ t. lts.spec (calls t) (now-at t) own.Post
-    (sub-t15 t) (returns t) (sub-j t) (mul-hit t) (slice-read-hit t) (sub-t19 t) (returns-2 t) (split-requires t) (sub-not-walk t) (not-walk-requires t) (enum-known-n1 t) (enum-told t) (same-length t) (same-length-2 t) (returns-3 t) (sub-not-walk-2 t) (not-walk-requires-2 t) (enum-known-n2 t) (enum-told-2 t) (same-length-3 t) (same-length-4 t) (returns-4 t) (keep-not-requires t) (same-length-5 t) (same-length-6 t) (returns-5 t)
+    (sub-t15 t) (returns t) (sub-j t) (mul-hit t) (slice-read-hit t) (sub-t19 t) (returns-2 t) (read-requires t) (sub-not-walk t) (not-walk-requires t) (enum-known-n1 t) (enum-told t) (same-length t) (same-length-2 t) (returns-3 t) (sub-not-walk-2 t) (not-walk-requires-2 t) (enum-known-n2 t) (enum-told-2 t) (same-length-3 t) (same-length-4 t) (returns-4 t) (keep-not-requires t) (same-length-5 t) (same-length-6 t) (returns-5 t)

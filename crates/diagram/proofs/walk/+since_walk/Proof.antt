@@ -8,10 +8,11 @@ use borrow.Fn.PlainCycle.{Measures, is, falls, and}
 use Rattle.trees.specs.Table.{at, treesOf}
 use Rattle.trees.specs.Tree.{sinceT}
 use Rattle.diagram.specs.Walks.{Hard, Memory}
-use Rattle.diagram.specs.Nodes.{Grown}
+use Rattle.nodes.specs.Nodes.{Grown}
 use Rattle.diagram.proofs.MemoryLaws.{since-key, recalled-since, memory-hit, key-later, recalled-over}
 use Rattle.diagram.proofs.SinceLaws.{Down, down, easy-grown, since-kept}
-use Rattle.diagram.proofs.WalkLaws.{grown-ref, grown-count, within-grown, stuck-low, stuck-high, joined-with}
+use Rattle.nodes.proofs.ReadLaws.{grown-ref, grown-count}
+use Rattle.diagram.proofs.WalkLaws.{within-grown, stuck-low, stuck-high, joined-with}
 use Rattle.diagram.proofs.walk.+since_walk.{statement}
 use Rattle.diagram.proofs.walk.+since_walk.Tie.{close}
 use Rattle.diagram.proofs.walk.since_walk.Reads as own

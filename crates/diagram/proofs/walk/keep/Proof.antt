@@ -2,7 +2,7 @@
 use native.Mathlib.Omega.{arith}
 use borrow.Author.Needs.{needs}
 use Rattle.diagram.proofs.MemoryLaws.{memory-made}
-use Rattle.diagram.proofs.WalkLaws.{grown-ref}
+use Rattle.nodes.proofs.ReadLaws.{grown-ref}
 use Rattle.diagram.proofs.walk.keep.Statement.{statement}
 use Rattle.diagram.proofs.walk.keep.Tie as tie
 

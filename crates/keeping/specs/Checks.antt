@@ -1,0 +1,92 @@
+-- What the check of a state's diagrams asks, pass by pass. Assumes nothing: these are definitions.
+use Prim.Native.Nat.{ℕ, zero, suc, _+_, _*_, _/_, _%_, _^_, _≤_, _<_}
+use mathlib.Core.Path.{_≡_}
+use mathlib.Core.Bool.{Bool, true, false, _&&_, _||_}
+use mathlib.Core.List.{List, _++_}
+use lib.Dec.{eqb, ltb}
+use lib.ListN.{length, getD}
+use Rattle.trees.specs.Tree.{Tree, off, on, node}
+use Rattle.trees.specs.Bits.{bit}
+use Rattle.trees.specs.Table.{addTree, at, treesOf}
+use Rattle.trees.specs.Kept.{nodeRight, equalNodes, levels}
+use Rattle.nodes.specs.Nodes.{canonical}
+use Rattle.keeping.specs.declared.order.Ordered.{Ordered}
+use Rattle.keeping.specs.declared.order.Ordered.the-variants.{Broken, At}
+
+-- the level l is one of the row i's: its variable l / k is one of four, and allowed to the row
+unfoldable pub freeBy : ℕ → List ℕ → ℕ → ℕ → Bool
+freeBy k allowed i l = ltb (l / k) 4 && eqb (getD allowed i 0 / 2 ^ (l / k) % 2) 1
+
+-- the references of the first count rows lead to kept nodes or leaves
+abbrev pub Inside : List ℕ → ℕ → ℕ → Type 0
+Inside refs count kept = (i : ℕ) → i < count → getD refs i 0 < kept + 2
+
+-- the numbers from place i on are 0
+abbrev pub ZeroFrom : ℕ → List ℕ → Type 0
+ZeroFrom i xs = (j : ℕ) → i ≤ j → getD xs j 0 ≡ 0
+
+-- each of the first n nodes is right by itself, and its level is below the count of levels
+pub record Right (ns : List ℕ) (n levels : ℕ) : Type 0 where
+  pub node : (j : ℕ) → j < n → nodeRight ns j ≡ true
+  pub level : (j : ℕ) → j < n → getD ns (3 * j) 0 < levels
+
+-- no two of the first n nodes are equal
+abbrev pub Apart : List ℕ → ℕ → Type 0
+Apart ns n = (i j : ℕ) → i < n → j < i → equalNodes ns i j ≡ false
+
+-- the diagram of r, added to the first n nodes, leads to the first n′ of them
+pub record InOrder (ns : List ℕ) (kept n r n′ : ℕ) : Type 0 where
+  pub more : n ≤ n′
+  pub fits : n′ ≤ kept
+  pub trees : addTree (treesOf ns n) (at (treesOf ns kept) r) ≡ treesOf ns n′
+
+-- it leads to a table that the kept nodes don't go on from
+pub record OutOfOrder (ns : List ℕ) (kept n r : ℕ) : Type 0 where
+  pub never : (more : List Tree) → treesOf ns kept ≡ addTree (treesOf ns n) (at (treesOf ns kept) r) ++ more → ⊥
+
+-- what the walk over a diagram answers
+abbrev pub Follows : List ℕ → ℕ → ℕ → ℕ → Ordered → Type 0
+Follows ns kept n r Broken = OutOfOrder ns kept n r
+Follows ns kept n r (At n′) = InOrder ns kept n r n′
+
+-- the kept nodes are the rows' diagrams, in canonical order
+abbrev pub InRowOrder : List ℕ → ℕ → List ℕ → ℕ → Type 0
+InRowOrder ns kept refs count = canonical ns kept refs count ≡ treesOf ns kept
+
+-- whether a tree asks a level of the variable v
+unfoldable pub asked : ℕ → ℕ → Tree → Bool
+asked k v off = false
+asked k v on = false
+asked k v (node l a b) = eqb (l / k) v || (asked k v a || asked k v b)
+
+-- for each of the first n of the kept nodes, whether its diagram asks the variable v: 1 or 0
+pub record Marks (ns : List ℕ) (kept k v : ℕ) (w : List ℕ) (n : ℕ) : Type 0 where
+  pub is : (j : ℕ) → j < n → getD w j 0 ≡ bit (asked k v (at (treesOf ns kept) (j + 2)))
+
+-- the rows that ask the variable v are allowed it
+abbrev pub Allowed : List ℕ → ℕ → ℕ → List ℕ → List ℕ → ℕ → ℕ → Type 0
+Allowed ns kept k allowed refs count v = (i : ℕ) → i < count → asked k v (at (treesOf ns kept) (getD refs i 0)) ≡ true → getD allowed i 0 / 2 ^ v % 2 ≡ 1
+
+-- the levels of each row's diagram are the row's
+abbrev pub FreeOnly : List ℕ → ℕ → ℕ → List ℕ → List ℕ → ℕ → Type 0
+FreeOnly ns kept k allowed refs count = (i : ℕ) → i < count → levels (freeBy k allowed i) (at (treesOf ns kept) (getD refs i 0)) ≡ true
+
+-- the mark of a reference: a leaf has none
+unfoldable pub markOf : List ℕ → ℕ → ℕ
+markOf w zero = 0
+markOf w (suc zero) = 0
+markOf w (suc (suc j)) = getD w j 0
+
+-- a row whose diagram is marked has its variable's bit set among those allowed: set / p is odd
+abbrev pub RowAllowed : List ℕ → ℕ → ℕ → ℕ → Type 0
+RowAllowed w r set p = (markOf w r ≡ 0 → ⊥) → set / p % 2 ≡ 1
+
+-- every row is so
+abbrev pub RowsAllowed : List ℕ → List ℕ → List ℕ → ℕ → ℕ → Type 0
+RowsAllowed w allowed refs count p = (i : ℕ) → i < count → RowAllowed w (getD refs i 0) (getD allowed i 0) p
+
+-- the lengths of the node slice, of whole nodes and no more than 4,096, and of the work slice
+pub record Sized (ns w : List ℕ) : Type 0 where
+  pub nodes : length ns ≡ 3 * (length ns / 3)
+  pub few : length ns ≤ 12288
+  pub room : 16 * (length ns / 3) + 1024 ≤ length w

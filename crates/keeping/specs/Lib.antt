@@ -1,0 +1,2 @@
+-- What the check of a node slice asks.
+pub mod Checks

@@ -1,0 +1,5 @@
+-- The laws of slices of nodes.
+pub mod ReadLaws
+pub mod ZeroLaws
+pub mod ChainLaws
+pub mod PartLaws

@@ -1,0 +1,3 @@
+-- How slices hold nodes.
+pub mod Nodes
+pub mod Chains
