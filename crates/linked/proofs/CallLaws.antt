@@ -1,6 +1,6 @@
 -- Laws of the two calls: what makes one, and what it then leaves. Assumes nothing.
 use Prim.Native.Nat.{ℕ}
-use mathlib.Core.Path.{_≡_, refl, ap, sym, subst, _∙_}
+use mathlib.Core.Path.{_≡_, refl, ap, subst, _∙_}
 use mathlib.Core.Bool.{true, false}
 use mathlib.Core.List.{List}
 use lib.ListN.{length}
@@ -23,7 +23,7 @@ unfolding fits
 other-answer state answer e h = rw (eq-eqb (length state) 71 e, ne-eqb (length answer) 4 h) refl
 
 -- both lengths are right
-right-lengths : (state answer : List ℕ) → length state ≡ 71 → length answer ≡ 4 → fits state answer ≡ true
+pub right-lengths : (state answer : List ℕ) → length state ≡ 71 → length answer ≡ 4 → fits state answer ≡ true
 unfolding fits
 right-lengths state answer e h = rw (eq-eqb (length state) 71 e, eq-eqb (length answer) 4 h) refl
 

@@ -3,3 +3,4 @@ pub mod PackingLaws
 pub mod AnswerLaws
 pub mod CallLaws
 pub mod OneOutcome
+pub mod RunLaws
