@@ -1,7 +1,7 @@
--- Calls one after the other: what a call leaves is what the next one reads, so that calls from a start are a run of the meaning (`runs`).
+-- Calls one after the other: what a call leaves is what the next one reads, so they are the calls that the monitor's demands speak of.
 -- Assumes nothing.
 use Prim.Native.Nat.{ℕ, _≤_}
-use mathlib.Core.Path.{_≡_, refl, ap, _∙_}
+use mathlib.Core.Path.{_≡_, refl, ap, sym, _∙_}
 use mathlib.Core.Bool.{Bool, true}
 use mathlib.Core.List.{List, map}
 use native.Mathlib.Omega.{arith}
@@ -10,11 +10,13 @@ use lib.Seq.{length-take-le}
 use Rattle.trees.specs.Table.{refOf}
 use Rattle.meaning.specs.declared.State.{State}
 use Rattle.meaning.specs.declared.Event.{Event}
+use Rattle.meaning.specs.declared.Answer.the-variants.{Started}
 use Rattle.meaning.specs.Step.{Shown, step}
 use Rattle.meaning.specs.Rows.{rowCount, ruleOf}
 use Rattle.meaning.specs.Tables.{keptTable, layState}
 use Rattle.meaning.specs.Outcome.{Decision, taken, refused, capacity, factOf, stateOf, settleStart, decideStart, startOutcome, Machine, shows, decideEvent, settleEvent, eventOutcome}
 use Rattle.meaning.specs.Outcome as outcome
+use Rattle.monitor.specs.Runs.{Fresh, Call}
 use Rattle.meaning.proofs.PartsLaws.{padded-length}
 use Rattle.meaning.proofs.RunLaws.{few, laid-on}
 use Rattle.meaning.proofs.AnyState.{Arrays, passed, laid-of}
@@ -94,3 +96,30 @@ event-leaves rows nodes values work e state answer r ns vs ws ss as′ h g o =
     let p : ss ≡ packedState (x .state) = rw f at (o .state-is) in
     let q : unpackedState ss ≡ x .state = ap unpackedState p ∙ unpack-pack (x .state) (a .0) (a .1) in
     (λ i. record { state = q i; nodes = n i; values = v i; work = w i }, ap length p ∙ packed-length (x .state) (a .0) (a .1))
+
+-- a start that is taken begins a run of the monitor
+pub start-fresh : (k : ℕ) (rows nodes values work state answer : List ℕ) (r : Bool) (ns vs ss as′ : List ℕ) → length state ≡ 71 → length answer ≡ 4
+    → LinkedStart k rows nodes values state answer r ns vs ss as′ → startOutcome k rows nodes values .answer ≡ Started → Fresh k rows nodes values (machineOf ns vs work ss)
+unfolding outcome.machineOf
+start-fresh k rows nodes values work state answer r ns vs ss as′ h g o t =
+    let l = start-leaves k rows nodes values work state answer r ns vs ss as′ h g o .0 in
+    record {
+      answer = sym t;
+      state = ap (λ (m : Machine). m .state) l;
+      nodes-are = ap (λ (m : Machine). m .nodes) l;
+      values-are = ap (λ (m : Machine). m .values) l;
+    }
+
+-- an event is a call of the monitor
+pub event-call : (rows nodes values work : List ℕ) (e : Event) (state answer : List ℕ) (r : Bool) (ns vs ws ss as′ : List ℕ) → length state ≡ 71 → length answer ≡ 4
+    → LinkedEvent rows nodes values work e state answer r ns vs ws ss as′
+    → Call rows (machineOf nodes values work state) e (eventOutcome rows (machineOf nodes values work state) e .answer) (machineOf ns vs ws ss)
+event-call rows nodes values work e state answer r ns vs ws ss as′ h g o =
+    let l = event-leaves rows nodes values work e state answer r ns vs ws ss as′ h g o .0 in
+    record {
+      answer = refl;
+      state = ap (λ (m : Machine). m .state) l;
+      nodes-are = ap (λ (m : Machine). m .nodes) l;
+      values-are = ap (λ (m : Machine). m .values) l;
+      work-is = ap (λ (m : Machine). m .work) l;
+    }
