@@ -152,17 +152,18 @@ impl Monitor for Linked {
 mod tests {
     use super::*;
 
+    const LEFT: u32 = 77;
+    const ROWS: [u32; 9] = [1, 0, 0, 0, 0, 0, 0, 0, 0];
+
     /// Calls start with a state and an answer of some lengths, and gives what it says and whether it wrote.
     fn start_with(state_len: usize, answer_len: usize) -> (bool, bool) {
-        const LEFT: u32 = 77;
-        let rows = [1, 0, 0, 0, 0, 0, 0, 0, 0];
         let (mut nodes, mut values) = ([LEFT; 3], [LEFT; 4]);
         let (mut state, mut answer) = (vec![LEFT; state_len], vec![LEFT; answer_len]);
         let called = unsafe {
             moheguzari_start(
                 1,
-                rows.as_ptr(),
-                rows.len(),
+                ROWS.as_ptr(),
+                ROWS.len(),
                 nodes.as_mut_ptr(),
                 nodes.len(),
                 values.as_mut_ptr(),
@@ -177,11 +178,43 @@ mod tests {
         (called, all.any(|&number| number != LEFT))
     }
 
+    /// The same of event.
+    fn event_with(state_len: usize, answer_len: usize) -> (bool, bool) {
+        let (mut nodes, mut values, mut work) = ([LEFT; 3], [LEFT; 4], [LEFT; 1040]);
+        let (mut state, mut answer) = (vec![LEFT; state_len], vec![LEFT; answer_len]);
+        let called = unsafe {
+            moheguzari_event(
+                ROWS.as_ptr(),
+                ROWS.len(),
+                nodes.as_mut_ptr(),
+                nodes.len(),
+                values.as_mut_ptr(),
+                values.len(),
+                work.as_mut_ptr(),
+                work.len(),
+                0,
+                0,
+                0,
+                0,
+                0,
+                state.as_mut_ptr(),
+                state.len(),
+                answer.as_mut_ptr(),
+                answer.len(),
+            )
+        };
+        let tables = nodes.iter().chain(&values).chain(&work);
+        let mut all = tables.chain(&state).chain(&answer);
+        (called, all.any(|&number| number != LEFT))
+    }
+
     #[test]
     fn a_state_or_an_answer_of_another_length_is_turned_down() {
         for (state_len, answer_len) in [(0, 4), (70, 4), (72, 4), (71, 0), (71, 3), (71, 5)] {
             assert_eq!(start_with(state_len, answer_len), (false, false));
+            assert_eq!(event_with(state_len, answer_len), (false, false));
         }
         assert_eq!(start_with(71, 4), (true, true));
+        assert_eq!(event_with(71, 4), (true, true));
     }
 }

@@ -1,0 +1,80 @@
+-- Laws of the two calls: what makes one, and what it then leaves. Assumes nothing.
+use Prim.Native.Nat.{ℕ}
+use mathlib.Core.Path.{_≡_, refl, ap, subst, _∙_}
+use mathlib.Core.Bool.{true, false}
+use mathlib.Core.List.{List}
+use lib.ListN.{length}
+use borrow.Author.Tests.{eq-eqb, ne-eqb}
+use Rattle.meaning.specs.declared.State.{State}
+use Rattle.meaning.specs.declared.Event.{Event}
+use Rattle.meaning.specs.declared.Turn.{Turn}
+use Rattle.monitor.specs.Calls.{Starts, Happens, machine}
+use Rattle.linked.specs.Packing.{packedState, unpackedState, packedAnswer}
+use Rattle.linked.specs.Calls.{fits, settleStart, startLeft, LinkedStart, machineOf, settleEvent, eventLeft, LinkedEvent}
+
+-- a state of another length
+pub other-state : (state answer : List ℕ) → (length state ≡ 71 → ⊥) → fits state answer ≡ false
+unfolding fits
+other-state state answer h = rw (ne-eqb (length state) 71 h) refl
+
+-- an answer of another length
+pub other-answer : (state answer : List ℕ) → length state ≡ 71 → (length answer ≡ 4 → ⊥) → fits state answer ≡ false
+unfolding fits
+other-answer state answer e h = rw (eq-eqb (length state) 71 e, ne-eqb (length answer) 4 h) refl
+
+-- both lengths are right
+pub right-lengths : (state answer : List ℕ) → length state ≡ 71 → length answer ≡ 4 → fits state answer ≡ true
+unfolding fits
+right-lengths state answer e h = rw (eq-eqb (length state) 71 e, eq-eqb (length answer) 4 h) refl
+
+-- a start that is not made
+pub start-not-made : (k : ℕ) (rows nodes values state answer : List ℕ) → fits state answer ≡ false
+    → LinkedStart k rows nodes values state answer false nodes values state answer
+unfolding startLeft settleStart
+start-not-made k rows nodes values state answer e = record { called = rw e refl; nodes-are = rw e refl; values-are = rw e refl; state-is = rw e refl; answer-is = rw e refl }
+
+-- a start that is made
+pub start-made : (k : ℕ) (rows nodes values state answer : List ℕ) (t : Turn) (ns vs ss as′ : List ℕ) → length state ≡ 71 → length answer ≡ 4
+    → Starts k rows nodes values t ns vs → ss ≡ packedState (t .state) → as′ ≡ packedAnswer (t .answer)
+    → LinkedStart k rows nodes values state answer true ns vs ss as′
+unfolding startLeft settleStart
+start-made k rows nodes values state answer t ns vs ss as′ h g o p q =
+    let e : fits state answer ≡ true = right-lengths state answer h g in
+    record {
+      called = rw e refl;
+      nodes-are = rw e (o .nodes-are);
+      values-are = rw e (o .values-are);
+      state-is = rw e (p ∙ ap packedState (o .state));
+      answer-is = rw e (q ∙ ap packedAnswer (o .answer));
+    }
+
+-- an event that is not made
+pub event-not-made : (rows nodes values work : List ℕ) (e : Event) (state answer : List ℕ) → fits state answer ≡ false
+    → LinkedEvent rows nodes values work e state answer false nodes values work state answer
+unfolding eventLeft settleEvent
+event-not-made rows nodes values work e state answer h = record {
+  called = rw h refl;
+  nodes-are = rw h refl;
+  values-are = rw h refl;
+  work-is = rw h refl;
+  state-is = rw h refl;
+  answer-is = rw h refl;
+}
+
+-- an event that is made on the state that the numbers are
+pub event-made : (rows nodes values work : List ℕ) (e : Event) (state answer : List ℕ) (s : State) (t : Turn) (ns vs ws ss as′ : List ℕ)
+    → length state ≡ 71 → length answer ≡ 4 → s ≡ unpackedState state
+    → Happens rows (machine s nodes values work) e t ns vs ws → ss ≡ packedState (t .state) → as′ ≡ packedAnswer (t .answer)
+    → LinkedEvent rows nodes values work e state answer true ns vs ws ss as′
+unfolding eventLeft settleEvent machineOf
+event-made rows nodes values work e state answer s t ns vs ws ss as′ h g u o p q =
+    let f : fits state answer ≡ true = right-lengths state answer h g in
+    let m : Happens rows (machine (unpackedState state) nodes values work) e t ns vs ws = subst (λ (x : State). Happens rows (machine x nodes values work) e t ns vs ws) u o in
+    record {
+      called = rw f refl;
+      nodes-are = rw f (m .nodes-are);
+      values-are = rw f (m .values-are);
+      work-is = rw f (m .work-is);
+      state-is = rw f (p ∙ ap packedState (m .state));
+      answer-is = rw f (q ∙ ap packedAnswer (m .answer));
+    }

@@ -1,0 +1,3 @@
+-- What the two calls promise to those who link them.
+pub mod Packing
+pub mod Calls

@@ -1,0 +1,27 @@
+-- How a state and an answer are laid out as numbers. Assumes nothing: these are definitions.
+use Prim.Native.Nat.{ℕ}
+use mathlib.Core.Bool.{Bool, true, false}
+use mathlib.Core.List.{List, [], _∷_, _++_}
+use lib.ListN.{getD, take, drop}
+use Rattle.meaning.specs.declared.State.{State}
+use Rattle.meaning.specs.declared.Answer.{Answer}
+use Rattle.meaning.specs.declared.Answer.the-variants.{Started, Verdict, Refused}
+
+-- "The state carries k, the row count, the count of kept nodes, four value counts and 64 references": 71 numbers, in this order
+unfoldable pub packedState : State → List ℕ
+packedState s = s .k ∷ s .rows ∷ s .kept ∷ (s .counts ++ s .refs)
+
+-- the state that 71 numbers are
+unfoldable pub unpackedState : List ℕ → State
+unpackedState xs = record { k = getD xs 0 0; rows = getD xs 1 0; kept = getD xs 2 0; counts = take 4 (drop 3 xs); refs = take 64 (drop 7 xs) }
+
+-- yes is 1 and no is 0
+unfoldable pub bit : Bool → ℕ
+bit true = 1
+bit false = 0
+
+-- An answer is 4 numbers: the refusal's number and place, then 0 and 0; or 0, and of a verdict yes or no, the kept nodes and the room.
+unfoldable pub packedAnswer : Answer → List ℕ
+packedAnswer Started = 0 ∷ 0 ∷ 0 ∷ 0 ∷ []
+packedAnswer (Verdict y kept room) = 0 ∷ bit y ∷ kept ∷ room ∷ []
+packedAnswer (Refused n p) = n ∷ p ∷ 0 ∷ 0 ∷ []

@@ -1,0 +1,71 @@
+// The monitor for programs in C and Rust that link it: the two calls, with the state as 71 numbers and the answer as 4.
+// Both calls are total. How numbers are laid out is in specs/Packing.antt, what each call gives back and leaves in specs/Calls.antt.
+mod packing;
+
+use meaning::Event;
+use meaning::Value;
+ghost use Rattle.linked.specs.Calls.{eventOf, LinkedStart, LinkedEvent};
+
+// Start. False, with nothing written, where the state has not 71 numbers or the answer not 4.
+#[no_mangle]
+pub extern "C" fn moheguzari_start(
+    k: u32,
+    rows: &[u32],
+    nodes: &mut [u32],
+    values: &mut [u32],
+    state: &mut [u32],
+    answer: &mut [u32],
+) -> bool
+    ensures { λ r. ⌜ LinkedStart k (now (rows .entry)) (now (nodes .entry)) (now (values .entry)) (now (state .entry)) (now (answer .entry)) r (now (nodes .exit)) (now (values .exit)) (now (state .exit)) (now (answer .exit)) ⌝ }
+{
+    if state.len() != 71 {
+        return false;
+    }
+    if answer.len() != 4 {
+        return false;
+    }
+    let turn = monitor::start(k, rows, nodes, values);
+    let after = turn.state;
+    let told = turn.answer;
+    packing::pack(after, state);
+    packing::put(told, answer);
+    true
+}
+
+// Event: a predicate, its count of values, and three values, of which those past the count are ignored. False, with nothing
+// written, where the state has not 71 numbers or the answer not 4.
+#[no_mangle]
+pub extern "C" fn moheguzari_event(
+    rows: &[u32],
+    nodes: &mut [u32],
+    values: &mut [u32],
+    work: &mut [u32],
+    predicate: u32,
+    count: u32,
+    first: u32,
+    second: u32,
+    third: u32,
+    state: &mut [u32],
+    answer: &mut [u32],
+) -> bool
+    ensures { λ r. ⌜ LinkedEvent (now (rows .entry)) (now (nodes .entry)) (now (values .entry)) (now (work .entry)) (eventOf predicate count first second third) (now (state .entry)) (now (answer .entry)) r (now (nodes .exit)) (now (values .exit)) (now (work .exit)) (now (state .exit)) (now (answer .exit)) ⌝ }
+{
+    if state.len() != 71 {
+        return false;
+    }
+    if answer.len() != 4 {
+        return false;
+    }
+    let before = packing::unpack(state);
+    let event = Event {
+        predicate,
+        count,
+        values: [Value(first), Value(second), Value(third)],
+    };
+    let turn = monitor::event(before, rows, nodes, values, work, event);
+    let after = turn.state;
+    let told = turn.answer;
+    packing::pack(after, state);
+    packing::put(told, answer);
+    true
+}

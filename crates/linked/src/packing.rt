@@ -1,0 +1,80 @@
+// How a state and an answer are written as numbers, and a state is read back.
+use meaning::Answer;
+use meaning::State;
+ghost use mathlib.Core.Path.{_≡_};
+ghost use Prim.Native.Nat.{_+_, _≤_};
+ghost use mathlib.Core.List.{[], _∷_, _++_};
+ghost use lib.ListN.{length, take, drop};
+ghost use Rattle.linked.specs.Packing.{packedState, unpackedState, bit, packedAnswer};
+
+// Writes all of `from` into `to`, from place `at` on.
+fn copy(from: &[u32], to: &mut [u32], at: usize)
+    requires { ⌜ at + length (now from) ≤ length (now to) ⌝ }
+    ensures { λ _. ⌜ now (to .exit) ≡ take at (now (to .entry)) ++ now (from .entry) ++ drop (at + length (now (from .entry))) (now (to .entry)) ⌝ }
+{
+    for i in 0..from.len() {
+        to[at + i] = from[i];
+    }
+}
+
+// The state that 71 numbers are.
+pub fn unpack(numbers: &[u32]) -> State
+    requires { ⌜ length (now numbers) ≡ 71 ⌝ }
+    ensures { λ r. ⌜ r ≡ unpackedState (now (numbers .entry)) ⌝ }
+{
+    let mut counts = [0; 4];
+    copy(&numbers[3..7], &mut counts, 0);
+    let mut refs = [0; 64];
+    copy(&numbers[7..71], &mut refs, 0);
+    State {
+        k: numbers[0],
+        rows: numbers[1],
+        kept: numbers[2],
+        counts,
+        refs,
+    }
+}
+
+// Writes a state as 71 numbers.
+pub fn pack(state: State, numbers: &mut [u32])
+    requires { ⌜ length (now numbers) ≡ 71 ⌝ }
+    ensures { λ _. ⌜ now (numbers .exit) ≡ packedState state ⌝ }
+{
+    numbers[0] = state.k;
+    numbers[1] = state.rows;
+    numbers[2] = state.kept;
+    let counts = state.counts;
+    copy(&counts, numbers, 3);
+    let refs = state.refs;
+    copy(&refs, numbers, 7);
+}
+
+// 1 for yes and 0 for no.
+fn bit_of(yes: bool) -> u32
+    ensures { λ r. ⌜ r ≡ bit yes ⌝ }
+{
+    if yes { 1 } else { 0 }
+}
+
+// Writes four numbers.
+fn four(numbers: &mut [u32], a: u32, b: u32, c: u32, d: u32)
+    requires { ⌜ length (now numbers) ≡ 4 ⌝ }
+    ensures { λ _. ⌜ now (numbers .exit) ≡ a ∷ b ∷ c ∷ d ∷ [] ⌝ }
+{
+    numbers[0] = a;
+    numbers[1] = b;
+    numbers[2] = c;
+    numbers[3] = d;
+}
+
+// Writes an answer as 4 numbers.
+pub fn put(answer: Answer, numbers: &mut [u32])
+    requires { ⌜ length (now numbers) ≡ 4 ⌝ }
+    ensures { λ _. ⌜ now (numbers .exit) ≡ packedAnswer answer ⌝ }
+{
+    match answer {
+        Answer::Started => four(numbers, 0, 0, 0, 0),
+        Answer::Verdict(yes, kept, room) => four(numbers, 0, bit_of(yes), kept, room),
+        Answer::Refused(number, place) => four(numbers, number, place, 0, 0),
+    }
+}

@@ -1,0 +1,95 @@
+/* Moheguzari: a rule monitor whose every answer is proved. The two calls, for programs in C.
+ *
+ * A rule is judged after each event. The caller owns every slice, lends it for the time of one call and gets it back as the call
+ * left it: the library keeps no pointer, has no memory of its own, and writes nothing but the slices that it is lent to write.
+ *
+ * A slice is a pointer and a count of numbers. What the caller sees to, since nothing can check it here:
+ *  - the pointer is aligned for a uint32_t, is not null even where the count is 0, and leads to as many numbers as the count says;
+ *  - no two slices of one call overlap, and nobody else reads or writes one of them while the call runs;
+ *  - there is enough stack (docs/LINKING.md has the figure).
+ * Whatever numbers the slices hold, and whatever their counts are, the calls are defined: there is an answer for every input.
+ *
+ * Sizes, where numbers for values have k bits (1 to 10) and the node table has room for C nodes (1 to 4,096):
+ *   rows    9 for each row of the rule, 1 to 64 rows; only read
+ *   nodes   MOHEGUZARI_NODES(C)
+ *   values  MOHEGUZARI_VALUES(k)
+ *   work    MOHEGUZARI_WORK(C) or more; 0 in its first MOHEGUZARI_WORK(C) numbers after every event but one refused with 1 to 3
+ *   state   MOHEGUZARI_STATE numbers: k, the row count, the count of kept nodes, four value counts, 64 references
+ *   answer  MOHEGUZARI_ANSWER numbers, only written
+ *
+ * An answer is four numbers:
+ *   0, 0, 0, 0             a start that is taken
+ *   0, yes, kept, room     the verdict of an event: yes is 1 or 0; the nodes kept after it; the room that it needed
+ *   n, place, 0, 0         a refusal with number n, MOHEGUZARI_BAD_K to MOHEGUZARI_NO_ROOM, and its place
+ *
+ * A refused start leaves nodes and values as they were and writes a state of zeros. A refused event leaves state, nodes and
+ * values as they were.
+ */
+#ifndef MOHEGUZARI_H
+#define MOHEGUZARI_H
+
+#include <stdbool.h>
+#include <stddef.h>
+#include <stdint.h>
+
+#ifdef __cplusplus
+extern "C" {
+#endif
+
+#define MOHEGUZARI_STATE 71
+#define MOHEGUZARI_ANSWER 4
+#define MOHEGUZARI_NODES(C) (3 * (size_t)(C))
+#define MOHEGUZARI_VALUES(k) (4 * (((size_t)1 << (k)) - 1))
+#define MOHEGUZARI_WORK(C) (16 * (size_t)(C) + 1024)
+
+/* The refusals. Start gives 1 to 3. The place is 0 where none is named. */
+enum {
+    MOHEGUZARI_BAD_K = 1,      /* k is not from 1 to 10 */
+    MOHEGUZARI_BAD_RULE = 2,   /* a row of the rule is wrong, or the rule is not a sentence; place: the row */
+    MOHEGUZARI_BAD_LENGTH = 3, /* nodes, values or work has the wrong length */
+    MOHEGUZARI_BAD_STATE = 4,  /* state, nodes and values are not what the monitor left for this rule */
+    MOHEGUZARI_BAD_COUNT = 5,  /* the event has more than three values, or not as many as the rule's predicate */
+    MOHEGUZARI_NO_NUMBER = 6,  /* a variable has no number left for one more value; place: the variable */
+    MOHEGUZARI_NO_ROOM = 7     /* the node table has no room to know the answer */
+};
+
+/* Starts on a rule: checks k, the rule and the lengths, fills nodes and values with 0, and writes the state to begin with.
+ * False, with nothing written, where state has not MOHEGUZARI_STATE numbers or answer not MOHEGUZARI_ANSWER. Else true.
+ *   k             bits of a number
+ *   rows          the rule; only read
+ *   nodes         the node table; written
+ *   values        the value lists; written
+ *   state         written, whatever it held
+ *   answer        written, whatever it held */
+bool moheguzari_start(uint32_t k,
+                      const uint32_t *rows, size_t rows_len,
+                      uint32_t *nodes, size_t nodes_len,
+                      uint32_t *values, size_t values_len,
+                      uint32_t *state, size_t state_len,
+                      uint32_t *answer, size_t answer_len);
+
+/* Judges one event, with the state and the tables that the last call left.
+ * False, with nothing written, where state has not MOHEGUZARI_STATE numbers or answer not MOHEGUZARI_ANSWER. Else true.
+ *   rows          the rule that was started on; only read
+ *   nodes         the node table; read and written
+ *   values        the value lists; read and written
+ *   work          room to work in; what it holds does not matter
+ *   predicate     the event's predicate
+ *   count         how many values it has, 0 to 3
+ *   first, second, third    its values; those past the count are ignored
+ *   state         read and written
+ *   answer        written, whatever it held */
+bool moheguzari_event(const uint32_t *rows, size_t rows_len,
+                      uint32_t *nodes, size_t nodes_len,
+                      uint32_t *values, size_t values_len,
+                      uint32_t *work, size_t work_len,
+                      uint32_t predicate, uint32_t count,
+                      uint32_t first, uint32_t second, uint32_t third,
+                      uint32_t *state, size_t state_len,
+                      uint32_t *answer, size_t answer_len);
+
+#ifdef __cplusplus
+}
+#endif
+
+#endif
