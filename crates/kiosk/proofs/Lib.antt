@@ -2,3 +2,4 @@
 pub mod PutLaws
 pub mod NumberLaws
 pub mod SessionLaws
+pub mod HeldLaws
