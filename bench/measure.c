@@ -110,7 +110,7 @@ static struct figures measure(void)
 
 // ---- the tables
 
-static const char *const names[] = {"lots-512", "lots-4096", "access", "pairs", "join", "small"};
+static const char *const names[] = {"lots-512", "lots-4096", "questioned-512", "questioned-4096", "access", "pairs", "join", "small"};
 enum { WORKLOADS = sizeof names / sizeof names[0] };
 
 static const char *set_workload(const char *name)
@@ -122,6 +122,12 @@ static const char *set_workload(const char *name)
     } else if (strcmp(name, "lots-4096") == 0) {
         workload_lots(&work, 10, 4096, 1000, 2000);
         says = "rule K, 1,000 lots";
+    } else if (strcmp(name, "questioned-512") == 0) {
+        workload_questioned(&work, 10, 512, 1000, 2000);
+        says = "rule K, 1,000 lots, a third in question";
+    } else if (strcmp(name, "questioned-4096") == 0) {
+        workload_questioned(&work, 10, 4096, 1000, 2000);
+        says = "rule K, 1,000 lots, a third in question";
     } else if (strcmp(name, "access") == 0) {
         workload_access(&work, 8, 1024, 200, 2000);
         says = "file access, 200 files";
@@ -173,7 +179,7 @@ static void main_table(void)
     for (size_t i = 0; i < WORKLOADS; i++) {
         const char *says = set_workload(names[i]);
         struct figures f = measure();
-        printf("| %s | %u | %s | %s | %s | %.1f | %u | %u | %u | %s | %s |\n", says, work.k, grouped(e, work.capacity),
+        printf("| %s | %u | %s | %s | %s | %.2f | %u | %u | %u | %s | %s |\n", says, work.k, grouped(e, work.capacity),
                grouped(a, 1 / f.proved), grouped(b, 1 / f.plain), f.proved / f.plain, f.kept, f.room, f.most_room,
                rounded(c, f.paths), rounded(d, f.all_paths));
         fflush(stdout);
@@ -190,7 +196,7 @@ static void growth_row(uint32_t size)
 {
     snprintf(work.name, sizeof work.name, "growth %u", size);
     struct figures f = measure();
-    printf("| %u | %.1f | %.1f | %.1f | %u | %u |\n", size, 1e6 * f.proved, 1e6 * f.plain, f.proved / f.plain, f.kept,
+    printf("| %u | %.2f | %.2f | %.2f | %u | %u |\n", size, 1e6 * f.proved, 1e6 * f.plain, f.proved / f.plain, f.kept,
            f.most_room);
     fflush(stdout);
 }
@@ -198,6 +204,7 @@ static void growth_row(uint32_t size)
 static void growth_tables(void)
 {
     static const uint32_t pairs[] = {5, 10, 20, 40, 80, 160, 320}, values[] = {1, 125, 250, 500, 1000};
+    static const uint32_t steps[] = {1, 1000, 1021, 1023, 1024, 65536, 4194304};
     static const uint32_t rows[] = {8, 16, 32, 64}, nodes[] = {64, 256, 1024, 4096};
     growth_head("Pairs (k = 10, C = 4,096)");
     for (size_t i = 0; i < sizeof pairs / sizeof pairs[0]; i++) {
@@ -206,8 +213,13 @@ static void growth_tables(void)
     }
     growth_head("Values in each of three lists (k = 10, C = 256)");
     for (size_t i = 0; i < sizeof values / sizeof values[0]; i++) {
-        workload_values(&work, 10, 256, values[i], 500);
+        workload_values(&work, 10, 256, values[i], WIDE, 500);
         growth_row(values[i]);
+    }
+    growth_head("Step from value to value (1,000 values in each of three lists, k = 10, C = 256)");
+    for (size_t i = 0; i < sizeof steps / sizeof steps[0]; i++) {
+        workload_values(&work, 10, 256, 1000, steps[i], 500);
+        growth_row(steps[i]);
     }
     growth_head("Rows (k = 7, C = 512, 100 lots)");
     for (size_t i = 0; i < sizeof rows / sizeof rows[0]; i++) {

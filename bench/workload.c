@@ -72,15 +72,21 @@ static uint32_t chance(uint32_t *seed, uint32_t below)
     return *seed % below;
 }
 
+// The value at place i of values in steps.
+static uint32_t stepped(uint32_t i, uint32_t step)
+{
+    return i * step + 12345;
+}
+
 // Values are wide numbers, unlike the numbers that they get.
 static uint32_t value(uint32_t i)
 {
-    return i * 2654435761u + 12345;
+    return stepped(i, WIDE);
 }
 
 // ---- the workloads
 
-enum { CONFIRMED = 1, QUESTIONED, SHELVED };
+enum { CONFIRMED = 1, QUESTIONED, SHELVED, MOST_QUESTIONED = 512 };
 
 static void rule_k(struct workload *w)
 {
@@ -89,17 +95,21 @@ static void rule_k(struct workload *w)
     never(w, row(w, AND, shelved, row(w, NOT, good, 0)), 1);
 }
 
-// The lots are confirmed first. Then one event in ten questions a lot, one in ten confirms the lot questioned longest
-// ago, and the others shelve; about one lot in fifty is in question.
-static void lots_events(struct workload *w, uint32_t lots, uint32_t timed)
+// The lots are confirmed first, and `first` of them, picked by chance, are questioned. Then one event in ten questions a lot
+// while no more than `most` are in question, one in ten confirms the lot questioned longest ago, and the others shelve.
+static void lots_events(struct workload *w, uint32_t lots, uint32_t first, uint32_t most, uint32_t timed)
 {
-    uint32_t seed = 1, queue[32], open = 0, most = lots / 50 + 1;
+    uint32_t seed = 1, queue[MOST_QUESTIONED], open = 0;
     for (uint32_t i = 0; i < lots; i++)
         happens(w, CONFIRMED, 1, value(i), 0, 0);
+    while (open < first && open < MOST_QUESTIONED) {
+        queue[open] = value(chance(&seed, lots));
+        happens(w, QUESTIONED, 1, queue[open++], 0, 0);
+    }
     w->filled = w->count;
     while (!full(w, timed)) {
         uint32_t lot = value(chance(&seed, lots)), pick = chance(&seed, 10);
-        if (pick == 0 && open < most && open < 32) {
+        if (pick == 0 && open < most && open < MOST_QUESTIONED) {
             queue[open++] = lot;
             happens(w, QUESTIONED, 1, lot, 0, 0);
         } else if (pick == 1 && open > 0) {
@@ -115,7 +125,14 @@ void workload_lots(struct workload *w, uint32_t k, uint32_t capacity, uint32_t l
 {
     begin(w, k, capacity);
     rule_k(w);
-    lots_events(w, lots, timed);
+    lots_events(w, lots, 0, lots / 50 + 1, timed);
+}
+
+void workload_questioned(struct workload *w, uint32_t k, uint32_t capacity, uint32_t lots, uint32_t timed)
+{
+    begin(w, k, capacity);
+    rule_k(w);
+    lots_events(w, lots, 2 * lots / 5, lots, timed);
 }
 
 void workload_rows(struct workload *w, uint32_t k, uint32_t capacity, uint32_t rows, uint32_t timed)
@@ -126,7 +143,7 @@ void workload_rows(struct workload *w, uint32_t k, uint32_t capacity, uint32_t r
     while (w->row_count + 3 < rows)
         below = row(w, NOT, below, 0);
     never(w, row(w, AND, shelved, below), 1);
-    lots_events(w, 100, timed);
+    lots_events(w, 100, 0, 3, timed);
 }
 
 enum { OPEN = 1, CLOSE, WRITE };
@@ -217,7 +234,7 @@ void workload_join(struct workload *w, uint32_t k, uint32_t capacity, uint32_t e
     }
 }
 
-void workload_values(struct workload *w, uint32_t k, uint32_t capacity, uint32_t values, uint32_t timed)
+void workload_values(struct workload *w, uint32_t k, uint32_t capacity, uint32_t values, uint32_t step, uint32_t timed)
 {
     begin(w, k, capacity);
     for (uint32_t v = 0; v < 3; v++)
@@ -225,10 +242,10 @@ void workload_values(struct workload *w, uint32_t k, uint32_t capacity, uint32_t
     uint32_t seed = 5;
     for (uint32_t i = 0; i < values; i++)
         for (uint32_t v = 0; v < 3; v++)
-            happens(w, ON + v, 1, value(i), 0, 0);
+            happens(w, ON + v, 1, stepped(i, step), 0, 0);
     w->filled = w->count;
     while (!full(w, timed)) {
         uint32_t i = chance(&seed, values), v = chance(&seed, 3);
-        happens(w, ON + v, 1, value(i), 0, 0);
+        happens(w, ON + v, 1, stepped(i, step), 0, 0);
     }
 }

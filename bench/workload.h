@@ -7,6 +7,7 @@
 #include <stdint.h>
 
 enum { MOST_EVENTS = 8192 };
+#define WIDE 2654435761u // a step by which values come out wide and in no order
 
 struct given {
     uint32_t predicate, count, values[3];
@@ -26,14 +27,16 @@ enum { TRUE = 1, ATOM, AND, NOT, SINCE, PREVIOUS, EXISTS };
 // The workloads, each set by a function so that one is held at a time.
 // Rule K: lots are confirmed, now and then questioned, and shelved.
 void workload_lots(struct workload *w, uint32_t k, uint32_t capacity, uint32_t lots, uint32_t timed);
+// The same with about a third of the lots in question: the diagrams are larger.
+void workload_questioned(struct workload *w, uint32_t k, uint32_t capacity, uint32_t lots, uint32_t timed);
 // Rule (1) of the paper: what is written was opened and not closed since.
 void workload_access(struct workload *w, uint32_t k, uint32_t capacity, uint32_t files, uint32_t timed);
 // A relation of pairs that are made and undone, asked for one pair at a time.
 void workload_pairs(struct workload *w, uint32_t k, uint32_t capacity, uint32_t pairs, uint32_t timed);
 // Three sets of one variable each, joined over all three.
 void workload_join(struct workload *w, uint32_t k, uint32_t capacity, uint32_t exceptions, uint32_t timed);
-// Many listed values in three lists, and next to no nodes.
-void workload_values(struct workload *w, uint32_t k, uint32_t capacity, uint32_t values, uint32_t timed);
+// Many listed values, in steps, in each of three lists, and next to no nodes.
+void workload_values(struct workload *w, uint32_t k, uint32_t capacity, uint32_t values, uint32_t step, uint32_t timed);
 // Rule K with rows added up to a count.
 void workload_rows(struct workload *w, uint32_t k, uint32_t capacity, uint32_t rows, uint32_t timed);
 
