@@ -10,6 +10,8 @@ use Rattle.rule.specs.Decoded.{rowReadAt}
 use Rattle.numbers.specs.Matching.{matchesRow}
 use Rattle.diagram.specs.declared.Instruction.{Instruction}
 use Rattle.diagram.specs.declared.Instruction.the-variants.{Yes, No}
+use Rattle.diagram.specs.declared.Told.{Told}
+use Rattle.diagram.specs.Steps.{stepOutcome, Leaves}
 use Rattle.instructions.specs.Read.{instructionRead}
 
 -- the first n places of the plan hold their rows' instructions, and the others No
@@ -21,3 +23,9 @@ pub record PlannedTo (raw : List ℕ) (e : Event) (given : List ℕ) (n : ℕ) (
 -- all rows of the rule
 abbrev pub Planned : List ℕ → Event → List ℕ → List Instruction → Type 0
 Planned raw e given plan = PlannedTo raw e given (rowCount raw) plan
+
+-- a step that told this and left these references and slices had the outcome of the event's plan
+pub record Steps (k : ℕ) (raw : List ℕ) (e : Event) (given free refs : List ℕ) (kept : ℕ) (ns w : List ℕ) (t : Told) (refs′ ns′ w′ : List ℕ) : Type 0 where
+  pub plan : List Instruction
+  pub planned : Planned raw e given plan
+  pub leaves : Leaves (stepOutcome k (rowCount raw) plan free refs kept ns w) (record { told = t; refs = refs′ }) ns′ w′

@@ -2,16 +2,17 @@
 use diagram::Instruction;
 use diagram::Number;
 use diagram::Place;
+use diagram::Told;
 use meaning::Event;
 use rule::Argument;
 use rule::Row;
 ghost use mathlib.Core.Path.{_≡_};
 ghost use mathlib.Core.List.{[], _∷_};
 ghost use Prim.Native.Nat.{_<_, _≤_};
-ghost use lib.ListN.{take};
+ghost use lib.ListN.{length, take};
 ghost use Rattle.rule.specs.Decoded.{argumentOf};
 ghost use Rattle.meaning.specs.Rows.{right, checkRows};
-ghost use Rattle.instructions.specs.Planned.{Planned};
+ghost use Rattle.instructions.specs.Planned.{Planned, Steps};
 ghost use Rattle.instructions.specs.Read.{names, numberRead, placeRead, instructionRead};
 
 // The argument is the variable `v`.
@@ -99,4 +100,30 @@ pub fn plan(rows: &[u32], event: Event, given: [u32; 12]) -> [Instruction; 64]
         i += 1;
     }
     all
+}
+
+// Works the event on the diagrams: each row's instruction, in order. The references become the new ones where it is done.
+pub fn step(
+    k: u32,
+    rows: &[u32],
+    event: Event,
+    given: [u32; 12],
+    free: &[u32; 64],
+    refs: &mut [u32; 64],
+    kept: u32,
+    nodes: &mut [u32],
+    work: &mut [u32],
+) -> Told
+    requires { ⌜ (checkRows (now rows) ≡ right) × (event .count ≤ 3) ⌝ }
+    ensures { λ t. ⌜ Steps k (now (rows .entry)) event given (now (free .entry)) (now (refs .entry)) kept (now (nodes .entry)) (now (work .entry)) t (now (refs .exit)) (now (nodes .exit)) (now (work .exit)) ⌝ }
+{
+    let n = rows.len() / 9;
+    let all = plan(rows, event, given);
+    let allowed = *free;
+    let before = *refs;
+    let stepped = diagram::step(k, n as u32, all, allowed, before, kept, nodes, work);
+    let after = stepped.refs;
+    *refs = after;
+    let told = stepped.told;
+    told
 }
