@@ -27,8 +27,9 @@ use Rattle.diagram.specs.Steps.{judgeFormed, formedOutcome}
 use Rattle.monitor.specs.declared.Decision.{Decision}
 use Rattle.monitor.specs.declared.Decision.the-variants.{Taken, Refused}
 use Rattle.monitor.specs.Decisions.{decisionOf}
-use Rattle.monitor.specs.Calls.{machine, keptTurn, Happens}
-use Rattle.monitor.specs.Events.{listsRight, Beyond, formedTurn, Listed}
+use Rattle.monitor.specs.Calls.{machine, Happens}
+use Rattle.monitor.specs.Events.{listsRight, Beyond, Listed}
+use Rattle.monitor.proofs.SaidLaws.{keptTurn, formedTurn}
 use Rattle.monitor.proofs.StartLaws.{k-small}
 use Rattle.monitor.proofs.DecisionLaws.{lengths, formed, decides-3, decides-4, leaves-all, leaves-work}
 use Rattle.monitor.proofs.WorkLaws.{formed-told}

@@ -6,6 +6,7 @@ pub mod DecisionLaws
 pub mod TakenLaws
 pub mod FormedLaws
 pub mod WorkLaws
+pub mod SaidLaws
 pub mod EventLaws
 pub mod WorkedLaws
 pub mod RunLaws

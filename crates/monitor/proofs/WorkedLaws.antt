@@ -14,7 +14,7 @@ use Rattle.trees.proofs.KeptLaws.{all-at}
 use Rattle.meaning.specs.declared.State.{State}
 use Rattle.meaning.specs.declared.Event.{Event}
 use Rattle.meaning.specs.declared.Turn.{Turn}
-use Rattle.meaning.specs.Rows.{truth, ruleOf, firstBelow}
+use Rattle.meaning.specs.Rows.{truth, ruleOf, firstBelow, rowCount}
 use Rattle.meaning.specs.Numbering.{Lists, place, listed, askRows}
 use Rattle.meaning.specs.Step.{Shown, step, roomOf}
 use Rattle.meaning.specs.Tables.{most, read, listOf, listRight, keptTable, layState, layNodes, layValues, freeLevel}
@@ -39,13 +39,14 @@ use Rattle.instructions.specs.Planned.{Planned}
 use Rattle.instructions.specs.Worked.{workedOutcome}
 use Rattle.instructions.proofs.ReadLaws.{NumbersRight}
 use Rattle.instructions.proofs.PlannedLaws.{planned-is}
-use Rattle.monitor.specs.Calls.{keptTurn, Happens}
-use Rattle.monitor.specs.Events.{listsRight, formedTurn, takenTurn, Listed, Asking}
+use Rattle.monitor.specs.Calls.{Happens}
+use Rattle.monitor.specs.Events.{listsRight, Listed, Asking}
+use Rattle.monitor.proofs.SaidLaws.{keptTurn, formedTurn, takenTurn}
 use Rattle.monitor.proofs.DecisionLaws.{formed, short, fitting, decides-4, decides-5, decides-6, decides-room}
 use Rattle.monitor.proofs.StartLaws.{k-small}
 use Rattle.monitor.proofs.TakenLaws.{state-is, verdict-is}
 use Rattle.monitor.proofs.WorkLaws.{some-rows, enough-left, step-bad, step-works}
-use Rattle.monitor.proofs.EventLaws.{kept, ends, formed-kept, rows-are, refuses-late, refuses-formed, clear-same}
+use Rattle.monitor.proofs.EventLaws.{kept, ends, formed-kept, rows-are, refuses-late, refuses-formed, clear-same, rule-count}
 
 -- the lists that a machine shows
 pub lists-are : (rows : List ℕ) (m : Machine) → shows rows m .lists ≡ listOf (m .state .k) (withCounts (m .state .counts)) (m .values)
@@ -127,24 +128,25 @@ module _ (rows masks : List ℕ) (m : Machine) (e : Event) (a : Asked) (s : Aski
 
   -- the three ends of the work
   pub data Ended (x : Stepped) (ns ws : List ℕ) : Type 0 where
-    bad : formed rows m e ≡ false → x .told ≡ Bad → ns ≡ m .nodes → ws ≡ cleared C (m .work) → Ended x ns ws
-    full : formed rows m e ≡ true → fitting rows m e ≡ false → x .told ≡ Full → ns ≡ m .nodes → ws ≡ cleared C (m .work) → Ended x ns ws
+    bad : formed rows m e ≡ false → x .told ≡ Bad → x .refs ≡ m .state .refs → ns ≡ m .nodes → ws ≡ cleared C (m .work) → Ended x ns ws
+    full : formed rows m e ≡ true → fitting rows m e ≡ false → x .told ≡ Full → x .refs ≡ m .state .refs → ns ≡ m .nodes → ws ≡ cleared C (m .work) → Ended x ns ws
     done : formed rows m e ≡ true → fitting rows m e ≡ true → x .told ≡ Done (length (keptTable after)) (roomOf (m .state .k) (ruleOf rows) (shows rows m .trees) (after .trees))
         → x .refs ≡ layState (m .state .k) after .refs → ns ≡ layNodes C after → ws ≡ cleared C (m .work) → Ended x ns ws
 
   module _ (plan : List Instruction) (p : Planned rows e (a .numbers) plan) (x : Stepped) (ns ws : List ℕ)
-      (left : Leaves (stepOutcome (m .state .k) (m .state .rows) plan masks (m .state .refs) (m .state .kept) (m .nodes) (m .work)) x ns ws) where
+      (left : Leaves (stepOutcome (m .state .k) (rowCount rows) plan masks (m .state .refs) (m .state .kept) (m .nodes) (m .work)) x ns ws) where
     ends-as : (o : Steps.Outcome) → stepOutcome (m .state .k) (length (ruleOf rows)) plan masks (m .state .refs) (m .state .kept) (m .nodes) (m .work) ≡ o → Leaves o x ns ws
+    unfolding rowCount
     ends-as o q =
         subst (λ (y : Steps.Outcome). Leaves y x ns ws)
-        (ap (λ (n : ℕ). stepOutcome (m .state .k) n plan masks (m .state .refs) (m .state .kept) (m .nodes) (m .work)) same-rows ∙ q) left
+        (ap (λ (n : ℕ). stepOutcome (m .state .k) n plan masks (m .state .refs) (m .state .kept) (m .nodes) (m .work)) (sym (rule-count rows)) ∙ q) left
 
     ends-bad : kept rows m e ≡ false → Ended x ns ws
     unfolding capacity
     ends-bad k =
         let l = s .listed in
         let o = ends-as _ (step-bad rows m e (l .k-right) (l .rule-right) (l .lengths) masks (l .free) plan k) in
-        bad (formed-kept rows m e masks l ∙ k) (ap (λ (y : Stepped). y .told) (o .result)) (o .nodes) (clear-same (length (m .nodes) / 3) (m .work) ws (o .work))
+        bad (formed-kept rows m e masks l ∙ k) (ap (λ (y : Stepped). y .told) (o .result)) (ap (λ (y : Stepped). y .refs) (o .result)) (o .nodes) (clear-same (length (m .nodes) / 3) (m .work) ws (o .work))
 
     works : kept rows m e ≡ true → Leaves (workedOutcome (fitting rows m e) (m .state .k) C (ruleOf rows) (shows rows m) after (m .state .refs) (m .nodes) (m .work)) x ns ws
     works k =
@@ -154,7 +156,7 @@ module _ (rows masks : List ℕ) (m : Machine) (e : Event) (a : Asked) (s : Aski
 
     ends-full : kept rows m e ≡ true → fitting rows m e ≡ false → Ended x ns ws
     unfolding workedOutcome
-    ends-full k f = let o = rw f at (works k) in full (formed-kept rows m e masks (s .listed) ∙ k) f (ap (λ (y : Stepped). y .told) (o .result)) (o .nodes) (o .work)
+    ends-full k f = let o = rw f at (works k) in full (formed-kept rows m e masks (s .listed) ∙ k) f (ap (λ (y : Stepped). y .told) (o .result)) (ap (λ (y : Stepped). y .refs) (o .result)) (o .nodes) (o .work)
 
     ends-done : kept rows m e ≡ true → fitting rows m e ≡ true → Ended x ns ws
     unfolding workedOutcome
@@ -177,21 +179,21 @@ module _ (rows masks : List ℕ) (m : Machine) (e : Event) (a : Asked) (s : Aski
     decides-done f g = decides true f g
 
     -- a step without room is refused
-    pub refuses-full : (t : Turn) (vs : List ℕ) → x .told ≡ Full → t ≡ keptTurn (m .state) 7 0 → vs ≡ m .values → Happens rows m e t ns vs ws
+    pub refuses-full : (t : Turn) (vs : List ℕ) → x .told ≡ Full → (x .refs ≡ m .state .refs → t ≡ keptTurn (m .state) 7 0) → vs ≡ m .values → Happens rows m e t ns vs ws
     refuses-full t vs y h v = go ended
       where
         go : Ended x ns ws → Happens rows m e t ns vs ws
-        go (bad f q n w) = let z : Full ≡ Bad = sym y ∙ q in let u : _≡_ {A = ℕ} 0 1 = cc in absurd (omega arith)
-        go (full f g q n w) = refuses-late rows m e 7 0 t ns vs ws (decides-full f g) refl h n v w
+        go (bad f q i n w) = let z : Full ≡ Bad = sym y ∙ q in let u : _≡_ {A = ℕ} 0 1 = cc in absurd (omega arith)
+        go (full f g q i n w) = refuses-late rows m e 7 0 t ns vs ws (decides-full f g) refl (h i) n v w
         go (done f g q r n w) = let z : Full ≡ Done _ _ = sym y ∙ q in let u : _≡_ {A = ℕ} 0 1 = cc in absurd (omega arith)
 
     -- one on bad diagrams is refused
-    pub refuses-bad : (t : Turn) (vs : List ℕ) → x .told ≡ Bad → t ≡ keptTurn (m .state) 4 0 → vs ≡ m .values → Happens rows m e t ns vs ws
+    pub refuses-bad : (t : Turn) (vs : List ℕ) → x .told ≡ Bad → (x .refs ≡ m .state .refs → t ≡ keptTurn (m .state) 4 0) → vs ≡ m .values → Happens rows m e t ns vs ws
     refuses-bad t vs y h v = go ended
       where
         go : Ended x ns ws → Happens rows m e t ns vs ws
-        go (bad f q n w) = let l = s .listed in refuses-late rows m e 4 0 t ns vs ws (decides-4 rows m e (l .k-right) (l .rule-right) (l .lengths) f) refl h n v w
-        go (full f g q n w) = let z : Bad ≡ Full = sym y ∙ q in let u : _≡_ {A = ℕ} 0 1 = cc in absurd (omega arith)
+        go (bad f q i n w) = let l = s .listed in refuses-late rows m e 4 0 t ns vs ws (decides-4 rows m e (l .k-right) (l .rule-right) (l .lengths) f) refl (h i) n v w
+        go (full f g q i n w) = let z : Bad ≡ Full = sym y ∙ q in let u : _≡_ {A = ℕ} 0 1 = cc in absurd (omega arith)
         go (done f g q r n w) = let z : Bad ≡ Done _ _ = sym y ∙ q in let u : _≡_ {A = ℕ} 0 1 = cc in absurd (omega arith)
 
     -- the numbers and lengths are fit
@@ -199,8 +201,8 @@ module _ (rows masks : List ℕ) (m : Machine) (e : Event) (a : Asked) (s : Aski
     never-unfit {A} y = go ended
       where
         go : Ended x ns ws → A
-        go (bad f q n w) = let z : Unfit ≡ Bad = sym y ∙ q in let u : _≡_ {A = ℕ} 0 1 = cc in absurd (omega arith)
-        go (full f g q n w) = let z : Unfit ≡ Full = sym y ∙ q in let u : _≡_ {A = ℕ} 0 1 = cc in absurd (omega arith)
+        go (bad f q i n w) = let z : Unfit ≡ Bad = sym y ∙ q in let u : _≡_ {A = ℕ} 0 1 = cc in absurd (omega arith)
+        go (full f g q i n w) = let z : Unfit ≡ Full = sym y ∙ q in let u : _≡_ {A = ℕ} 0 1 = cc in absurd (omega arith)
         go (done f g q r n w) = let z : Unfit ≡ Done _ _ = sym y ∙ q in let u : _≡_ {A = ℕ} 0 1 = cc in absurd (omega arith)
 
     -- one that is done has well-formed diagrams and room
@@ -218,8 +220,8 @@ module _ (rows masks : List ℕ) (m : Machine) (e : Event) (a : Asked) (s : Aski
       finished = go ended
         where
           go : Ended x ns ws → Finished
-          go (bad f q u w) = let z : Done n r ≡ Bad = sym d ∙ q in let y : _≡_ {A = ℕ} 0 1 = cc in absurd (omega arith)
-          go (full f g q u w) = let z : Done n r ≡ Full = sym d ∙ q in let y : _≡_ {A = ℕ} 0 1 = cc in absurd (omega arith)
+          go (bad f q i u w) = let z : Done n r ≡ Bad = sym d ∙ q in let y : _≡_ {A = ℕ} 0 1 = cc in absurd (omega arith)
+          go (full f g q i u w) = let z : Done n r ≡ Full = sym d ∙ q in let y : _≡_ {A = ℕ} 0 1 = cc in absurd (omega arith)
           go (done f g q p u w) =
               let z : Done n r ≡ Done (length (keptTable after)) (roomOf (m .state .k) (ruleOf rows) (shows rows m .trees) (after .trees)) = sym d ∙ q in
               record { well = f; fits = g; kept-is = cc; room-is = cc; refs-are = p; nodes-are = u; work-is = w }

@@ -27,10 +27,6 @@ pub record Starts (k : ℕ) (rows nodes values : List ℕ) (t : Turn) (nodes′ 
 abbrev pub machine : State → List ℕ → List ℕ → List ℕ → Machine
 machine s nodes values work = record { state = s; nodes = nodes; values = values; work = work }
 
--- the turn of a refused event: "A refused event returns the state it got"
-unfoldable pub keptTurn : State → ℕ → ℕ → Turn
-keptTurn s number place = record { state = s; answer = Refused number place }
-
 -- an event that gave this back and left these slices had the outcome of the definitions
 pub record Happens (rows : List ℕ) (m : Machine) (e : Event) (t : Turn) (nodes′ values′ work′ : List ℕ) : Type 0 where
   pub answer : t .answer ≡ eventOutcome rows m e .answer

@@ -8,8 +8,6 @@ use lib.ListN.{length, drop}
 use Rattle.trees.specs.Kept.{allBelow}
 use Rattle.meaning.specs.declared.State.{State}
 use Rattle.meaning.specs.declared.Event.{Event}
-use Rattle.meaning.specs.declared.Turn.{Turn}
-use Rattle.meaning.specs.declared.Answer.the-variants.{Verdict}
 use Rattle.meaning.specs.Rows.{ruleOf, right, checkRows}
 use Rattle.meaning.specs.Tables.{listRight}
 use Rattle.meaning.specs.Outcome.{kRight, capacity, nodesRight, valuesRight, workSize, factOf, countRight, shortest, Machine, shows}
@@ -18,7 +16,9 @@ use Rattle.numbers.specs.declared.Asked.{Asked}
 use Rattle.numbers.specs.Asking.{Asks}
 use Rattle.diagram.specs.declared.Formed.{Formed}
 use Rattle.diagram.specs.declared.Formed.the-variants.{Unfit, Bad, Good}
-use Rattle.monitor.specs.Calls.{keptTurn}
+use Rattle.monitor.specs.declared.Figures.{Figures}
+use Rattle.monitor.specs.declared.Said.{Said}
+use Rattle.monitor.specs.Said.{refusedSaid}
 
 -- the parts of refusal 4 that the lists and the count of rows decide
 unfoldable pub listsRight : State → ℕ → List ℕ → Bool
@@ -29,11 +29,11 @@ pub record Beyond (w : ℕ) (entry exit : List ℕ) : Type 0 where
   pub size : length exit ≡ length entry
   pub rest : drop w exit ≡ drop w entry
 
--- the turn of an event that is refused by what follows the state's check: refusal 4 comes before it
-unfoldable pub formedTurn : Formed → State → ℕ → ℕ → Turn
-formedTurn Good s number place = keptTurn s number place
-formedTurn Bad s number place = keptTurn s 4 0
-formedTurn Unfit s number place = keptTurn s 4 0
+-- what is said of an event that is refused by what follows the state's check: refusal 4 comes before it
+unfoldable pub formedSaid : Formed → Figures → ℕ → ℕ → Said
+formedSaid Good f number place = refusedSaid f number place
+formedSaid Bad f number place = refusedSaid f 4 0
+formedSaid Unfit f number place = refusedSaid f 4 0
 
 -- refusals 1 to 3 do not apply, the count of rows and the lists are right, and the masks are the rule's
 pub record Listed (rows masks : List ℕ) (m : Machine) : Type 0 where
@@ -51,10 +51,3 @@ pub record Asking (rows masks : List ℕ) (m : Machine) (e : Event) (a : Asked) 
   pub count-right : countRight (ruleOf rows) e ≡ true
   pub enough : ltb (shortest (m .state .k) (ruleOf rows) (shows rows m) (factOf e)) 4 ≡ false
   pub asks : Asks (m .state .k) (m .state .counts) (m .values) rows e a
-
--- the turn of an event that is taken
-unfoldable pub takenTurn : State → List ℕ → List ℕ → ℕ → ℕ → Bool → Turn
-takenTurn s counts refs kept room y = record {
-  state = record { k = s .k; rows = s .rows; kept = kept; counts = counts; refs = refs };
-  answer = Verdict y kept room;
-}

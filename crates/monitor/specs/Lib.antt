@@ -1,5 +1,6 @@
 -- What the calls of the monitor promise.
 pub mod Decisions
 pub mod Calls
+pub mod Said
 pub mod Events
 pub mod Runs

@@ -9,8 +9,10 @@ use meaning::Event;
 use meaning::State;
 use meaning::Turn;
 ghost use mathlib.Core.Path.{_≡_};
+ghost use lib.ListN.{length};
 ghost use Rattle.meaning.specs.Outcome.{stateOf};
-ghost use Rattle.monitor.specs.Calls.{refusedTurn, startedTurn, keptTurn, machine, Starts, Happens};
+ghost use Rattle.monitor.specs.Calls.{refusedTurn, startedTurn, machine, Starts, Happens};
+ghost use Rattle.monitor.specs.Said.{whole, turnOf, refusedSaid};
 
 // What is done with a call: it is taken, or refused with a number and a place.
 enum Decision {
@@ -65,17 +67,63 @@ pub fn start(k: u32, rows: &[u32], nodes: &mut [u32], values: &mut [u32]) -> Tur
     started(k, (rows.len() / 9) as u32)
 }
 
-// The turn of a refused event.
-fn refused(state: State, number: u32, place: u32) -> Turn
-    ensures { λ t. ⌜ t ≡ keptTurn state number place ⌝ }
+// The numbers of a state beside its references.
+pub struct Figures {
+    pub k: u32,
+    pub rows: u32,
+    pub kept: u32,
+    pub counts: [u32; 4],
+}
+
+// What an event on lent references gives back: the figures after it, and the answer.
+pub struct Said {
+    pub figures: Figures,
+    pub answer: Answer,
+}
+
+// What is said of a refused event: the figures are those that it got.
+fn refused(figures: Figures, number: u32, place: u32) -> Said
+    ensures { λ t. ⌜ t ≡ refusedSaid figures number place ⌝ }
 {
-    Turn {
-        state,
+    Said {
+        figures,
         answer: Answer::Refused(number, place),
     }
 }
 
-// Event: refusals 1 to 7 in their order, or the verdict of the rule on the events taken so far.
+// Event, on a state whose references are lent and become those of after the event: refusals 1 to 7 in their order, or the verdict
+// of the rule on the events taken so far.
+pub fn event_on(
+    figures: Figures,
+    refs: &mut [u32; 64],
+    rows: &[u32],
+    nodes: &mut [u32],
+    values: &mut [u32],
+    work: &mut [u32],
+    event: Event,
+) -> Said
+    requires { ⌜ (length (figures .counts) ≡ 4) × (length (now refs) ≡ 64) ⌝ }
+    ensures { λ t. ⌜ Happens (now (rows .entry)) (machine (whole figures (now (refs .entry))) (now (nodes .entry)) (now (values .entry)) (now (work .entry))) event (turnOf t (now (refs .exit))) (now (nodes .exit)) (now (values .exit)) (now (work .exit)) ⌝ }
+{
+    let rule = rule::check(rows);
+    let checked = rule.checked;
+    let decision = decide::judge(figures.k, checked, nodes, values);
+    if let Decision::Refused(number, place) = decision {
+        return refused(figures, number, place);
+    }
+    let w = 16 * (nodes.len() / 3) + 1024;
+    if work.len() < w {
+        return refused(figures, 3, 0);
+    }
+    if !tables::lists_right(figures, rows.len() / 9, values, w, work) {
+        tables::zero(&mut work[0..w]);
+        return refused(figures, 4, 0);
+    }
+    let free = rule.free;
+    working::judged(figures, refs, &free, rows, nodes, values, work, event)
+}
+
+// Event, on a state by value.
 pub fn event(
     state: State,
     rows: &[u32],
@@ -86,20 +134,26 @@ pub fn event(
 ) -> Turn
     ensures { λ t. ⌜ Happens (now (rows .entry)) (machine state (now (nodes .entry)) (now (values .entry)) (now (work .entry))) event t (now (nodes .exit)) (now (values .exit)) (now (work .exit)) ⌝ }
 {
-    let rule = rule::check(rows);
-    let checked = rule.checked;
-    let decision = decide::judge(state.k, checked, nodes, values);
-    if let Decision::Refused(number, place) = decision {
-        return refused(state, number, place);
+    let mut refs = state.refs;
+    let counts = state.counts;
+    let figures = Figures {
+        k: state.k,
+        rows: state.rows,
+        kept: state.kept,
+        counts,
+    };
+    let said = event_on(figures, &mut refs, rows, nodes, values, work, event);
+    let after = said.figures;
+    let grown = after.counts;
+    let answer = said.answer;
+    Turn {
+        state: State {
+            k: after.k,
+            rows: after.rows,
+            kept: after.kept,
+            counts: grown,
+            refs,
+        },
+        answer,
     }
-    let w = 16 * (nodes.len() / 3) + 1024;
-    if work.len() < w {
-        return refused(state, 3, 0);
-    }
-    if !tables::lists_right(state, rows.len() / 9, values, w, work) {
-        tables::zero(&mut work[0..w]);
-        return refused(state, 4, 0);
-    }
-    let free = rule.free;
-    working::judged(state, free, rows, nodes, values, work, event)
 }

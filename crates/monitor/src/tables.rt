@@ -1,11 +1,13 @@
 // The lent tables: when their lengths are right, and how they are cleared.
-use meaning::State;
+use crate::Figures;
 ghost use mathlib.Core.Path.{_≡_};
 ghost use mathlib.Core.Bool.{_&&_};
+ghost use mathlib.Core.List.{[]};
 ghost use Prim.Native.Nat.{_+_, _*_, _<_, _≤_};
 ghost use lib.ListN.{length, replicate};
 ghost use Rattle.meaning.specs.Tables;
 ghost use Rattle.meaning.specs.Outcome.{nodesRight, valuesRight};
+ghost use Rattle.monitor.specs.Said.{whole};
 ghost use Rattle.monitor.specs.Events.{listsRight, Beyond};
 
 // The node slice has 3 × C numbers, C from 1 to 4096, and the value slice 4 × (2^k − 1).
@@ -49,17 +51,17 @@ fn heads(k: u32, w: usize) -> usize
 
 // Whether the count of rows is the rule's n, and the value lists are right: a part of refusal 4. Only the first w numbers of the work
 // slice are used.
-pub fn lists_right(state: State, n: usize, values: &[u32], w: usize, work: &mut [u32]) -> bool
-    requires { ⌜ (state .k ≤ 10) × (length (now values) ≡ 4 * Tables.most (state .k)) ⌝ }
+pub fn lists_right(figures: Figures, n: usize, values: &[u32], w: usize, work: &mut [u32]) -> bool
+    requires { ⌜ (figures .k ≤ 10) × (length (now values) ≡ 4 * Tables.most (figures .k)) ⌝ }
     requires { ⌜ (1024 ≤ w) × (w ≤ length (now work)) ⌝ }
-    ensures { λ r. ⌜ r ≡ listsRight state n (now (values .entry)) ⌝ }
+    ensures { λ r. ⌜ r ≡ listsRight (whole figures []) n (now (values .entry)) ⌝ }
     ensures { λ _. ⌜ Beyond w (now (work .entry)) (now (work .exit)) ⌝ }
 {
-    if state.rows as usize != n {
+    if figures.rows as usize != n {
         return false;
     }
-    let counts = state.counts;
-    numbers::lists_right(state.k, counts, values, heads(state.k, w), work)
+    let counts = figures.counts;
+    numbers::lists_right(figures.k, counts, values, heads(figures.k, w), work)
 }
 
 // Every number of the slice becomes 0.

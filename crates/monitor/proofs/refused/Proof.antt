@@ -1,11 +1,11 @@
--- `monitor::refused` meets its contract: it is the turn itself. Assumes nothing.
+-- `monitor::refused` meets its contract: it is what is said. Assumes nothing.
 use mathlib.Core.Path.{refl}
-use Rattle.monitor.specs.Calls.{keptTurn}
+use Rattle.monitor.specs.Said.{refusedSaid}
 use Rattle.monitor.proofs.refused.Statement.{statement}
 use Rattle.monitor.proofs.refused.Tie as tie
 
 returns : tie.Need-returns
-unfolding keptTurn
+unfolding refusedSaid
 returns c = refl
 
 pub refused-spec : {M : Type 1} → statement M

@@ -3,6 +3,7 @@ use mathlib.Core.Path.{refl, sym, _∙_}
 use borrow.Author.Needs.{needs}
 use borrow.Author.Tests.{not-true, not-false}
 use Rattle.monitor.proofs.StartLaws.{k-small}
+use Rattle.monitor.proofs.SaidLaws.{formed-turn}
 use Rattle.monitor.proofs.WorkedLaws.{askable, asking, refuses-5, refuses-6}
 use Rattle.monitor.proofs.working.judged.Statement.{statement}
 use Rattle.monitor.proofs.working.judged.Tie as tie
@@ -21,11 +22,12 @@ same-length-2 c = search needs
 
 returns : tie.Need-returns
 returns c =
-    let formed = c .before .before in
-    let test = formed .before .before .before in
+    let refused = c .before .before in
+    let test = refused .before .before .before .before in
     let first = test .before in
     let s = first .before .before .before .before .before in
-    refuses-5 _ _ _ _ (s .pre) (sym (first .agrees .ensures .each (s .args .event) refl refl) ∙ not-true _ (test .if1 .taken)) _ _ _ _ (formed .refused-formed .ensures .0) (formed .refused-formed .ensures .1) refl refl
+    refuses-5 _ _ _ _ (s .pre) (sym (first .agrees .ensures .each (s .args .event) refl refl) ∙ not-true _ (test .if1 .taken)) _ _ _ _
+    (formed-turn _ _ _ _ _ _ (refused .refused-formed .ensures .0)) (refused .refused-formed .ensures .1) refl refl
 
 ask-requires : tie.Need-ask-requires
 ask-requires c κs =
@@ -51,18 +53,18 @@ same-length-5 c = search needs
 
 returns-2 : tie.Need-returns-2
 returns-2 c =
-    let formed = c .before .before in
-    let short = formed .before .before .before in
+    let refused = c .before .before in
+    let short = refused .before .before .before .before in
     let ask = short .before .before .before in
     let test = ask .before .before .before in
     let first = test .before in
     let s = first .before .before .before .before .before in
-    refuses-6 _ _ _ _ (s .pre) _ (ask .ask .ensures) (sym (first .agrees .ensures .each (s .args .event) refl refl) ∙ not-false _ (test .if1 .left)) _ (short .before .shortest .ensures) (short .if2 .taken)
-    _ _ _ _ (formed .refused-formed2 .ensures .0) (formed .refused-formed2 .ensures .1) refl refl
+    refuses-6 _ _ _ _ (s .pre) _ (ask .ask .ensures) (sym (first .agrees .ensures .each (s .args .event) refl refl) ∙ not-false _ (test .if1 .left)) _ (short .before .shortest .ensures) (short .if2 .taken) _ _ _ _
+    (formed-turn _ _ _ _ _ _ (refused .refused-formed2 .ensures .0)) (refused .refused-formed2 .ensures .1) refl refl
 
 work-on-requires : tie.Need-work-on-requires
 work-on-requires c κs =
-    let short = c .before .before .before in
+    let short = c .before .before .before .before in
     let ask = short .before .before .before in
     let test = ask .before .before .before in
     let first = test .before in

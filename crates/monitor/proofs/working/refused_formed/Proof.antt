@@ -2,7 +2,7 @@
 use mathlib.Core.Path.{ap, sym, _∙_}
 use borrow.Author.Needs.{needs}
 use Rattle.diagram.specs.declared.Formed.{Formed}
-use Rattle.monitor.specs.Events.{formedTurn}
+use Rattle.monitor.specs.Events.{formedSaid}
 use Rattle.monitor.proofs.working.refused_formed.Statement.{statement}
 use Rattle.monitor.proofs.working.refused_formed.Tie as tie
 
@@ -31,22 +31,31 @@ same-length : tie.Need-same-length
 same-length c = search needs
 
 returns : tie.Need-returns
-unfolding formedTurn
-returns c = (c .refused .ensures ∙ sym (ap (λ (y : Formed). formedTurn y (c .before .before .before .before .before .before .before .before .before .before .args .state) (c .before .before .before .before .before .before .before .before .before .before .args .number) (c .before .before .before .before .before .before .before .before .before .before .args .place)) (sym (c .before .before .before .before .before .well-formed .ensures .result) ∙ c .before .enum-told .given .1)), c .before .before .before .before .before .well-formed .ensures .work)
+unfolding formedSaid
+returns c =
+    let f = c .before .before .before .before .before in
+    let s = f .before .before .before .before .before .before in
+    (c .refused .ensures ∙ sym (ap (λ (y : Formed). formedSaid y (s .args .figures) (s .args .number) (s .args .place)) (sym (f .well-formed .ensures .result) ∙ c .before .enum-told .given .1)), f .well-formed .ensures .work)
 
 same-length-2 : tie.Need-same-length-2
 same-length-2 c = search needs
 
 returns-2 : tie.Need-returns-2
-unfolding formedTurn
-returns-2 c = (c .refused2 .ensures ∙ sym (ap (λ (y : Formed). formedTurn y (c .before .before .before .before .before .before .before .before .before .before .args .state) (c .before .before .before .before .before .before .before .before .before .before .args .number) (c .before .before .before .before .before .before .before .before .before .before .args .place)) (sym (c .before .before .before .before .before .well-formed .ensures .result) ∙ c .before .enum-told2 .given .1)), c .before .before .before .before .before .well-formed .ensures .work)
+unfolding formedSaid
+returns-2 c =
+    let f = c .before .before .before .before .before in
+    let s = f .before .before .before .before .before .before in
+    (c .refused2 .ensures ∙ sym (ap (λ (y : Formed). formedSaid y (s .args .figures) (s .args .number) (s .args .place)) (sym (f .well-formed .ensures .result) ∙ c .before .enum-told2 .given .1)), f .well-formed .ensures .work)
 
 same-length-3 : tie.Need-same-length-3
 same-length-3 c = search needs
 
 returns-3 : tie.Need-returns-3
-unfolding formedTurn
-returns-3 c = (c .refused3 .ensures ∙ sym (ap (λ (y : Formed). formedTurn y (c .before .before .before .before .before .before .before .before .before .before .args .state) (c .before .before .before .before .before .before .before .before .before .before .args .number) (c .before .before .before .before .before .before .before .before .before .before .args .place)) (sym (c .before .before .before .before .before .well-formed .ensures .result) ∙ c .before .enum-told3 .given .1)), c .before .before .before .before .before .well-formed .ensures .work)
+unfolding formedSaid
+returns-3 c =
+    let f = c .before .before .before .before .before in
+    let s = f .before .before .before .before .before .before in
+    (c .refused3 .ensures ∙ sym (ap (λ (y : Formed). formedSaid y (s .args .figures) (s .args .number) (s .args .place)) (sym (f .well-formed .ensures .result) ∙ c .before .enum-told3 .given .1)), f .well-formed .ensures .work)
 
 pub refused-formed-spec : {M : Type 1} → statement M
 refused-formed-spec =

@@ -2,15 +2,13 @@
 use mathlib.Core.Path.{_≡_, refl, sym, _∙_}
 use lib.ListN.{length, length-map}
 use borrow.Author.Needs.{needs}
+use Rattle.monitor.proofs.SaidLaws.{kept-turn, taken-turn}
 use Rattle.monitor.proofs.WorkedLaws.{few-values, rows-few, writes, takes, refuses-full, refuses-bad, never-unfit}
 use Rattle.monitor.proofs.working.work_on.Statement.{statement}
 use Rattle.monitor.proofs.working.work_on.Tie as tie
 
-plan-requires : tie.Need-plan-requires
-plan-requires c κs = let s = c .before .before .before .before .before in (s .pre .listed .rule-right, few-values _ _ (s .pre .count-right))
-
 step-requires : tie.Need-step-requires
-step-requires c κs = search needs
+step-requires c κs = let s = c .before .before .before .before .before .before .before .before in (s .pre .listed .rule-right, few-values _ _ (s .pre .count-right))
 
 enum-known-told : tie.Need-enum-known-told
 enum-known-told c = search needs
@@ -18,12 +16,12 @@ enum-known-told c = search needs
 write-fresh-requires : tie.Need-write-fresh-requires
 write-fresh-requires c κs =
     let told = c .before .before .before in
-    let step = told .before .before .before .before .before .before .before in
-    let plan = step .before .before .before .before in
-    writes _ _ _ _ _ (plan .before .before .before .before .before .before .pre) _ (plan .plan .ensures) _ _ _ (step .step .ensures) _ _ (told .told .given .1)
+    let step = told .before .before .before .before .before .before in
+    let did = step .step .ensures in
+    writes _ _ _ _ _ (step .before .before .before .before .before .before .before .before .before .pre) _ (did .planned) _ _ _ (did .leaves) _ _ (told .told .given .1)
 
 taken-requires : tie.Need-taken-requires
-taken-requires c κs = rows-few _ _ _ _ _ (c .before .before .before .before .before .before .before .before .before .before .before .before .before .before .before .before .before .before .before .before .before .before .before .before .pre)
+taken-requires c κs = rows-few _ _ _ _ _ (c .before .before .before .before .before .before .before .before .before .before .before .before .before .before .before .before .before .before .before .before .before .before .before .pre)
 
 enum-told : tie.Need-enum-told
 enum-told c = search needs
@@ -54,12 +52,13 @@ same-length-3 c = search needs
 
 returns : tie.Need-returns
 returns c =
-    let told = c .before .before .before .before .before .before .before .before in
-    let step = told .before .before .before .before .before .before .before in
-    let plan = step .before .before .before .before in
-    let s = plan .before .before .before .before .before .before in
-    let four : length (s .args .asked .counts) ≡ 4 = sym (length-map (s .args .asked .counts) _) ∙ s .good .1 .1 .1 .1 .1 .1 .1 .0 .1 .1 .0 .1 .0 .1 in
-    takes _ _ _ _ _ (s .pre) _ (plan .plan .ensures) _ _ _ (step .step .ensures) _ _ (told .told .given .1) four _ _ (c .taken .ensures) (c .before .before .before .before .write-fresh .ensures)
+    let told = c .before .before .before .before .before .before .before .before .before in
+    let step = told .before .before .before .before .before .before in
+    let s = step .before .before .before .before .before .before .before .before .before in
+    let did = step .step .ensures in
+    let four : length (s .args .asked .counts) ≡ 4 = sym (length-map (s .args .asked .counts) _) ∙ s .good .1 .1 .1 .1 .1 .1 .1 .1 .0 .1 .1 .0 .1 .0 .1 in
+    takes _ _ _ _ _ (s .pre) _ (did .planned) _ _ _ (did .leaves) _ _ (told .told .given .1) four _ _
+    (taken-turn _ _ _ _ _ _ _ _ (c .taken .ensures)) (c .before .before .before .before .before .write-fresh .ensures)
 
 same-length-4 : tie.Need-same-length-4
 same-length-4 c = search needs
@@ -69,9 +68,9 @@ same-length-5 c = search needs
 
 returns-2 : tie.Need-returns-2
 returns-2 c =
-    let step = c .before .before .before .before .before .before .before .before in
-    let plan = step .before .before .before .before in
-    refuses-full _ _ _ _ _ (plan .before .before .before .before .before .before .pre) _ (plan .plan .ensures) _ _ _ (step .step .ensures) _ _ (c .before .enum-told .given .1) (c .refused .ensures) refl
+    let step = c .before .before .before .before .before .before .before in
+    let did = step .step .ensures in
+    refuses-full _ _ _ _ _ (step .before .before .before .before .before .before .before .before .before .pre) _ (did .planned) _ _ _ (did .leaves) _ _ (c .before .enum-told .given .1) (kept-turn _ _ _ _ _ _ (c .refused .ensures)) refl
 
 same-length-6 : tie.Need-same-length-6
 same-length-6 c = search needs
@@ -81,9 +80,9 @@ same-length-7 c = search needs
 
 returns-3 : tie.Need-returns-3
 returns-3 c =
-    let step = c .before .before .before .before .before .before .before .before in
-    let plan = step .before .before .before .before in
-    refuses-bad _ _ _ _ _ (plan .before .before .before .before .before .before .pre) _ (plan .plan .ensures) _ _ _ (step .step .ensures) _ _ (c .before .enum-told2 .given .1) (c .refused2 .ensures) refl
+    let step = c .before .before .before .before .before .before .before in
+    let did = step .step .ensures in
+    refuses-bad _ _ _ _ _ (step .before .before .before .before .before .before .before .before .before .pre) _ (did .planned) _ _ _ (did .leaves) _ _ (c .before .enum-told2 .given .1) (kept-turn _ _ _ _ _ _ (c .refused2 .ensures)) refl
 
 same-length-8 : tie.Need-same-length-8
 same-length-8 c = search needs
@@ -93,15 +92,14 @@ same-length-9 c = search needs
 
 returns-4 : tie.Need-returns-4
 returns-4 c =
-    let step = c .before .before .before .before .before .before .before .before in
-    let plan = step .before .before .before .before in
-    never-unfit _ _ _ _ _ (plan .before .before .before .before .before .before .pre) _ (plan .plan .ensures) _ _ _ (step .step .ensures) (c .before .enum-told3 .given .1)
+    let step = c .before .before .before .before .before .before .before in
+    let did = step .step .ensures in
+    never-unfit _ _ _ _ _ (step .before .before .before .before .before .before .before .before .before .pre) _ (did .planned) _ _ _ (did .leaves) (c .before .enum-told3 .given .1)
 
 pub work-on-spec : {M : Type 1} → statement M
 work-on-spec =
     tie.close
     (tie.spec
-    plan-requires
     step-requires
     enum-known-told
     write-fresh-requires
