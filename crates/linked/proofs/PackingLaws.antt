@@ -1,6 +1,6 @@
 -- Laws of how a state and an answer are laid out as numbers. Assumes nothing.
 use Prim.Native.Nat.{ℕ, _+_, _≤_}
-use mathlib.Core.Path.{_≡_, refl, ap, sym, _∙_}
+use mathlib.Core.Path.{_≡_, refl, ap, sym, _∙_, ap₂}
 use mathlib.Core.Bool.{Bool}
 use mathlib.Core.List.{List, [], _∷_, _++_, append-nil}
 use native.Mathlib.Omega.{arith}
@@ -9,7 +9,9 @@ use lib.Seq.{length-take-le, take-all, take-at, drop-at}
 use Rattle.meaning.specs.declared.State.{State}
 use Rattle.meaning.specs.declared.Answer.{Answer}
 use Rattle.meaning.specs.declared.Answer.the-variants.{Verdict}
-use Rattle.linked.specs.Packing.{packedState, unpackedState, bit, packedAnswer}
+use Rattle.monitor.specs.declared.Figures.{Figures}
+use Rattle.monitor.specs.Said.{whole}
+use Rattle.linked.specs.Packing.{packedState, figuresOf, referencesOf, unpackedState, bit, packedAnswer}
 
 -- four numbers written one after the other
 pub four-are : (xs : List ℕ) (a b c d : ℕ) → length xs ≡ 4 → set (set (set (set xs 0 a) 1 b) 2 c) 3 d ≡ a ∷ b ∷ c ∷ d ∷ []
@@ -57,20 +59,37 @@ state-written s (x ∷ y ∷ z ∷ xs) ys zs h hc hr p q = behind-three (s .k) (
 over : (d s r : List ℕ) → length d ≡ length s → r ≡ take 0 d ++ s ++ drop (0 + length s) d → r ≡ s
 over d s r h e = e ∙ all-over d s (0 + length s) (omega arith)
 
--- a state read from 71 numbers
-pub state-read : (xs cs rs : List ℕ) → length xs ≡ 71
-    → cs ≡ take 0 (replicate 4 0) ++ take 4 (drop 3 xs) ++ drop (0 + length (take 4 (drop 3 xs))) (replicate 4 0)
-    → rs ≡ take 0 (replicate 64 0) ++ take 64 (drop 7 xs) ++ drop (0 + length (take 64 (drop 7 xs))) (replicate 64 0)
-    → _≡_ {A = State} (record { k = getD xs 0 0; rows = getD xs 1 0; kept = getD xs 2 0; counts = cs; refs = rs }) (unpackedState xs)
-unfolding unpackedState
-state-read xs cs rs h p q =
+-- the figures read from 71 numbers
+pub figures-read : (xs cs : List ℕ) → length xs ≡ 71 → cs ≡ take 0 (replicate 4 0) ++ take 4 (drop 3 xs) ++ drop (0 + length (take 4 (drop 3 xs))) (replicate 4 0)
+    → _≡_ {A = Figures} (record { k = getD xs 0 0; rows = getD xs 1 0; kept = getD xs 2 0; counts = cs }) (figuresOf xs)
+unfolding figuresOf
+figures-read xs cs h p =
     let a : cs ≡ take 4 (drop 3 xs) = over (replicate 4 0) (take 4 (drop 3 xs)) cs (sym (length-take-le 4 (drop 3 xs) (simp length-drop (omega arith)))) p in
-    let b : rs ≡ take 64 (drop 7 xs) = over (replicate 64 0) (take 64 (drop 7 xs)) rs (sym (length-take-le 64 (drop 7 xs) (simp length-drop (omega arith)))) q in
-    λ i. record { k = getD xs 0 0; rows = getD xs 1 0; kept = getD xs 2 0; counts = a i; refs = b i }
+    λ i. record { k = getD xs 0 0; rows = getD xs 1 0; kept = getD xs 2 0; counts = a i }
+
+-- the references
+pub references-read : (xs rs : List ℕ) → length xs ≡ 71 → rs ≡ take 0 (replicate 64 0) ++ take 64 (drop 7 xs) ++ drop (0 + length (take 64 (drop 7 xs))) (replicate 64 0)
+    → rs ≡ referencesOf xs
+unfolding referencesOf
+references-read xs rs h q = over (replicate 64 0) (take 64 (drop 7 xs)) rs (sym (length-take-le 64 (drop 7 xs) (simp length-drop (omega arith)))) q
+
+-- a state read in two parts
+pub state-read : (xs : List ℕ) (f : Figures) (rs : List ℕ) → f ≡ figuresOf xs → rs ≡ referencesOf xs → whole f rs ≡ unpackedState xs
+unfolding unpackedState
+state-read xs f rs p q = ap₂ whole p q
+
+-- it has four counts and 64 references
+pub four-counts : (xs : List ℕ) (f : Figures) → length xs ≡ 71 → f ≡ figuresOf xs → length (f .counts) ≡ 4
+unfolding figuresOf
+four-counts xs f h e = ap (λ (y : Figures). length (y .counts)) e ∙ length-take-le 4 (drop 3 xs) (simp length-drop (omega arith))
+
+pub many-references : (xs rs : List ℕ) → length xs ≡ 71 → rs ≡ referencesOf xs → length rs ≡ 64
+unfolding referencesOf
+many-references xs rs h e = ap length e ∙ length-take-le 64 (drop 7 xs) (simp length-drop (omega arith))
 
 -- what is read from a packed state is the state
 pub unpack-pack : (s : State) → length (s .counts) ≡ 4 → length (s .refs) ≡ 64 → unpackedState (packedState s) ≡ s
-unfolding packedState unpackedState
+unfolding packedState unpackedState figuresOf referencesOf
 unpack-pack s hc hr =
     let a : take 4 (s .counts ++ s .refs) ≡ s .counts = take-at (s .counts) (s .refs) 4 hc in
     let b : take 64 (drop 4 (s .counts ++ s .refs)) ≡ s .refs = ap (take 64) (drop-at (s .counts) (s .refs) 4 hc) ∙ take-all 64 (s .refs) (omega arith) in
@@ -78,7 +97,7 @@ unpack-pack s hc hr =
 
 -- every 71 numbers are a packed state
 pub pack-unpack : (xs : List ℕ) → length xs ≡ 71 → packedState (unpackedState xs) ≡ xs
-unfolding packedState unpackedState
+unfolding packedState unpackedState figuresOf referencesOf
 pack-unpack [] h = absurd (omega arith)
 pack-unpack (x ∷ []) h = absurd (omega arith)
 pack-unpack (x ∷ y ∷ []) h = absurd (omega arith)

@@ -20,7 +20,7 @@ use Rattle.monitor.specs.Runs.{Fresh, Call}
 use Rattle.meaning.proofs.PartsLaws.{padded-length}
 use Rattle.meaning.proofs.RunLaws.{few, laid-on}
 use Rattle.meaning.proofs.AnyState.{Arrays, passed, laid-of}
-use Rattle.linked.specs.Packing.{packedState, unpackedState}
+use Rattle.linked.specs.Packing.{figuresOf, referencesOf, packedState, unpackedState}
 use Rattle.linked.specs.Calls.{fits, startLeft, LinkedStart, machineOf, eventLeft, LinkedEvent}
 use Rattle.linked.specs.Calls as calls
 use Rattle.linked.proofs.PackingLaws.{unpack-pack}
@@ -57,7 +57,7 @@ arrays-begun k rows nodes values = go (decideStart k rows nodes values)
 
 -- the arrays of the state that 71 numbers are
 unpacked-arrays : (xs : List ℕ) → length xs ≡ 71 → (length (unpackedState xs .counts) ≡ 4) × (length (unpackedState xs .refs) ≡ 64)
-unfolding unpackedState
+unfolding unpackedState figuresOf referencesOf
 unpacked-arrays xs h = (length-take-le 4 (drop 3 xs) (simp length-drop (omega arith)), length-take-le 64 (drop 7 xs) (simp length-drop (omega arith)))
 
 -- the next call is lent as many numbers

@@ -4,6 +4,8 @@ use mathlib.Core.Bool.{Bool, true, false}
 use mathlib.Core.List.{List, [], _∷_, _++_}
 use lib.ListN.{getD, take, drop}
 use Rattle.meaning.specs.declared.State.{State}
+use Rattle.monitor.specs.declared.Figures.{Figures}
+use Rattle.monitor.specs.Said.{whole}
 use Rattle.meaning.specs.declared.Answer.{Answer}
 use Rattle.meaning.specs.declared.Answer.the-variants.{Started, Verdict, Refused}
 
@@ -11,9 +13,16 @@ use Rattle.meaning.specs.declared.Answer.the-variants.{Started, Verdict, Refuse
 unfoldable pub packedState : State → List ℕ
 packedState s = s .k ∷ s .rows ∷ s .kept ∷ (s .counts ++ s .refs)
 
+-- the figures of the state that 71 numbers are, and its references
+unfoldable pub figuresOf : List ℕ → Figures
+figuresOf xs = record { k = getD xs 0 0; rows = getD xs 1 0; kept = getD xs 2 0; counts = take 4 (drop 3 xs) }
+
+unfoldable pub referencesOf : List ℕ → List ℕ
+referencesOf xs = take 64 (drop 7 xs)
+
 -- the state that 71 numbers are
 unfoldable pub unpackedState : List ℕ → State
-unpackedState xs = record { k = getD xs 0 0; rows = getD xs 1 0; kept = getD xs 2 0; counts = take 4 (drop 3 xs); refs = take 64 (drop 7 xs) }
+unpackedState xs = whole (figuresOf xs) (referencesOf xs)
 
 -- yes is 1 and no is 0
 unfoldable pub bit : Bool → ℕ

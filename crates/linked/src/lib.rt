@@ -4,6 +4,7 @@ mod packing;
 
 use meaning::Event;
 use meaning::Value;
+use monitor::Figures;
 ghost use Rattle.linked.specs.Calls.{eventOf, LinkedStart, LinkedEvent};
 
 // Start. False, with nothing written, where the state has not 71 numbers or the answer not 4.
@@ -27,7 +28,15 @@ pub extern "C" fn moheguzari_start(
     let turn = monitor::start(k, rows, nodes, values);
     let after = turn.state;
     let told = turn.answer;
-    packing::pack(after, state);
+    let counts = after.counts;
+    let refs = after.refs;
+    let figures = Figures {
+        k: after.k,
+        rows: after.rows,
+        kept: after.kept,
+        counts,
+    };
+    packing::pack(figures, refs, state);
     packing::put(told, answer);
     true
 }
@@ -56,16 +65,17 @@ pub extern "C" fn moheguzari_event(
     if answer.len() != 4 {
         return false;
     }
-    let before = packing::unpack(state);
+    let before = packing::figures(state);
+    let mut refs = packing::references(state);
     let event = Event {
         predicate,
         count,
         values: [Value(first), Value(second), Value(third)],
     };
-    let turn = monitor::event(before, rows, nodes, values, work, event);
-    let after = turn.state;
-    let told = turn.answer;
-    packing::pack(after, state);
+    let said = monitor::event_on(before, &mut refs, rows, nodes, values, work, event);
+    let after = said.figures;
+    let told = said.answer;
+    packing::pack(after, refs, state);
     packing::put(told, answer);
     true
 }

@@ -1,11 +1,12 @@
 // How a state and an answer are written as numbers, and a state is read back.
 use meaning::Answer;
-use meaning::State;
+use monitor::Figures;
 ghost use mathlib.Core.Path.{_≡_};
 ghost use Prim.Native.Nat.{_+_, _≤_};
 ghost use mathlib.Core.List.{[], _∷_, _++_};
 ghost use lib.ListN.{length, take, drop};
-ghost use Rattle.linked.specs.Packing.{packedState, unpackedState, bit, packedAnswer};
+ghost use Rattle.monitor.specs.Said.{whole};
+ghost use Rattle.linked.specs.Packing.{packedState, figuresOf, referencesOf, bit, packedAnswer};
 
 // Writes all of `from` into `to`, from place `at` on.
 fn copy(from: &[u32], to: &mut [u32], at: usize)
@@ -17,35 +18,41 @@ fn copy(from: &[u32], to: &mut [u32], at: usize)
     }
 }
 
-// The state that 71 numbers are.
-pub fn unpack(numbers: &[u32]) -> State
+// The figures of the state that 71 numbers are.
+pub fn figures(numbers: &[u32]) -> Figures
     requires { ⌜ length (now numbers) ≡ 71 ⌝ }
-    ensures { λ r. ⌜ r ≡ unpackedState (now (numbers .entry)) ⌝ }
+    ensures { λ r. ⌜ r ≡ figuresOf (now (numbers .entry)) ⌝ }
 {
     let mut counts = [0; 4];
     copy(&numbers[3..7], &mut counts, 0);
-    let mut refs = [0; 64];
-    copy(&numbers[7..71], &mut refs, 0);
-    State {
+    Figures {
         k: numbers[0],
         rows: numbers[1],
         kept: numbers[2],
         counts,
-        refs,
     }
 }
 
-// Writes a state as 71 numbers.
-pub fn pack(state: State, numbers: &mut [u32])
+// Its references.
+pub fn references(numbers: &[u32]) -> [u32; 64]
     requires { ⌜ length (now numbers) ≡ 71 ⌝ }
-    ensures { λ _. ⌜ now (numbers .exit) ≡ packedState state ⌝ }
+    ensures { λ r. ⌜ r ≡ referencesOf (now (numbers .entry)) ⌝ }
 {
-    numbers[0] = state.k;
-    numbers[1] = state.rows;
-    numbers[2] = state.kept;
-    let counts = state.counts;
+    let mut refs = [0; 64];
+    copy(&numbers[7..71], &mut refs, 0);
+    refs
+}
+
+// Writes a state as 71 numbers: its figures, and then its references.
+pub fn pack(figures: Figures, refs: [u32; 64], numbers: &mut [u32])
+    requires { ⌜ length (now numbers) ≡ 71 ⌝ }
+    ensures { λ _. ⌜ now (numbers .exit) ≡ packedState (whole figures refs) ⌝ }
+{
+    numbers[0] = figures.k;
+    numbers[1] = figures.rows;
+    numbers[2] = figures.kept;
+    let counts = figures.counts;
     copy(&counts, numbers, 3);
-    let refs = state.refs;
     copy(&refs, numbers, 7);
 }
 
