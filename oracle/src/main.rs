@@ -6,7 +6,8 @@ use std::process::ExitCode;
 use oracle::coverage::{Coverage, BY_INPUTS};
 use oracle::enumerating::Oracle;
 use oracle::generate::{calls, inputs};
-use oracle::{program, runs};
+use oracle::monitor::Monitor;
+use oracle::{limits, program, runs};
 
 #[cfg(feature = "linked")]
 use oracle::linked::Linked as Subject;
@@ -20,6 +21,7 @@ const USAGE: &str = "oracle < FILE
 oracle fixed
 oracle compare SEED COUNT
 oracle compare-program SEED COUNT --run COMMAND..
+oracle limits FILE..
 oracle input SEED INDEX
 oracle trial SEED INDEX";
 
@@ -48,6 +50,7 @@ fn command() -> Result<(), String> {
         ["compare-program", seed, count, "--run", ref run @ ..] if !run.is_empty() => {
             compare_program(number(seed)?, number(count)?, run)?
         }
+        ["limits", ref files @ ..] if !files.is_empty() => written(files)?,
         ["input", seed, index] => {
             let input = inputs::input(number(seed)?, number(index)?);
             return stdout()
@@ -93,4 +96,26 @@ fn compare_program(seed: u64, count: u64, run: &[&str]) -> Result<String, String
     runs::program_inputs(seed, count, &mut subject, &mut coverage)?;
     coverage.print();
     Ok(format!("seed {seed}: {count} inputs, no difference"))
+}
+
+/// The written cases, on every monitor that is here.
+fn written(files: &[&str]) -> Result<String, String> {
+    let (mut cases, mut calls) = (0, 0);
+    for file in files {
+        let at = |wrong: String| format!("{file}:{wrong}");
+        let text = std::fs::read_to_string(file).map_err(|error| at(format!(" {error}")))?;
+        let all = limits::read(&text).map_err(at)?;
+        cases += all.len();
+        for case in &all {
+            let mut oracle = Oracle::default();
+            let monitors: [&mut dyn Monitor; 2] = [&mut oracle, &mut Subject];
+            for monitor in monitors {
+                calls += limits::run(case, monitor).map_err(at)?;
+            }
+        }
+    }
+    Ok(format!(
+        "{cases} cases, {} calls, all as written",
+        calls / 2
+    ))
 }
