@@ -1,10 +1,12 @@
-//! The written cases bite: another number anywhere in what is written to be left is told, with its line.
+//! The written cases bite: another number anywhere in what is written to be left is told, and so is another reading of a line.
 
-use oracle::limits::{read, run};
+use oracle::limits::{read, run, run_lines};
 use oracle::monitor::Stepping;
+use oracle::runs::printed;
 
 const RULE_K: &str = include_str!("../limits/rule-k.txt");
 const ROWS: &str = include_str!("../limits/rows.txt");
+const LINES: &str = include_str!("../cases/lines.txt");
 
 /// What the first difference is, in a text of cases.
 fn told(text: &str) -> Result<(), String> {
@@ -65,4 +67,22 @@ fn what_is_no_case_is_told() {
     assert!(told(&with(RULE_K, "lent rows 81", "lent rows 80")).is_err());
     assert!(told("case nothing happens\n").is_err());
     assert!(told("case no answer\nlent rows 0\nevent 1\n").is_err());
+}
+
+#[test]
+fn another_reading_of_a_line_is_told() {
+    let mut right = |input: &[u8]| Ok(printed(&mut Stepping, input));
+    assert_eq!(run_lines(LINES, &mut right), Ok(34));
+    for (line, other) in [
+        ("sizes 2 64 |2 64|", "sizes 2 65 |2 64|"),
+        ("event 1 7 |e 1 7|", "bad |e 1 7|"),
+        ("bad |2 513|", "sizes 2 513 |2 513|"),
+    ] {
+        assert!(run_lines(&with(LINES, line, other), &mut right).is_err());
+    }
+    let mut lenient = |input: &[u8]| {
+        let input = String::from_utf8_lossy(input).replace("\r\n", "\n");
+        Ok(printed(&mut Stepping, input.as_bytes()))
+    };
+    assert!(run_lines(LINES, &mut lenient).is_err());
 }

@@ -1,9 +1,11 @@
-//! Cases that are written by hand, in the files of the folder `limits`: calls, and every number that each must leave.
-//! The folder's README says how they are written.
+//! Cases that are written by hand. In the files of the folder `limits` stand calls, with every number that each must leave; the folder's README
+//! says how they are written. In `cases/lines.txt` stand lines of the program's input, with what each reads as.
 
+mod lines;
 mod reading;
 mod running;
 
+pub use lines::run_lines;
 pub use reading::read;
 pub use running::run;
 
