@@ -9,7 +9,8 @@ use Rattle.trees.specs.Tree.{Tree, off, on, node}
 use Rattle.trees.specs.Bits.{bit}
 use Rattle.trees.specs.Table.{addTree, at, treesOf}
 use Rattle.trees.specs.Kept.{nodeRight, equalNodes, levels}
-use Rattle.nodes.specs.Nodes.{canonical}
+use Rattle.nodes.specs.Nodes.{canonical, Rest}
+use Rattle.nodes.specs.Chains.{Chained}
 use Rattle.keeping.specs.declared.order.Ordered.{Ordered}
 use Rattle.keeping.specs.declared.order.Ordered.the-variants.{Broken, At}
 
@@ -90,3 +91,9 @@ pub record Sized (ns w : List ℕ) : Type 0 where
   pub nodes : length ns ≡ 3 * (length ns / 3)
   pub few : length ns ≤ 12288
   pub room : 16 * (length ns / 3) + 1024 ≤ length w
+
+-- what the check leaves in the work slice: all as it was past the first 15 * c numbers, with c nodes in ns, and where it
+-- answers yes the chains of the kept nodes
+pub record CheckLeaves (ns : List ℕ) (kept : ℕ) (w w′ : List ℕ) (b : Bool) : Type 0 where
+  pub rest : Rest (15 * (length ns / 3)) w w′
+  pub chained : b ≡ true → Chained ns kept w′

@@ -67,10 +67,10 @@ fn row_allowed(work: &[u32], r: u32, set: u32, p: u32) -> bool
 }
 
 // Whether every row may be marked as it is.
-fn rows_allowed(work: &[u32], allowed: [u32; 64], refs: [u32; 64], count: u32, p: u32) -> bool
+fn rows_allowed(work: &[u32], allowed: &[u32; 64], refs: &[u32; 64], count: u32, p: u32) -> bool
     requires { ⌜ (count ≤ 64) × (0 < p) ⌝ }
-    requires { ⌜ ((i : ℕ) → i < count → getD refs i 0 < length (now work) + 2) ⌝ }
-    ensures { λ b. ⌜ Decides (RowsAllowed (now (work .entry)) allowed refs count p) b ⌝ }
+    requires { ⌜ ((i : ℕ) → i < count → getD (now refs) i 0 < length (now work) + 2) ⌝ }
+    ensures { λ b. ⌜ Decides (RowsAllowed (now (work .entry)) (now (allowed .entry)) (now (refs .entry)) count p) b ⌝ }
 {
     let mut i = 0;
     while i < count {
@@ -89,14 +89,14 @@ pub fn free_only(
     kept: u32,
     work: &mut [u32],
     k: u32,
-    allowed: [u32; 64],
-    refs: [u32; 64],
+    allowed: &[u32; 64],
+    refs: &[u32; 64],
     count: u32,
 ) -> bool
     requires { ⌜ Table (now nodes) kept ⌝ }
-    requires { ⌜ Rows (now nodes) kept (4 * k) refs count ⌝ }
+    requires { ⌜ Rows (now nodes) kept (4 * k) (now refs) count ⌝ }
     requires { ⌜ (kept ≤ length (now work)) × (0 < k) ⌝ }
-    ensures { λ b. ⌜ Decides (FreeOnly (now (nodes .entry)) kept k allowed refs count) b ⌝ }
+    ensures { λ b. ⌜ Decides (FreeOnly (now (nodes .entry)) kept k (now (allowed .entry)) (now (refs .entry)) count) b ⌝ }
     ensures { λ _. ⌜ Rest kept (now (work .entry)) (now (work .exit)) ⌝ }
 {
     let mut v = 0;

@@ -15,24 +15,24 @@ ghost use mathlib.Core.Path.{_≡_};
 ghost use Prim.Native.Nat.{_*_, _/_, _≤_};
 ghost use lib.ListN.{length};
 ghost use Rattle.trees.specs.Kept.{wellKept};
-ghost use Rattle.nodes.specs.Nodes.{Rest};
-ghost use Rattle.keeping.specs.Checks.{freeBy, Sized};
+ghost use Rattle.keeping.specs.Checks.{freeBy, Sized, CheckLeaves};
 
 // Whether a state's diagrams are well kept, pass after pass, for a rule of `count` rows of which row i may ask the variables of
-// allowed[i]. With c nodes in the slice, the passes use the first 15 * c numbers of `work` and leave them as they fall.
+// allowed[i]. With c nodes in the slice, the passes use the first 15 * c numbers of `work` and leave them as they fall. Where
+// all is well kept, the chains of the kept nodes are left there.
 pub fn check(
     k: u32,
     count: u32,
-    allowed: [u32; 64],
-    refs: [u32; 64],
+    allowed: &[u32; 64],
+    refs: &[u32; 64],
     kept: u32,
     nodes: &[u32],
     work: &mut [u32],
 ) -> bool
-    requires { ⌜ (1 ≤ k) × (k ≤ 10) × (count ≤ 64) ⌝ }
+    requires { ⌜ (1 ≤ k) × (k ≤ 10) × (count ≤ 64) × (length (now refs) ≡ 64) ⌝ }
     requires { ⌜ Sized (now nodes) (now work) ⌝ }
-    ensures { λ b. ⌜ b ≡ wellKept (freeBy k allowed) (length (now (nodes .entry)) / 3) count refs kept (now (nodes .entry)) ⌝ }
-    ensures { λ _. ⌜ Rest (15 * (length (now (nodes .entry)) / 3)) (now (work .entry)) (now (work .exit)) ⌝ }
+    ensures { λ b. ⌜ b ≡ wellKept (freeBy k (now (allowed .entry))) (length (now (nodes .entry)) / 3) count (now (refs .entry)) kept (now (nodes .entry)) ⌝ }
+    ensures { λ b. ⌜ CheckLeaves (now (nodes .entry)) kept (now (work .entry)) (now (work .exit)) b ⌝ }
 {
     let c = nodes.len() / 3;
     let m = kept as usize;

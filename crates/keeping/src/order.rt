@@ -1,6 +1,8 @@
 // The pass that finds whether the kept nodes stand in canonical order: each node is gone into once. Assumes nothing.
 use nodes::read;
+ghost use mathlib.Core.Path.{_≡_};
 ghost use Prim.Native.Nat.{_+_, _-_, _<_, _≤_};
+ghost use lib.ListN.{length};
 ghost use Rattle.trees.specs.Tree.{Fine};
 ghost use Rattle.trees.specs.Table.{at, treesOf};
 ghost use Rattle.nodes.specs.Nodes.{Table, Rows, Decides};
@@ -37,10 +39,10 @@ fn in_order(nodes: &[u32], kept: u32, n: u32, levels: u32, left: u32, r: u32) ->
 }
 
 // Whether the kept nodes are the diagrams of the first `count` references, in canonical order.
-pub fn rows_in_order(nodes: &[u32], kept: u32, levels: u32, refs: [u32; 64], count: u32) -> bool
+pub fn rows_in_order(nodes: &[u32], kept: u32, levels: u32, refs: &[u32; 64], count: u32) -> bool
     requires { ⌜ Table (now nodes) kept ⌝ }
-    requires { ⌜ Rows (now nodes) kept levels refs count ⌝ }
-    ensures { λ b. ⌜ Decides (InRowOrder (now (nodes .entry)) kept refs count) b ⌝ }
+    requires { ⌜ Rows (now nodes) kept levels (now refs) count × (length (now refs) ≡ 64) ⌝ }
+    ensures { λ b. ⌜ Decides (InRowOrder (now (nodes .entry)) kept (now (refs .entry)) count) b ⌝ }
 {
     let mut n = 0;
     let mut i = 0;

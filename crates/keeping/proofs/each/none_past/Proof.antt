@@ -6,10 +6,10 @@ use Rattle.keeping.proofs.each.none_past.Statement.{statement}
 use Rattle.keeping.proofs.each.none_past.Tie as tie
 
 abbrev Inv-loop : tie.InvT-loop
-Inv-loop count refs i₀ i = (count ≤ i) × ZeroTo count refs i
+Inv-loop refs count i₀ i = (count ≤ i) × ZeroTo count refs i
 
 abbrev μ-loop : tie.MeasureT-loop
-μ-loop count refs i₀ i = 64 - i
+μ-loop refs count i₀ i = 64 - i
 
 loop-holds : tie.Need-loop-holds Inv-loop μ-loop
 loop-holds c = (omega arith, λ j h k. absurd (omega arith))
@@ -17,11 +17,11 @@ loop-holds c = (omega arith, λ j h k. absurd (omega arith))
 mul-if1 : tie.Need-mul-if1 Inv-loop μ-loop
 mul-if1 c = omega arith
 
-array-read-if1 : tie.Need-array-read-if1 Inv-loop μ-loop
-array-read-if1 c = omega arith
+element-copy-out-if1 : tie.Need-element-copy-out-if1 Inv-loop μ-loop
+element-copy-out-if1 c = omega arith
 
 returns : tie.Need-returns Inv-loop μ-loop
-returns c = λ h. c .if1 .taken (h (c .before .before .loop .i) (c .before .before .loop .inv .0))
+returns c = λ h. c .if1 .taken (h (c .before .before .before .loop .i) (c .before .before .before .loop .inv .0))
 
 add-i : tie.Need-add-i Inv-loop μ-loop
 add-i c = omega arith
@@ -30,10 +30,10 @@ loop-less : tie.Need-loop-less Inv-loop μ-loop
 loop-less c = omega arith
 
 loop-again : tie.Need-loop-again Inv-loop μ-loop
-loop-again c = (omega (arith, c .before .before .loop .inv .0), zero-more _ (c .before .before .before .args .t1) _ (c .before .before .loop .inv .1) (c .if1 .left))
+loop-again c = (omega (arith, c .before .before .before .loop .inv .0), zero-more _ (c .before .before .before .before .args .refs .now) _ (c .before .before .before .loop .inv .1) (c .if1 .left))
 
 returns-2 : tie.Need-returns-2 Inv-loop μ-loop
-returns-2 c = zero-end _ (c .before .before .args .t1) _ (omega (arith, c .loop-test .left, c .before .before .good .0 .1 .0 .1)) (c .before .loop .inv .1)
+returns-2 c = zero-end _ (c .before .before .args .refs .now) _ (omega (arith, c .loop-test .left, c .before .before .pre .1)) (c .before .loop .inv .1)
 
 pub none-past-spec : {M : Type 1} → statement M
 none-past-spec =
@@ -43,7 +43,7 @@ none-past-spec =
     μ-loop
     loop-holds
     mul-if1
-    array-read-if1
+    element-copy-out-if1
     returns
     add-i
     loop-less

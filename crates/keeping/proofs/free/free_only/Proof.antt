@@ -40,7 +40,7 @@ returns c =
     let at-loop = c .before .before .before .before .before .before .before .before .loop in
     let marked = c .before .before .before .before .before .mark in
     let rows = s .pre .1 .0 in
-    let no-row = says-no (RowsAllowed (marked .last .1 .1 .0) (s .args .allowed) (s .args .refs) (s .args .count) (at-loop .p)) (c .before .rows-allowed .result) (c .before .rows-allowed .ensures) (c .if1 .taken) in
+    let no-row = says-no (RowsAllowed (marked .last .1 .1 .0) (s .args .allowed .now) (s .args .refs .now) (s .args .count) (at-loop .p)) (c .before .rows-allowed .result) (c .before .rows-allowed .ensures) (c .if1 .taken) in
     (tried-no (at-loop .inv) rows (marked .ensures .0) no-row, record { eq = λ i h. marked .ensures .1 .eq i h ∙ at-loop .inv .rest .eq i h })
 
 mul-p : tie.Need-mul-p Inv-loop μ-loop
@@ -58,7 +58,7 @@ loop-again c =
     let at-loop = c .before .before .before .before .before .before .before .before .loop in
     let marked = c .before .before .before .before .before .mark in
     let rows = s .pre .1 .0 in
-    let each-row = says-yes (RowsAllowed (marked .last .1 .1 .0) (s .args .allowed) (s .args .refs) (s .args .count) (at-loop .p)) (c .before .rows-allowed .result) (c .before .rows-allowed .ensures) (c .if1 .left) in
+    let each-row = says-yes (RowsAllowed (marked .last .1 .1 .0) (s .args .allowed .now) (s .args .refs .now) (s .args .count) (at-loop .p)) (c .before .rows-allowed .result) (c .before .rows-allowed .ensures) (c .if1 .left) in
     tried-more (at-loop .inv) rows (marked .ensures .0) (c .before .before .before .before .before .before .before .loop-test .taken) (marked .ensures .1) (marked .kept .1 .1 .0) each-row
 
 same-length-2 : tie.Need-same-length-2 Inv-loop μ-loop
@@ -68,7 +68,7 @@ returns-2 : tie.Need-returns-2 Inv-loop μ-loop
 returns-2 c =
     let s = c .before .before .before .before in
     let v = c .before .loop .inv in
-    (allowed-free _ _ _ (s .args .allowed) (s .args .refs) _ (s .pre .1 .1 .1) (s .pre .1 .0) (λ u h. v .so-far u (omega (arith, c .loop-test .left))), v .rest)
+    (allowed-free _ _ _ (s .args .allowed .now) (s .args .refs .now) _ (s .pre .1 .1 .1) (s .pre .1 .0) (λ u h. v .so-far u (omega (arith, c .loop-test .left))), v .rest)
 
 pub free-only-spec : {M : Type 1} → statement M
 free-only-spec =

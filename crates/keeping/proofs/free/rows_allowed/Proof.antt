@@ -9,10 +9,10 @@ use Rattle.keeping.proofs.free.rows_allowed.Statement.{statement}
 use Rattle.keeping.proofs.free.rows_allowed.Tie as tie
 
 abbrev Inv-loop : tie.InvT-loop
-Inv-loop work count p allowed refs i₀ i = (i ≤ count) × RowsAllowed work allowed refs i p
+Inv-loop work allowed refs count p i₀ i = (i ≤ count) × RowsAllowed work allowed refs i p
 
 abbrev μ-loop : tie.MeasureT-loop
-μ-loop work count p allowed refs i₀ i = count - i
+μ-loop work allowed refs count p i₀ i = count - i
 
 loop-holds : tie.Need-loop-holds Inv-loop μ-loop
 loop-holds c = (omega arith, λ j h. absurd (omega arith))
@@ -23,23 +23,23 @@ cast-j c = omega arith
 mul-row-allowed : tie.Need-mul-row-allowed Inv-loop μ-loop
 mul-row-allowed c = omega arith
 
-array-read-row-allowed : tie.Need-array-read-row-allowed Inv-loop μ-loop
-array-read-row-allowed c = omega arith
+element-copy-out-row-allowed : tie.Need-element-copy-out-row-allowed Inv-loop μ-loop
+element-copy-out-row-allowed c = omega arith
 
 mul-row-allowed-2 : tie.Need-mul-row-allowed-2 Inv-loop μ-loop
 mul-row-allowed-2 c = omega arith
 
-array-read-row-allowed-2 : tie.Need-array-read-row-allowed-2 Inv-loop μ-loop
-array-read-row-allowed-2 c = omega arith
+element-copy-out-row-allowed-2 : tie.Need-element-copy-out-row-allowed-2 Inv-loop μ-loop
+element-copy-out-row-allowed-2 c = omega arith
 
 row-allowed-requires : tie.Need-row-allowed-requires Inv-loop μ-loop
-row-allowed-requires c κs = let s = c .before .before .before in (s .pre .1 (c .before .loop .i) (c .loop-test .taken), s .pre .0 .1)
+row-allowed-requires c κs = let s = c .before .before .before .before .before in (s .pre .1 (c .before .before .before .loop .i) (c .before .before .loop-test .taken), s .pre .0 .1)
 
 returns : tie.Need-returns Inv-loop μ-loop
 returns c =
-    let s = c .before .before .before .before .before in
-    let i = c .before .before .before .loop .i in
-    λ h. says-no (RowAllowed (s .args .work .now) (getD (s .args .t3) i 0) (getD (s .args .t2) i 0) (s .args .p)) (c .before .row-allowed .result) (c .before .row-allowed .ensures) (c .if1 .taken) (h i (c .before .before .loop-test .taken))
+    let s = c .before .before .before .before .before .before .before in
+    let i = c .before .before .before .before .before .loop .i in
+    λ h. says-no (RowAllowed (s .args .work .now) (getD (s .args .refs .now) i 0) (getD (s .args .allowed .now) i 0) (s .args .p)) (c .before .row-allowed .result) (c .before .row-allowed .ensures) (c .if1 .taken) (h i (c .before .before .before .before .loop-test .taken))
 
 add-i : tie.Need-add-i Inv-loop μ-loop
 add-i c = omega arith
@@ -49,10 +49,10 @@ loop-less c = omega arith
 
 loop-again : tie.Need-loop-again Inv-loop μ-loop
 loop-again c =
-    let s = c .before .before .before .before .before in
-    let i = c .before .before .before .loop .i in
-    let one = says-yes (RowAllowed (s .args .work .now) (getD (s .args .t3) i 0) (getD (s .args .t2) i 0) (s .args .p)) (c .before .row-allowed .result) (c .before .row-allowed .ensures) (c .if1 .left) in
-    (omega arith, more (λ j. RowAllowed (s .args .work .now) (getD (s .args .t3) j 0) (getD (s .args .t2) j 0) (s .args .p)) i (c .before .before .before .loop .inv .1) one)
+    let s = c .before .before .before .before .before .before .before in
+    let i = c .before .before .before .before .before .loop .i in
+    let one = says-yes (RowAllowed (s .args .work .now) (getD (s .args .refs .now) i 0) (getD (s .args .allowed .now) i 0) (s .args .p)) (c .before .row-allowed .result) (c .before .row-allowed .ensures) (c .if1 .left) in
+    (omega arith, more (λ j. RowAllowed (s .args .work .now) (getD (s .args .refs .now) j 0) (getD (s .args .allowed .now) j 0) (s .args .p)) i (c .before .before .before .before .before .loop .inv .1) one)
 
 returns-2 : tie.Need-returns-2 Inv-loop μ-loop
 returns-2 c = λ i h. c .before .loop .inv .1 i (omega (arith, c .loop-test .left))
@@ -66,9 +66,9 @@ rows-allowed-spec =
     loop-holds
     cast-j
     mul-row-allowed
-    array-read-row-allowed
+    element-copy-out-row-allowed
     mul-row-allowed-2
-    array-read-row-allowed-2
+    element-copy-out-row-allowed-2
     row-allowed-requires
     returns
     add-i

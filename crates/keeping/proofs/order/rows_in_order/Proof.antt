@@ -11,30 +11,30 @@ use Rattle.keeping.proofs.order.rows_in_order.Statement.{statement}
 use Rattle.keeping.proofs.order.rows_in_order.Tie as tie
 
 abbrev Inv-loop : tie.InvT-loop
-Inv-loop nodes kept levels count refs n₀ i₀ n i = (i ≤ count) × (n ≤ kept) × (canonical nodes kept refs i ≡ treesOf nodes n)
+Inv-loop nodes kept levels refs count n₀ i₀ n i = (i ≤ count) × (n ≤ kept) × (canonical nodes kept refs i ≡ treesOf nodes n)
 
 abbrev μ-loop : tie.MeasureT-loop
-μ-loop nodes kept levels count refs n₀ i₀ n i = count - i
+μ-loop nodes kept levels refs count n₀ i₀ n i = count - i
 
 loop-holds : tie.Need-loop-holds Inv-loop μ-loop
-loop-holds c = let s = c .before in (omega arith, omega arith, rows-none (s .args .nodes .now) (s .args .kept) (s .args .t4))
+loop-holds c = let s = c .before in (omega arith, omega arith, rows-none (s .args .nodes .now) (s .args .kept) (s .args .refs .now))
 
 cast-j : tie.Need-cast-j Inv-loop μ-loop
 cast-j c = omega arith
 
 mul-in-order : tie.Need-mul-in-order Inv-loop μ-loop
-mul-in-order c = omega (arith, c .before .before .before .pre .1 .few)
+mul-in-order c = omega (arith, c .before .before .before .pre .1 .0 .few)
 
-array-read-in-order : tie.Need-array-read-in-order Inv-loop μ-loop
-array-read-in-order c = omega (arith, c .before .before .before .pre .1 .few)
+element-copy-out-in-order : tie.Need-element-copy-out-in-order Inv-loop μ-loop
+element-copy-out-in-order c = omega (arith, c .before .before .before .pre .1 .0 .few)
 
 in-order-requires : tie.Need-in-order-requires Inv-loop μ-loop
 in-order-requires c κs =
-    let s = c .before .before .before in
-    let i = c .before .loop .i in
-    let h = c .loop-test .taken in
+    let s = c .before .before .before .before in
+    let i = c .before .before .loop .i in
+    let h = c .before .loop-test .taken in
     let z : s .args .levels - s .args .levels ≡ 0 = omega arith in
-    (s .pre .0, ((c .before .loop .inv .1, s .pre .1 .inside i h, omega arith), rw z (s .pre .1 .fine i h)))
+    (s .pre .0, ((c .before .before .loop .inv .1, s .pre .1 .0 .inside i h, omega arith), rw z (s .pre .1 .0 .fine i h)))
 
 enum-known-a : tie.Need-enum-known-a Inv-loop μ-loop
 enum-known-a c = search needs
@@ -44,12 +44,12 @@ enum-told c = search needs
 
 returns : tie.Need-returns Inv-loop μ-loop
 returns c =
-    let s = c .before .before .before .before .before .before in
-    let at-loop = c .before .before .before .before .loop in
+    let s = c .before .before .before .before .before .before .before in
+    let at-loop = c .before .before .before .before .before .loop in
     let o = rw (c .enum-told .given .1) at (c .before .before .in-order .ensures) in
-    let len = s .good .1 .1 .1 .0 .1 .0 .1 in
-    let few = s .pre .1 .few in
-    rows-broken (s .args .nodes .now) (s .args .kept) (s .args .t4) (at-loop .i) (at-loop .n) (s .args .count) (c .before .before .before .loop-test .taken) (omega arith) (at-loop .inv .2) o
+    let len = s .pre .1 .1 in
+    let few = s .pre .1 .0 .few in
+    rows-broken (s .args .nodes .now) (s .args .kept) (s .args .refs .now) (at-loop .i) (at-loop .n) (s .args .count) (c .before .before .before .before .loop-test .taken) (omega arith) (at-loop .inv .2) o
 
 add-i : tie.Need-add-i Inv-loop μ-loop
 add-i c = omega arith
@@ -59,20 +59,20 @@ loop-less c = omega arith
 
 loop-again : tie.Need-loop-again Inv-loop μ-loop
 loop-again c =
-    let s = c .before .before .before .before .before .before .before in
-    let at-loop = c .before .before .before .before .before .loop in
-    let h = c .before .before .before .before .loop-test .taken in
+    let s = c .before .before .before .before .before .before .before .before in
+    let at-loop = c .before .before .before .before .before .before .loop in
+    let h = c .before .before .before .before .before .loop-test .taken in
     let o = rw (c .before .a .given .1) at (c .before .before .before .in-order .ensures) in
-    let len = s .good .1 .1 .1 .0 .1 .0 .1 in
-    let few = s .pre .1 .few in
-    (omega arith, o .fits, rows-more (s .args .nodes .now) (s .args .kept) (s .args .t4) (at-loop .i) (at-loop .n) (c .before .a .given .0 .0) (omega arith) (at-loop .inv .2) o)
+    let len = s .pre .1 .1 in
+    let few = s .pre .1 .0 .few in
+    (omega arith, o .fits, rows-more (s .args .nodes .now) (s .args .kept) (s .args .refs .now) (at-loop .i) (at-loop .n) (c .before .a .given .0 .0) (omega arith) (at-loop .inv .2) o)
 
 returns-2 : tie.Need-returns-2 Inv-loop μ-loop
 returns-2 c =
     let s = c .before .before .before .before in
     let at-loop = c .before .before .loop in
     let e : at-loop .i ≡ s .args .count = omega (arith, at-loop .inv .0, c .before .loop-test .left) in
-    rows-short (s .args .nodes .now) (s .args .kept) (s .args .t4) (at-loop .n) (s .args .count) (rw e at (at-loop .inv .2)) (c .if1 .taken)
+    rows-short (s .args .nodes .now) (s .args .kept) (s .args .refs .now) (at-loop .n) (s .args .count) (rw e at (at-loop .inv .2)) (c .if1 .taken)
 
 returns-3 : tie.Need-returns-3 Inv-loop μ-loop
 returns-3 c =
@@ -90,7 +90,7 @@ rows-in-order-spec =
     loop-holds
     cast-j
     mul-in-order
-    array-read-in-order
+    element-copy-out-in-order
     in-order-requires
     enum-known-a
     enum-told
