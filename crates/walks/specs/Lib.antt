@@ -1,0 +1,4 @@
+-- What the walks over diagrams promise.
+pub mod Walks
+pub mod Desks
+pub mod Cubes
