@@ -1,7 +1,7 @@
 -- The branches of code that walks: each leaves and answers what the definition says. Assumes nothing.
 use Prim.Native.Nat.{ℕ, zero, suc, _+_, _*_, _-_, _≤_, _<_}
 use mathlib.Core.Path.{_≡_, refl, sym, ap, ap₂, _∙_}
-use mathlib.Core.List.{List}
+use mathlib.Core.List.{List, [], _∷_, _++_}
 use native.Mathlib.Omega.{arith}
 use lib.ListN.{getD, set}
 use Rattle.trees.specs.Tree.{Tree, mk}
@@ -10,7 +10,7 @@ use Rattle.trees.proofs.TableLaws.{goes-ref, add-mk}
 use Rattle.trees.proofs.ReadLaws.{Back, ref-is, back-closed}
 use Rattle.nodes.specs.Nodes.{Table, Splits, Grown}
 use Rattle.nodes.proofs.ReadLaws.{splits, grown-goes}
-use Rattle.visits.specs.Visits.{Went, stop, recall, visit, keep, walk, Refines}
+use Rattle.visits.specs.Visits.{Went, stop, recall, visit, keep, walk, sweep, sweeps, Refines, RefinesAll}
 
 module _ (leaf : ℕ → ℕ) (ns : List ℕ) where
   stopped : (us : List Tree) (notes : List ℕ) (r : ℕ) → Refines (stop us notes r) us notes r 1
@@ -78,7 +78,7 @@ module _ (leaf : ℕ → ℕ) (ns : List ℕ) where
       rw z (made (p - 2) l r₁ r₂ v₁ v₂ d x _ t₁ t₂ t₃ n₁ n₂ px (rw (px .table, px .notes) py) q ref)
 
 -- the numbers of a node are those that its tree splits into
-numbers-are : {ns : List ℕ} {n p l a b : ℕ} → Table ns n → 2 ≤ p → p < n + 2 → Splits ns n p l a b → NodeIs ns (p - 2) l a b
+pub numbers-are : {ns : List ℕ} {n p l a b : ℕ} → Table ns n → 2 ≤ p → p < n + 2 → Splits ns n p l a b → NodeIs ns (p - 2) l a b
 numbers-are {ns} {n} {p} {l} {a} {b} t h k s =
     let z = splits ns n p (t .back) h k in
     let e = sym (z .is) ∙ s .is in
@@ -135,3 +135,26 @@ swept-refines leaf left notes {ns} {us} {us₁} {us₂} {us₃} {m} {n} {n₁} {
     ∙ ap₂ addTree (sym (g₂ .trees ∙ ap (λ (ts : List Tree). addTree ts B) (g₁ .trees))) (sym whole ∙ is) in
     refines-apart leaf ns left (treesOf us n) notes p l a b r₁ r₂ v₁ v₂ d (treesOf us₁ n₁) (treesOf us₂ n₂) (treesOf us₃ n₃) k₁ k₂ h some none (numbers-are t h k s)
     w₁ w₂ trees (ref-is us₃ n₃ d _ (g₃ .table .one) (record { below = g₃ .ref .below; is = g₃ .ref .is ∙ is }))
+
+-- one row more
+pub sweeps-more : (ns : List ℕ) (levels : ℕ) (us : List Tree) (notes rs : List ℕ) (r : ℕ) {t₁ t₂ : List Tree} {k₁ k₂ bs : List ℕ} {v₁ b v₂ : ℕ}
+    → RefinesAll (sweeps ns levels us notes rs) t₁ k₁ bs v₁ → Refines (sweep ns levels t₁ k₁ r) t₂ k₂ b v₂
+    → RefinesAll (sweeps ns levels us notes (rs ++ r ∷ [])) t₂ k₂ (bs ++ b ∷ []) (v₁ + v₂)
+unfolding sweeps
+sweeps-more ns levels us notes [] r p q =
+    let w = rw (← p .table, ← p .notes) at q in
+    record {
+      table = w .table;
+      notes = w .notes;
+      answers = rw (← p .answers, w .answer);
+      visits = omega (arith, p .visits, w .visits);
+    }
+sweeps-more ns levels us notes (x ∷ rs) r p q =
+    let z = sweep ns levels us notes x in
+    let w = sweeps-more ns levels (z .table) (z .notes) rs r (record { table = p .table; notes = p .notes; answers = refl; visits = refl }) q in
+    record {
+      table = w .table;
+      notes = w .notes;
+      answers = rw (← p .answers, w .answers);
+      visits = omega (arith, p .visits, w .visits);
+    }

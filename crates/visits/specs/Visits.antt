@@ -91,3 +91,10 @@ pub record Refines (w : Went) (us : List Tree) (noted : List ℕ) (r v : ℕ) : 
   pub notes : w .notes ≡ noted
   pub answer : w .answer ≡ r
   pub visits : w .visits ≡ v
+
+-- the same of code that sweeps rows
+pub record RefinesAll (w : Swept) (us : List Tree) (noted rs : List ℕ) (v : ℕ) : Type 0 where
+  pub table : w .table ≡ us
+  pub notes : w .notes ≡ noted
+  pub answers : w .answers ≡ rs
+  pub visits : w .visits ≡ v
