@@ -1,0 +1,5 @@
+-- The laws of the canonical sweep.
+pub mod SweepLaws
+pub mod RowsLaws
+pub mod CopyLaws
+pub mod Visited
