@@ -1,14 +1,20 @@
 -- What a node of a reduced ordered diagram gives a walk. Assumes nothing.
-use Prim.Native.Nat.{ℕ, suc, _-_, _≤_, _<_}
+use Prim.Native.Nat.{ℕ, suc, _+_, _-_, _≤_, _<_}
 use mathlib.Core.Path.{_≡_, refl}
 use mathlib.Core.Bool.{true, false}
 use mathlib.Core.List.{List}
 use native.Mathlib.Omega.{arith}
-use Rattle.trees.specs.Tree.{Fine}
+use Rattle.trees.specs.Tree.{Tree, Fine}
 use Rattle.trees.specs.Table.{at, treesOf}
 use Rattle.trees.proofs.TreeLaws.{side, side-own, fine-lower, fine-node, node-fine}
-use Rattle.nodes.specs.Nodes.{Splits}
+use Rattle.nodes.specs.Nodes.{Splits, Grown}
+use Rattle.nodes.proofs.ReadLaws.{grown-count}
+use Rattle.tables.proofs.WalkLaws.{kept}
 use Rattle.walks.specs.Walks.{Within}
+
+-- a reference of before still asks the same levels
+pub within-grown : {ns ms : List ℕ} {n m r : ℕ} {d : Tree} {levels left p : ℕ} → Grown ns ms n m r d → Within ns n levels left p → Within ms m levels left p
+within-grown {p = p} g w = record { below = omega (arith, w .below, grown-count g); fine = rw (kept g p (w .below)) (w .fine) }
 
 -- a level is left, the sides ask the levels after it, and they are the sides of the diagram there
 pub record Step (ns : List ℕ) (n levels left p l a b : ℕ) : Type 0 where

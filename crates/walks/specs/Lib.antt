@@ -1,4 +1,3 @@
 -- What the walks over diagrams promise.
 pub mod Walks
 pub mod Desks
-pub mod Cubes

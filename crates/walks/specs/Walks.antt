@@ -3,16 +3,9 @@ use Prim.Native.Nat.{ℕ, _+_, _-_, _≤_, _<_, min, max}
 use mathlib.Core.Path.{_≡_}
 use mathlib.Core.Bool.{Bool, true, false, _&&_, _||_}
 use mathlib.Core.List.{List}
-use Rattle.trees.specs.Tree.{Tree, Fine}
+use Rattle.trees.specs.Tree.{Fine}
 use Rattle.trees.specs.Table.{at, treesOf}
-use Rattle.walks.specs.declared.Made.{Made}
-use Rattle.walks.specs.declared.Made.the-variants.{Full, At}
-use Rattle.nodes.specs.Nodes.{Grown, Stuck, Sides, firstLevel}
-
--- a walk that is to add the diagram d to the first n nodes of ns, and keeps I true of the table, left ns′ and said m
-abbrev pub Added : (List ℕ → ℕ → Type 0) → List ℕ → List ℕ → ℕ → Tree → Made → Type 0
-Added I ns ns′ n d Full = Stuck ns ns′ n d
-Added I ns ns′ n d (At n′ r) = Grown ns ns′ n n′ r d × I ns′ n′
+use Rattle.nodes.specs.Nodes.{Sides, firstLevel}
 
 -- p is a reference among the first n nodes, and its diagram asks only the last `left` of the levels
 pub record Within (ns : List ℕ) (n levels left p : ℕ) : Type 0 where
