@@ -1,11 +1,11 @@
 // Runs the diagram layer on worked examples of document 01 and writes what it tells. Assumes nothing.
 use diagram::Formed;
 use diagram::Instruction;
-use diagram::Number;
-use diagram::Place;
 use diagram::Stepped;
 use diagram::Told;
 use libc::STDOUT_FILENO;
+use tables::Number;
+use tables::Place;
 
 // A space and a number.
 fn number(n: u32) {
