@@ -129,7 +129,8 @@ free-only-requires c κs =
     let p = passed (c .before .before .before) in
     let s = start6 (c .before .before .before) in
     let fits = p .fits in
-    (passed-table p (s .pre .1 .few) (s .pre .1 .nodes), (passed-rows p (s .pre .0 .2), (omega (arith, s .pre .1 .room, c .before .before .before .before .before .before .all-differ .kept .1 .1 .0), omega (arith, s .pre .0 .0))))
+    let size = c .before .before .before .before .before .before .all-differ .kept .1 .1 .0 in
+    ((passed-table p (s .pre .1 .few) (s .pre .1 .nodes), p .right), (passed-rows p (s .pre .0 .2), (omega (arith, s .pre .1 .room, size), omega (arith, s .pre .0 .0), omega (arith, s .pre .0 .1))))
 
 same-length-3 : tie.Need-same-length-3
 same-length-3 c = search needs
