@@ -9,7 +9,7 @@ use lib.Arith.{bin-ind}
 use lib.Bits.{bitOr, or-step}
 use lib.Dec.{eqb}
 use borrow.Author.Tests.{eq-eqb, ne-eqb, eqb-true}
-use Rattle.trees.proofs.Tests.{false-true, EqCase, equal, other, eq-case, or-l}
+use Rattle.trees.proofs.Tests.{EqCase, equal, other, eq-case, or-l}
 use Rattle.keeping.specs.Checks.{hasBit}
 
 -- the first bit

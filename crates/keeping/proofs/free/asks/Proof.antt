@@ -1,6 +1,5 @@
 -- `free::asks` meets its contract: the law of a node's set. Assumes nothing.
 use native.Mathlib.Omega.{arith}
-use lib.ListN.{getD}
 use Rattle.keeping.proofs.FreeLaws.{asks-is}
 use borrow.Author.Needs.{needs}
 use Rattle.keeping.proofs.free.asks.Statement.{statement}
