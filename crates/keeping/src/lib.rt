@@ -53,7 +53,7 @@ pub fn check(
     if !all_differ(nodes, kept, work) {
         return false;
     }
-    if !rows_in_order(nodes, kept, 4 * k, refs, count) {
+    if !rows_in_order(nodes, kept, refs, count) {
         return false;
     }
     free_only(nodes, kept, work, k, allowed, refs, count)

@@ -89,9 +89,6 @@ returns-6 c =
     let no-all-differ = refused-by _ _ _ _ _ _ _ (Apart (s .args .nodes .now) (s .args .kept)) (c .before .before .before .all-differ .result) (c .before .before .before .all-differ .ensures .0) (c .if6 .taken) in
     (no-all-differ (λ w. w .apart), leaves-no (c .before .before .before .all-differ .ensures .1 .0 .rest))
 
-mul-rows-in-order : tie.Need-mul-rows-in-order
-mul-rows-in-order c = search needs
-
 -- what the passes before the order have shown
 passed : (c : tie.Else6) → Passed (start6 c .args .k) (length (start6 c .args .nodes .now) / 3) (start6 c .args .count) (start6 c .args .refs .now) (start6 c .args .kept) (start6 c .args .nodes .now)
 passed c =
@@ -113,7 +110,7 @@ passed c =
 rows-in-order-requires : tie.Need-rows-in-order-requires
 rows-in-order-requires c κs =
     let s = start6 c in
-    (passed-table (passed c) (s .pre .1 .few) (s .pre .1 .nodes), (passed-rows (passed c) (s .pre .0 .2), s .pre .0 .3))
+    ((passed-table (passed c) (s .pre .1 .few) (s .pre .1 .nodes), passed c .inside), (s .pre .0 .2, s .pre .0 .3))
 
 same-length-2 : tie.Need-same-length-2
 same-length-2 c = search needs
@@ -170,7 +167,6 @@ check-spec =
     all-differ-requires
     same-length
     returns-6
-    mul-rows-in-order
     rows-in-order-requires
     same-length-2
     returns-7

@@ -11,10 +11,10 @@ use Rattle.keeping.proofs.order.rows_in_order.Statement.{statement}
 use Rattle.keeping.proofs.order.rows_in_order.Tie as tie
 
 abbrev Inv-loop : tie.InvT-loop
-Inv-loop nodes kept levels refs count n₀ i₀ n i = (i ≤ count) × (n ≤ kept) × (canonical nodes kept refs i ≡ treesOf nodes n)
+Inv-loop nodes kept refs count n₀ i₀ n i = (i ≤ count) × (n ≤ kept) × (canonical nodes kept refs i ≡ treesOf nodes n)
 
 abbrev μ-loop : tie.MeasureT-loop
-μ-loop nodes kept levels refs count n₀ i₀ n i = count - i
+μ-loop nodes kept refs count n₀ i₀ n i = count - i
 
 loop-holds : tie.Need-loop-holds Inv-loop μ-loop
 loop-holds c = let s = c .before in (omega arith, omega arith, rows-none (s .args .nodes .now) (s .args .kept) (s .args .refs .now))
@@ -22,19 +22,17 @@ loop-holds c = let s = c .before in (omega arith, omega arith, rows-none (s .arg
 cast-j : tie.Need-cast-j Inv-loop μ-loop
 cast-j c = omega arith
 
-mul-in-order : tie.Need-mul-in-order Inv-loop μ-loop
-mul-in-order c = omega (arith, c .before .before .before .pre .1 .0 .few)
+mul-follow : tie.Need-mul-follow Inv-loop μ-loop
+mul-follow c = omega (arith, c .before .before .before .pre .1 .0)
 
-element-copy-out-in-order : tie.Need-element-copy-out-in-order Inv-loop μ-loop
-element-copy-out-in-order c = omega (arith, c .before .before .before .pre .1 .0 .few)
+element-copy-out-follow : tie.Need-element-copy-out-follow Inv-loop μ-loop
+element-copy-out-follow c = omega (arith, c .before .before .before .pre .1 .0)
 
-in-order-requires : tie.Need-in-order-requires Inv-loop μ-loop
-in-order-requires c κs =
-    let s = c .before .before .before .before in
-    let i = c .before .before .loop .i in
-    let h = c .before .loop-test .taken in
-    let z : s .args .levels - s .args .levels ≡ 0 = omega arith in
-    (s .pre .0, ((c .before .before .loop .inv .1, s .pre .1 .0 .inside i h, omega arith), rw z (s .pre .1 .0 .fine i h)))
+follow-requires : tie.Need-follow-requires Inv-loop μ-loop
+follow-requires c κs =
+    let l = c .before .before in
+    let s = l .before .before in
+    (s .pre .0 .0, (l .loop .inv .1, s .pre .0 .1 (l .loop .i) (c .before .loop-test .taken)))
 
 enum-known-a : tie.Need-enum-known-a Inv-loop μ-loop
 enum-known-a c = search needs
@@ -46,9 +44,9 @@ returns : tie.Need-returns Inv-loop μ-loop
 returns c =
     let s = c .before .before .before .before .before .before .before in
     let at-loop = c .before .before .before .before .before .loop in
-    let o = rw (c .enum-told .given .1) at (c .before .before .in-order .ensures) in
+    let o = rw (c .enum-told .given .1) at (c .before .before .follow .ensures) in
     let len = s .pre .1 .1 in
-    let few = s .pre .1 .0 .few in
+    let few = s .pre .1 .0 in
     rows-broken (s .args .nodes .now) (s .args .kept) (s .args .refs .now) (at-loop .i) (at-loop .n) (s .args .count) (c .before .before .before .before .loop-test .taken) (omega arith) (at-loop .inv .2) o
 
 add-i : tie.Need-add-i Inv-loop μ-loop
@@ -62,9 +60,9 @@ loop-again c =
     let s = c .before .before .before .before .before .before .before .before in
     let at-loop = c .before .before .before .before .before .before .loop in
     let h = c .before .before .before .before .before .loop-test .taken in
-    let o = rw (c .before .a .given .1) at (c .before .before .before .in-order .ensures) in
+    let o = rw (c .before .a .given .1) at (c .before .before .before .follow .ensures) in
     let len = s .pre .1 .1 in
-    let few = s .pre .1 .0 .few in
+    let few = s .pre .1 .0 in
     (omega arith, o .fits, rows-more (s .args .nodes .now) (s .args .kept) (s .args .refs .now) (at-loop .i) (at-loop .n) (c .before .a .given .0 .0) (omega arith) (at-loop .inv .2) o)
 
 returns-2 : tie.Need-returns-2 Inv-loop μ-loop
@@ -89,9 +87,9 @@ rows-in-order-spec =
     μ-loop
     loop-holds
     cast-j
-    mul-in-order
-    element-copy-out-in-order
-    in-order-requires
+    mul-follow
+    element-copy-out-follow
+    follow-requires
     enum-known-a
     enum-told
     returns
