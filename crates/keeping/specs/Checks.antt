@@ -11,8 +11,6 @@ use Rattle.trees.specs.Table.{addTree, at, treesOf}
 use Rattle.trees.specs.Kept.{nodeRight, equalNodes, levels}
 use Rattle.nodes.specs.Nodes.{canonical, Rest}
 use Rattle.nodes.specs.Chains.{Chained}
-use Rattle.keeping.specs.declared.order.Ordered.{Ordered}
-use Rattle.keeping.specs.declared.order.Ordered.the-variants.{Broken, At}
 
 -- the level l is one of the row i's: its variable l / k is one of four, and allowed to the row
 unfoldable pub freeBy : ℕ → List ℕ → ℕ → ℕ → Bool
@@ -45,10 +43,11 @@ pub record InOrder (ns : List ℕ) (kept n r n′ : ℕ) : Type 0 where
 pub record OutOfOrder (ns : List ℕ) (kept n r : ℕ) : Type 0 where
   pub never : (more : List Tree) → treesOf ns kept ≡ addTree (treesOf ns n) (at (treesOf ns kept) r) ++ more → ⊥
 
--- what the walk over a diagram answers
-abbrev pub Follows : List ℕ → ℕ → ℕ → ℕ → Ordered → Type 0
-Follows ns kept n r Broken = OutOfOrder ns kept n r
-Follows ns kept n r (At n′) = InOrder ns kept n r n′
+-- what the walk over a diagram answers: the count of nodes it leads to, or one over kept
+pub record Follows (ns : List ℕ) (kept n r n′ : ℕ) : Type 0 where
+  pub most : n′ ≤ kept + 1
+  pub inside : n′ ≤ kept → InOrder ns kept n r n′
+  pub over : kept < n′ → OutOfOrder ns kept n r
 
 -- the kept nodes are the rows' diagrams, in canonical order
 abbrev pub InRowOrder : List ℕ → ℕ → List ℕ → ℕ → Type 0
