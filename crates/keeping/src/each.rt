@@ -28,33 +28,17 @@ pub fn inside(refs: &[u32; 64], count: u32, kept: u32) -> bool
     true
 }
 
-// Whether the references past the rows are 0.
-pub fn none_past(refs: &[u32; 64], count: u32) -> bool
-    requires { ⌜ (count ≤ 64) × (length (now refs) ≡ 64) ⌝ }
-    ensures { λ b. ⌜ Decides (ZeroFrom count (now (refs .entry))) b ⌝ }
-{
-    let mut i = count as usize;
-    while i < 64 {
-        if refs[i] != 0 {
-            return false;
-        }
-        i += 1;
-    }
-    true
-}
-
-// Whether the numbers from `from` on are 0.
+// Whether the numbers from `from` on are 0. They are or-ed together with no way out, so that many are read at once.
 pub fn rest_zero(xs: &[u32], from: usize) -> bool
     ensures { λ b. ⌜ Decides (ZeroFrom from (now (xs .entry))) b ⌝ }
 {
+    let mut all = 0;
     let mut i = from;
     while i < xs.len() {
-        if xs[i] != 0 {
-            return false;
-        }
+        all = all | xs[i];
         i += 1;
     }
-    true
+    all == 0
 }
 
 // Whether a reference leads to a level above this one, or to a leaf.

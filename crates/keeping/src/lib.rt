@@ -7,7 +7,6 @@ mod free; // the rows' variables
 use crate::each::all_differ;
 use crate::each::all_right;
 use crate::each::inside;
-use crate::each::none_past;
 use crate::each::rest_zero;
 use crate::free::free_only;
 use crate::order::rows_in_order;
@@ -42,7 +41,7 @@ pub fn check(
     if !inside(refs, count, kept) {
         return false;
     }
-    if !none_past(refs, count) {
+    if !rest_zero(refs, count as usize) {
         return false;
     }
     if !rest_zero(nodes, 3 * m) {
@@ -54,7 +53,7 @@ pub fn check(
     if !all_differ(nodes, kept, work) {
         return false;
     }
-    if !rows_in_order(nodes, kept, 4 * k, refs, count) {
+    if !rows_in_order(nodes, kept, refs, count) {
         return false;
     }
     free_only(nodes, kept, work, k, allowed, refs, count)

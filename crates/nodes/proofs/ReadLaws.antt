@@ -42,6 +42,13 @@ one-read {ns} {n} {r} {l} {a} {b} {l′} {a′} {b′} t s u =
     let high : at (treesOf ns n) b ≡ at (treesOf ns n) b′ = cc in
     (cc, t .one a a′ (s .low) (u .low) low, t .one b b′ (s .high) (u .high) high)
 
+-- its references go back
+pub read-below : {ns : List ℕ} {n r l a b : ℕ} → Table ns n → Splits ns n r l a b → 2 ≤ r → r < n + 2 → (a < r) × (b < r)
+read-below {ns} {n} {r} t s h k =
+    let back = t .back (r - 2) (omega arith) in
+    let e = one-read t s (splits ns n r (t .back) h k) in
+    (omega (arith, e .1, back .0), omega (arith, e .2, back .1))
+
 -- the table of a walk goes on from the one before
 pub grown-goes : {ns ms : List ℕ} {n m r : ℕ} {d : Tree} → Grown ns ms n m r d → Goes (treesOf ns n) (treesOf ms m)
 grown-goes {ns} {n = n} {d = d} g = rw (g .trees) (add-goes (treesOf ns n) d)

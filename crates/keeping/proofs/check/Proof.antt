@@ -1,7 +1,7 @@
 -- `check` meets its contract: one clause of well kept diagrams for each pass. Assumes nothing.
 use Prim.Native.Nat.{_*_, _/_}
 use native.Mathlib.Omega.{arith}
-use mathlib.Core.Path.{refl, _∙_}
+use mathlib.Core.Path.{_∙_}
 use lib.ListN.{length}
 use Rattle.keeping.specs.Checks.{Inside, ZeroFrom, Right, Apart, InRowOrder}
 use Rattle.keeping.proofs.CheckLaws.{says-yes}
@@ -20,7 +20,7 @@ abbrev start2 : tie.Else2 → tie.Start
 start2 c = start1 (c .before .before)
 
 abbrev start3 : tie.Else3 → tie.Start
-start3 c = start2 (c .before .before)
+start3 c = start2 (c .before .before .before)
 
 abbrev start4 : tie.Else4 → tie.Start
 start4 c = start3 (c .before .before)
@@ -43,25 +43,25 @@ returns-2 c =
     let no-inside = refused-by _ _ _ _ _ _ _ (Inside (s .args .refs .now) (s .args .count) (s .args .kept)) (c .before .inside .result) (c .before .inside .ensures) (c .if2 .taken) in
     (no-inside (λ w. w .inside), leaves-all _ _ _)
 
-none-past-requires : tie.Need-none-past-requires
-none-past-requires c κs = search needs
+rest-zero-requires : tie.Need-rest-zero-requires
+rest-zero-requires c κs = search needs
 
 returns-3 : tie.Need-returns-3
 returns-3 c =
-    let s = start2 (c .before .before) in
-    let no-none-past = refused-by _ _ _ _ _ _ _ (ZeroFrom (s .args .count) (s .args .refs .now)) (c .before .none-past .result) (c .before .none-past .ensures) (c .if3 .taken) in
-    (no-none-past (λ w. w .none), leaves-all _ _ _)
+    let s = start2 (c .before .before .before) in
+    let no-past = refused-by _ _ _ _ _ _ _ (ZeroFrom (s .args .count) (s .args .refs .now)) (c .before .rest-zero .result) (c .before .rest-zero .ensures) (c .if3 .taken) in
+    (no-past (λ w. w .none), leaves-all _ _ _)
 
 mul-rest-zero : tie.Need-mul-rest-zero
 mul-rest-zero c = search needs
 
-rest-zero-requires : tie.Need-rest-zero-requires
-rest-zero-requires c κs = search needs
+rest-zero-requires-2 : tie.Need-rest-zero-requires-2
+rest-zero-requires-2 c κs = search needs
 
 returns-4 : tie.Need-returns-4
 returns-4 c =
     let s = start3 (c .before .before) in
-    let no-rest-zero = refused-by _ _ _ _ _ _ _ (ZeroFrom (3 * s .args .kept) (s .args .nodes .now)) (c .before .rest-zero .result) (c .before .rest-zero .ensures) (c .if4 .taken) in
+    let no-rest-zero = refused-by _ _ _ _ _ _ _ (ZeroFrom (3 * s .args .kept) (s .args .nodes .now)) (c .before .rest-zero2 .result) (c .before .rest-zero2 .ensures) (c .if4 .taken) in
     (no-rest-zero (λ w. w .rest), leaves-all _ _ _)
 
 mul-all-right : tie.Need-mul-all-right
@@ -89,23 +89,20 @@ returns-6 c =
     let no-all-differ = refused-by _ _ _ _ _ _ _ (Apart (s .args .nodes .now) (s .args .kept)) (c .before .before .before .all-differ .result) (c .before .before .before .all-differ .ensures .0) (c .if6 .taken) in
     (no-all-differ (λ w. w .apart), leaves-no (c .before .before .before .all-differ .ensures .1 .0 .rest))
 
-mul-rows-in-order : tie.Need-mul-rows-in-order
-mul-rows-in-order c = search needs
-
 -- what the passes before the order have shown
 passed : (c : tie.Else6) → Passed (start6 c .args .k) (length (start6 c .args .nodes .now) / 3) (start6 c .args .count) (start6 c .args .refs .now) (start6 c .args .kept) (start6 c .args .nodes .now)
 passed c =
     let e5 = c .before .before .before .before .before in
     let e4 = e5 .before .before in
     let e3 = e4 .before .before in
-    let e2 = e3 .before .before in
+    let e2 = e3 .before .before .before in
     let e1 = e2 .before .before in
     let s = start6 c in
     record {
       fits = e1 .if1 .left;
       inside = says-yes (Inside (s .args .refs .now) (s .args .count) (s .args .kept)) (e2 .before .inside .result) (e2 .before .inside .ensures) (e2 .if2 .left);
-      none = says-yes (ZeroFrom (s .args .count) (s .args .refs .now)) (e3 .before .none-past .result) (e3 .before .none-past .ensures) (e3 .if3 .left);
-      rest = says-yes (ZeroFrom (3 * s .args .kept) (s .args .nodes .now)) (e4 .before .rest-zero .result) (e4 .before .rest-zero .ensures) (e4 .if4 .left);
+      none = says-yes (ZeroFrom (s .args .count) (s .args .refs .now)) (e3 .before .rest-zero .result) (e3 .before .rest-zero .ensures) (e3 .if3 .left);
+      rest = says-yes (ZeroFrom (3 * s .args .kept) (s .args .nodes .now)) (e4 .before .rest-zero2 .result) (e4 .before .rest-zero2 .ensures) (e4 .if4 .left);
       right = says-yes (Right (s .args .nodes .now) (s .args .kept) (4 * s .args .k)) (e5 .before .all-right .result) (e5 .before .all-right .ensures) (e5 .if5 .left);
       apart = says-yes (Apart (s .args .nodes .now) (s .args .kept)) (c .before .before .before .all-differ .result) (c .before .before .before .all-differ .ensures .0) (c .if6 .left);
     }
@@ -113,7 +110,7 @@ passed c =
 rows-in-order-requires : tie.Need-rows-in-order-requires
 rows-in-order-requires c κs =
     let s = start6 c in
-    (passed-table (passed c) (s .pre .1 .few) (s .pre .1 .nodes), (passed-rows (passed c) (s .pre .0 .2), s .pre .0 .3))
+    ((passed-table (passed c) (s .pre .1 .few) (s .pre .1 .nodes), passed c .inside), (s .pre .0 .2, s .pre .0 .3))
 
 same-length-2 : tie.Need-same-length-2
 same-length-2 c = search needs
@@ -129,7 +126,8 @@ free-only-requires c κs =
     let p = passed (c .before .before .before) in
     let s = start6 (c .before .before .before) in
     let fits = p .fits in
-    (passed-table p (s .pre .1 .few) (s .pre .1 .nodes), (passed-rows p (s .pre .0 .2), (omega (arith, s .pre .1 .room, c .before .before .before .before .before .before .all-differ .kept .1 .1 .0), omega (arith, s .pre .0 .0))))
+    let size = c .before .before .before .before .before .before .all-differ .kept .1 .1 .0 in
+    ((passed-table p (s .pre .1 .few) (s .pre .1 .nodes), p .right), (passed-rows p (s .pre .0 .2), (omega (arith, s .pre .1 .room, size), omega (arith, s .pre .0 .0), omega (arith, s .pre .0 .1))))
 
 same-length-3 : tie.Need-same-length-3
 same-length-3 c = search needs
@@ -158,10 +156,10 @@ check-spec =
     returns
     inside-requires
     returns-2
-    none-past-requires
+    rest-zero-requires
     returns-3
     mul-rest-zero
-    rest-zero-requires
+    rest-zero-requires-2
     returns-4
     mul-all-right
     all-right-requires
@@ -169,7 +167,6 @@ check-spec =
     all-differ-requires
     same-length
     returns-6
-    mul-rows-in-order
     rows-in-order-requires
     same-length-2
     returns-7

@@ -8,7 +8,7 @@ use Rattle.trees.proofs.Tests.{false-true}
 use Rattle.nodes.specs.Nodes.{Between}
 use Rattle.nodes.specs.Chains.{Chained}
 use Rattle.keeping.specs.Checks.{Apart}
-use Rattle.nodes.proofs.ChainLaws.{joined-between, between-trans, between-zeroed, chained-start, chained-first, chained-walk, chained-missed, chained-found, chained-more}
+use Rattle.nodes.proofs.ChainLaws.{joined-between, between-trans, between-zeroed, chained-start, chained-walk, chained-missed, chained-found, chained-more}
 use Rattle.keeping.proofs.CheckLaws.{apart-more, apart-not}
 use Rattle.keeping.proofs.each.all_differ.Statement.{statement}
 use Rattle.keeping.proofs.each.all_differ.Tie as tie
