@@ -60,7 +60,9 @@ module _ (t : ℕ) where
       let q = s .pre .1 .1 .0 in
       let x = at-read .read .ensures in
       let d = sides-before (o .source) (s .pre .1 .1 .1 .0) (q .below) x in
-      (omega (arith, s .pre .0, d .0), (o, sides-ordered q x .0))
+      let low = sides-ordered q x .0 in
+      let high = sides-ordered q x .1 in
+      (omega (arith, s .pre .0, d .0, d .1), (o, search needs))
 
   apart-sweep-requires-2 : apart-lts.Need-sweep-requires-2 (read-reads.Asked, read-reads.Learnt, sweep-below t, sweep.Post, emit-reads.Asked, emit-reads.Learnt) (apart-at t) apart.Post
   apart-sweep-requires-2 c κs =
@@ -70,7 +72,9 @@ module _ (t : ℕ) where
       let q = s .pre .1 .1 .0 in
       let x = at-read .read .ensures in
       let d = sides-before (o .source) (s .pre .1 .1 .1 .0) (q .below) x in
-      (omega (arith, s .pre .0, d .1), (c .before .before .before .sweep .ensures .notes, sides-ordered q x .1))
+      let low = sides-ordered q x .0 in
+      let high = sides-ordered q x .1 in
+      (omega (arith, s .pre .0, d .0, d .1), (c .before .before .before .sweep .ensures .notes, search needs))
 
   apart-emit-requires : apart-lts.Need-emit-requires (read-reads.Asked, read-reads.Learnt, sweep-below t, sweep.Post, emit-reads.Asked, emit-reads.Learnt) (apart-at t) apart.Post
   apart-emit-requires c κs =
@@ -149,7 +153,7 @@ module _ (t : ℕ) where
   sweep-apart-requires c κs =
       let e = c .before .before .before in
       let s = e .before .before .before in
-      (omega (arith, s .pre .0), (s .pre .1 .0, (s .pre .1 .1, (e .if1 .left, c .before .if2 .taken))))
+      (omega (arith, s .pre .0), (s .pre .1 .0, (s .pre .1 .1, (e .if1 .left, omega (arith, c .before .if2 .taken)))))
 
   sweep-same-length : sweep-lts.Need-same-length (apart-below t, apart.Post) (sweep-at t) sweep.Post
   sweep-same-length c = search needs
