@@ -27,7 +27,8 @@ pub record AllSwept (ns : List ℕ) (m : ℕ) (us : List Tree) (notes rs : List 
   pub held : Held ns m notes us → Held ns m (w .notes) (w .table)
 
 module _ (ns : List ℕ) (m : ℕ) (back : Back ns m) (one : One ns m) where
-  pub all-swept : (hi : ℕ) (us : List Tree) (notes : List ℕ) (rs : List ℕ) → Leads ns m hi rs → Closed us → Right ns m (λ d. d) us notes → AllSwept ns m us notes rs (sweeps ns hi us notes rs)
+  pub all-swept : (hi : ℕ) (us : List Tree) (notes rs : List ℕ) → Leads ns m hi rs → Closed us → Right ns m (λ d. d) us notes
+      → AllSwept ns m us notes rs (sweeps ns hi us notes rs)
   unfolding sweeps addTrees
   all-swept hi us notes [] b cl r = record {
     answered = record { trees = refl; wide = refl; refs = λ i h. absurd (omega arith) };

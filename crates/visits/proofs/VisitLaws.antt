@@ -1,7 +1,7 @@
 -- Laws of the walk that counts its visits: the notes that it leaves, its count, its answer. Assumes nothing.
 use Prim.Native.Nat.{ℕ, zero, suc, _+_, _*_, _-_, _≤_, _<_}
 use mathlib.Core.Path.{_≡_, refl, sym, ap, _∙_}
-use mathlib.Core.Bool.{true}
+use mathlib.Core.Bool.{Bool, true}
 use mathlib.Core.List.{List}
 use native.Mathlib.Decide.{ℕ-discrete}
 use native.Mathlib.Omega.{arith}
@@ -162,8 +162,13 @@ module _ (ns : List ℕ) (m : ℕ) (back : Back ns m) (one : One ns m) where
   -- and some table has just these
   remembered-is : (notes : List ℕ) → (vs : List Tree) × Held ns m notes vs × (length vs ≡ remembered m notes)
   unfolding remembered
-  remembered-is notes =
-      (chosen (λ i. T (suc (suc i))) m (λ i. ltb 0 (getD notes i 0)), record { each = λ i k e. chosen-mem (λ i. T (suc (suc i))) m (λ i. ltb 0 (getD notes i 0)) i k e }, chosen-length (λ i. T (suc (suc i))) m (λ i. ltb 0 (getD notes i 0)))
+  remembered-is notes = (chosen tree m seen, record { each = chosen-mem tree m seen }, chosen-length tree m seen)
+    where
+      tree : ℕ → Tree
+      tree i = T (suc (suc i))
+
+      seen : ℕ → Bool
+      seen i = ltb 0 (getD notes i 0)
 
   -- a count of visits stays small: no more than two for each node, and one
   pub walk-fits : (leaf : ℕ → ℕ) (hi left : ℕ) (us : List Tree) (notes : List ℕ) (p lo : ℕ) → p < m + 2 → Fine lo hi (T p) → hi ≤ lo + left → m ≤ length notes
