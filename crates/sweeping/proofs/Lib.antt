@@ -1,4 +1,5 @@
 -- The laws of the canonical sweep.
+pub mod NoteLaws
 pub mod SweepLaws
 pub mod RowsLaws
 pub mod CopyLaws

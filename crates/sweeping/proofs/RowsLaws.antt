@@ -19,7 +19,7 @@ use Rattle.nodes.proofs.ReadLaws.{grown-goes, canonical-suc}
 use Rattle.visits.specs.Visits.{sweeps, RefinesAll}
 use Rattle.visits.proofs.VisitSteps.{sweeps-more}
 use Rattle.sweeping.specs.Sweeps.{Ordered, Noted, notesOf, Emitted, sweepOf, Copied, Renewal}
-use Rattle.sweeping.proofs.SweepLaws.{few-visits}
+use Rattle.sweeping.proofs.NoteLaws.{few-visits}
 
 -- each row's diagram is reduced and ordered
 pub rows-ordered : {ns : List ℕ} {m levels : ℕ} {refs : List ℕ} {count : ℕ} → Rows ns m levels refs count → (i : ℕ) → i < count → Ordered ns m (getD refs i 0)

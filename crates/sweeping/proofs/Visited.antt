@@ -2,13 +2,12 @@
 use Prim.Native.Nat.{ℕ, _+_, _*_, _≤_, _<_}
 use mathlib.Core.List.{List}
 use native.Mathlib.Omega.{arith}
-use lib.ListN.{length, getD, take, replicate, length-take, length-replicate}
+use lib.ListN.{take, replicate, length-take, length-replicate}
 use lib.Seq.{getD-take}
-use Rattle.trees.specs.Tree.{Fine}
-use Rattle.trees.specs.Table.{at, treesOf}
 use Rattle.trees.specs.Kept.{diagrams}
 use Rattle.trees.proofs.CanonicalLaws.{zeros-at}
 use Rattle.nodes.specs.Nodes.{Table, Rows, canonical}
+use Rattle.visits.proofs.SweepsLaws.{Leads}
 use Rattle.visits.proofs.Visited.{sweep-visits}
 use Rattle.sweeping.specs.Sweeps.{Renewal}
 
@@ -21,5 +20,5 @@ renew-visits {ns} {m} {levels} {refs} {count} t rows x =
     let v = sweep-visits ns m (t .back) (t .one) levels (replicate m 0) (take count refs) leads (omega (arith, length-replicate {A = ℕ} m 0)) (λ i h. zeros-at m i) in
     omega (arith, x .visits, x .size, v, long)
   where
-    leads : (i : ℕ) → i < length (take count refs) → (getD (take count refs) i 0 < m + 2) × Fine 0 levels (at (treesOf ns m) (getD (take count refs) i 0))
+    leads : Leads ns m levels (take count refs)
     leads i h = let k : i < count = omega (arith, length-take count refs) in rw (getD-take count refs i 0 k) (rows .inside i k, rows .fine i k)

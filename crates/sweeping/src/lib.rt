@@ -31,8 +31,8 @@ fn emit(work: &mut [u32], n: u32, j: usize, x: Node)
     work[j] = n + 3;
 }
 
-// Adds the diagram r of the first m nodes to the new table of n nodes: low side first, then high, then the node itself.
-// A node without a note is in the new table nowhere, so it is written without a search.
+// Adds the diagram r of the first m nodes to the new table of n nodes. A leaf, or a node that has a note, is visited and goes
+// no further.
 fn sweep(nodes: &[u32], m: u32, work: &mut [u32], c: usize, n: u32, r: u32) -> Swept
     requires { ⌜ Noted (now nodes) m (now work) c n ⌝ }
     requires { ⌜ Ordered (now nodes) m r ⌝ }
@@ -45,15 +45,26 @@ fn sweep(nodes: &[u32], m: u32, work: &mut [u32], c: usize, n: u32, r: u32) -> S
             visits: 1,
         };
     }
-    let j = 3 * c + (r as usize - 2);
-    let note = work[j];
-    if 0 < note {
-        return Swept {
-            count: n,
-            reference: note - 1,
-            visits: 1,
-        };
+    let note = work[3 * c + (r as usize - 2)];
+    if note == 0 {
+        return apart(nodes, m, work, c, n, r);
     }
+    Swept {
+        count: n,
+        reference: note - 1,
+        visits: 1,
+    }
+}
+
+// Adds the node r, which has no note, and its sides: low side first, then high, then the node itself. It is in the new table
+// nowhere, so it is written without a search.
+fn apart(nodes: &[u32], m: u32, work: &mut [u32], c: usize, n: u32, r: u32) -> Swept
+    requires { ⌜ Noted (now nodes) m (now work) c n ⌝ }
+    requires { ⌜ Ordered (now nodes) m r ⌝ }
+    requires { ⌜ (2 ≤ r) × (getD (now work) (3 * c + (r - 2)) 0 ≡ 0) ⌝ }
+    ensures { λ x. ⌜ Emitted (now (nodes .entry)) m r (now (work .entry)) (now (work .exit)) c n (x .count) (x .reference) (x .visits) ⌝ }
+{
+    let j = 3 * c + (r as usize - 2);
     let x = read(nodes, m, r);
     let a = sweep(nodes, m, work, c, n, x.low);
     let b = sweep(nodes, m, work, c, a.count, x.high);

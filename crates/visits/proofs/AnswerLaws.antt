@@ -19,10 +19,13 @@ pub record Stays (us : List Tree) (r : ℕ) (d : Tree) : Type 0 where
   pub trees : us ≡ addTree us d
   pub ref : Ref us r d
 
--- What is asked of a diagram, F: what leaf says for leaves, and for a node the node of what is asked of its sides.
-module _ (ns : List ℕ) (m : ℕ) (back : Back ns m) (one : One ns m) (F : Tree → Tree) (leaf : ℕ → ℕ) (hi : ℕ)
-    (as-off : (us : List Tree) → Stays us (leaf 0) (F off)) (as-on : (us : List Tree) → Stays us (leaf 1) (F on))
-    (step : (lo l : ℕ) (a b : Tree) → Fine lo hi (node l a b) → F (node l a b) ≡ mk l (F a) (F b)) where
+-- of a diagram is asked F: what leaf says for leaves, and for a node the node of what is asked of its sides
+pub record Asked (F : Tree → Tree) (leaf : ℕ → ℕ) (hi : ℕ) : Type 0 where
+  pub no : (us : List Tree) → Stays us (leaf 0) (F off)
+  pub yes : (us : List Tree) → Stays us (leaf 1) (F on)
+  pub step : (lo l : ℕ) (a b : Tree) → Fine lo hi (node l a b) → F (node l a b) ≡ mk l (F a) (F b)
+
+module _ (ns : List ℕ) (m : ℕ) (back : Back ns m) (one : One ns m) {F : Tree → Tree} {leaf : ℕ → ℕ} {hi : ℕ} (asked : Asked F leaf hi) where
   abbrev T : ℕ → Tree
   T r = at (treesOf ns m) r
 
@@ -65,7 +68,7 @@ module _ (ns : List ℕ) (m : ℕ) (back : Back ns m) (one : One ns m) (F : Tree
       made = ap₂ (mk l) (goes-ref goes (px .ref) .is) (py .ref .is)
 
       is : d ≡ F (T (suc (suc j)))
-      is = made ∙ sym (ap F (split ns m back one j h) ∙ step lo l a b f)
+      is = made ∙ sym (ap F (split ns m back one j h) ∙ asked .step lo l a b f)
 
       trees : addTree (y .table) d ≡ addTree us (F (T (suc (suc j))))
       trees =
@@ -81,8 +84,8 @@ module _ (ns : List ℕ) (m : ℕ) (back : Back ns m) (one : One ns m) (F : Tree
       → Closed us → Right ns m F us notes → Answered ns m F us p (walk leaf ns left us notes p)
   walk-answers =
       walk-all ns m back one leaf hi (λ us notes p w. Closed us → Right ns m F us notes → Answered ns m F us p w)
-      (λ us notes cl r. unfold stop at in record { trees = as-off us .trees; ref = as-off us .ref; right = r })
-      (λ us notes cl r. unfold stop at in record { trees = as-on us .trees; ref = as-on us .ref; right = r })
+      (λ us notes cl r. unfold stop at in record { trees = asked .no us .trees; ref = asked .no us .ref; right = r })
+      (λ us notes cl r. unfold stop at in record { trees = asked .yes us .trees; ref = asked .yes us .ref; right = r })
       (λ us notes j r h e cl w. unfold stop in record { trees = sym (add-in us _ cl (r, w .hit j r h e)); ref = w .hit j r h e; right = w })
       (λ us notes j lo x y h e f px py cl w.
       let ax = px cl w in

@@ -3,6 +3,8 @@ pub mod GrowthLaws
 pub mod CountLaws
 pub mod VisitLaws
 pub mod AnswerLaws
+pub mod AskedLaws
+pub mod SweepsLaws
 pub mod Visited
 pub mod VisitSteps
 pub mod Cases

@@ -1,7 +1,7 @@
 -- Laws of the walk that counts its visits: the notes that it leaves, its count, its answer. Assumes nothing.
 use Prim.Native.Nat.{ℕ, zero, suc, _+_, _*_, _-_, _≤_, _<_}
 use mathlib.Core.Path.{_≡_, refl, sym, ap, _∙_}
-use mathlib.Core.Bool.{true}
+use mathlib.Core.Bool.{Bool, true}
 use mathlib.Core.List.{List}
 use native.Mathlib.Decide.{ℕ-discrete}
 use native.Mathlib.Omega.{arith}
@@ -14,8 +14,8 @@ use Rattle.trees.specs.Tree.{Tree, node, Fine}
 use Rattle.trees.specs.Table.{mem, addTree, at, nodeAt, treesOf}
 use Rattle.trees.proofs.TreeLaws.{node-fine}
 use Rattle.trees.proofs.ReadLaws.{Back, One, at-node}
-use Rattle.visits.specs.Visits.{Went, stop, recall, visit, keep, walk}
-use Rattle.visits.proofs.GrowthLaws.{mem-add, mem-old, mem-new}
+use Rattle.visits.specs.Visits.{nodeCount, Went, stop, recall, visit, keep, walk}
+use Rattle.visits.proofs.GrowthLaws.{mem-add, mem-old, mem-new, add-most}
 use Rattle.visits.proofs.CountLaws.{countBelow, count-most, count-more, count-le, chosen, chosen-length, chosen-mem}
 
 -- how many of the first m places have a note
@@ -160,10 +160,15 @@ module _ (ns : List ℕ) (m : ℕ) (back : Back ns m) (one : One ns m) where
       count-le (λ i. T (suc (suc i))) m _ vs (λ i j a b e. let z = one (suc (suc i)) (suc (suc j)) (omega arith) (omega arith) e in omega arith) (h .each)
 
   -- and some table has just these
-  pub remembered-is : (notes : List ℕ) → (vs : List Tree) × Held ns m notes vs × (length vs ≡ remembered m notes)
+  remembered-is : (notes : List ℕ) → (vs : List Tree) × Held ns m notes vs × (length vs ≡ remembered m notes)
   unfolding remembered
-  remembered-is notes =
-      (chosen (λ i. T (suc (suc i))) m (λ i. ltb 0 (getD notes i 0)), record { each = λ i k e. chosen-mem (λ i. T (suc (suc i))) m (λ i. ltb 0 (getD notes i 0)) i k e }, chosen-length (λ i. T (suc (suc i))) m (λ i. ltb 0 (getD notes i 0)))
+  remembered-is notes = (chosen tree m seen, record { each = chosen-mem tree m seen }, chosen-length tree m seen)
+    where
+      tree : ℕ → Tree
+      tree i = T (suc (suc i))
+
+      seen : ℕ → Bool
+      seen i = ltb 0 (getD notes i 0)
 
   -- a count of visits stays small: no more than two for each node, and one
   pub walk-fits : (leaf : ℕ → ℕ) (hi left : ℕ) (us : List Tree) (notes : List ℕ) (p lo : ℕ) → p < m + 2 → Fine lo hi (T p) → hi ≤ lo + left → m ≤ length notes
@@ -172,3 +177,11 @@ module _ (ns : List ℕ) (m : ℕ) (back : Back ns m) (one : One ns m) where
   walk-fits leaf hi left us notes p lo h f k l =
       let t = walk-tells leaf hi left us notes p lo h f k l in
       omega (arith, t .counted .count, count-most m (λ i. ltb 0 (getD (walk leaf ns left us notes p .notes) i 0)))
+
+  -- nor more than two for each node of its diagram, and one, whatever is noted before
+  pub walk-most : (leaf : ℕ → ℕ) (hi left : ℕ) (us : List Tree) (notes : List ℕ) (p lo : ℕ) → p < m + 2 → Fine lo hi (T p) → hi ≤ lo + left → m ≤ length notes
+      → walk leaf ns left us notes p .visits ≤ 2 * nodeCount (T p) + 1
+  walk-most leaf hi left us notes p lo h f k l =
+      let t = walk-tells leaf hi left us notes p lo h f k l in
+      let v = remembered-is notes in
+      omega (arith, t .counted .count, remembered-le _ _ (t .held (v .0) (v .1)), v .2, add-most (v .0) (T p))

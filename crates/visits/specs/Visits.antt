@@ -3,10 +3,10 @@
 -- its count together: the root's reference, and two for each node that is taken apart. Assumes nothing: these are definitions.
 use Prim.Native.Nat.{ℕ, zero, suc, _+_, _*_, _-_, _≤_, _<_}
 use mathlib.Core.Path.{_≡_}
-use mathlib.Core.List.{List, [], _∷_}
+use mathlib.Core.List.{List, [], _∷_, map}
 use lib.ListN.{length, getD, set}
 use Rattle.trees.specs.Tree.{Tree, mk}
-use Rattle.trees.specs.Table.{addTree, at, refOf, treesOf, Ref}
+use Rattle.trees.specs.Table.{addTree, addTrees, at, refOf, treesOf, Ref}
 
 -- how many nodes a diagram has, each counted once
 abbrev pub nodeCount : Tree → ℕ
@@ -84,6 +84,12 @@ pub record Answered (ns : List ℕ) (m : ℕ) (F : Tree → Tree) (us : List Tre
   pub trees : w .table ≡ addTree us (F (at (treesOf ns m) p))
   pub ref : Ref (w .table) (w .answer) (F (at (treesOf ns m) p))
   pub right : Right ns m F (w .table) (w .notes)
+
+-- the diagrams of all rows were added to us in order, and each answer leads to its row's
+pub record AnsweredAll (ns : List ℕ) (m : ℕ) (us : List Tree) (rs : List ℕ) (w : Swept) : Type 0 where
+  pub trees : w .table ≡ addTrees us (map (at (treesOf ns m)) rs)
+  pub wide : length (w .answers) ≡ length rs
+  pub refs : (i : ℕ) → i < length rs → Ref (w .table) (getD (w .answers) i 0) (at (treesOf ns m) (getD rs i 0))
 
 -- what code that walks leaves and answers is what the definition says: table, notes, answer and visits
 pub record Refines (w : Went) (us : List Tree) (noted : List ℕ) (r v : ℕ) : Type 0 where

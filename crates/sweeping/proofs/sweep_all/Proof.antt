@@ -3,7 +3,7 @@
 use Prim.Native.Nat.{_-_, _≤_}
 use mathlib.Core.Path.{_≡_}
 use native.Mathlib.Omega.{arith}
-use Rattle.sweeping.proofs.SweepLaws.{few-visits}
+use Rattle.sweeping.proofs.NoteLaws.{few-visits}
 use Rattle.sweeping.proofs.RowsLaws.{rows-ordered, Going, going-none, going-more, going-all}
 use Rattle.sweeping.proofs.sweep_all.Statement.{statement}
 use Rattle.sweeping.proofs.sweep_all.Tie as tie
