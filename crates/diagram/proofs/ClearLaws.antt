@@ -1,37 +1,15 @@
--- The work slice: zeros before the work, and zeros after it. Assumes nothing.
+-- The work slice at the end of a step. Assumes nothing.
 use Prim.Native.Nat.{ℕ, _+_, _*_, _-_, _≤_, _<_}
 use mathlib.Core.Path.{_≡_, sym, ap, _∙_}
 use mathlib.Core.List.{List, _++_}
 use mathlib.Core.Logic.{⊎-elim}
 use native.Mathlib.Omega.{arith}
 use lib.ListN.{length, getD, drop, replicate, length-append, length-drop, length-replicate, List·getD-append, List·getD-eq-default}
-use lib.Seq.{ext-getD, getD-append-add, getD-drop, getD-take}
-use borrow.Rule.Slice.PartMut.{mid-len}
+use lib.Seq.{ext-getD, getD-append-add, getD-drop}
 use Rattle.trees.proofs.Tests.{lt-or-ge}
 use Rattle.trees.proofs.CanonicalLaws.{zeros-at}
-use Rattle.nodes.specs.Nodes.{Table, Rest, Zeroed}
+use Rattle.nodes.specs.Nodes.{Rest, Zeroed}
 use Rattle.diagram.specs.Steps.{cleared}
-use Rattle.diagram.specs.Works.{part, Desk}
-use Rattle.diagram.proofs.CallLaws.{memory-none, map-none}
-
--- a part of zeros
-part-zero : (a e : ℕ) (w : List ℕ) → e ≤ length w → ((i : ℕ) → a ≤ i → i < e → getD w i 0 ≡ 0) → (i : ℕ) → getD (part a e w) i 0 ≡ 0
-part-zero a e w fits z i = ⊎-elim
-    (λ h. getD-take (e - a) (drop a w) i 0 h ∙ getD-drop a w i 0 ∙ z (a + i) (omega arith) (omega arith))
-    (λ h. List·getD-eq-default (part a e w) 0 (omega (arith, mid-len a e w fits)))
-    (lt-or-ge i (e - a))
-
--- a table, and the map and the memory zeroed
-pub desk-zeroed : (ns : List ℕ) (n levels : ℕ) (w w₁ : List ℕ) (c : ℕ) → Table ns n → length ns ≡ 3 * c → 1 ≤ c → 13 * c ≤ length w₁ → Zeroed (4 * c) (13 * c) w w₁
-    → Desk ns n levels w₁ c
-desk-zeroed ns n levels w w₁ c t size some long z = record {
-  table = t;
-  size = size;
-  some = some;
-  long = long;
-  complements = map-none ns _ n levels (omega (arith, mid-len (4 * c) (5 * c) w₁ (omega arith))) (part-zero (4 * c) (5 * c) w₁ (omega arith) (λ i h k. z .zero i h (omega arith)));
-  memory = memory-none ns _ n levels (omega (arith, mid-len (5 * c) (13 * c) w₁ (omega arith))) (part-zero (5 * c) (13 * c) w₁ (omega arith) (λ i h k. z .zero i (omega arith) k));
-}
 
 -- the work slice at the end
 module _ (C : ℕ) (w : List ℕ) (long : 16 * C + 1024 ≤ length w) where
@@ -68,9 +46,9 @@ module _ (C : ℕ) (w : List ℕ) (long : 16 * C + 1024 ≤ length w) where
 pub rest-more : {j k : ℕ} {xs ys : List ℕ} → Rest j xs ys → j ≤ k → Rest k xs ys
 rest-more r h = record { eq = λ i l. r .eq i (omega arith) }
 
--- what three calls leave behind
-pub rest-three : {a b d : ℕ} {xs ys zs us : List ℕ} (k : ℕ) → Rest a xs ys → Rest b ys zs → Rest d zs us → a ≤ k → b ≤ k → d ≤ k → Rest k xs us
-rest-three k p q r ha hb hd = record { eq = λ i l. r .eq i (omega arith) ∙ q .eq i (omega arith) ∙ p .eq i (omega arith) }
+-- what two calls leave behind
+pub rest-two : {a b : ℕ} {xs ys zs : List ℕ} (k : ℕ) → Rest a xs ys → Rest b ys zs → a ≤ k → b ≤ k → Rest k xs zs
+rest-two k p q ha hb = record { eq = λ i l. q .eq i (omega arith) ∙ p .eq i (omega arith) }
 
 -- changed only in front, it ends the same
 pub cleared-same : (C : ℕ) (w w₁ : List ℕ) → 16 * C + 1024 ≤ length w → Rest (16 * C + 1024) w w₁ → length w₁ ≡ length w → cleared C w₁ ≡ cleared C w

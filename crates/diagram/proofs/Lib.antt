@@ -1,23 +1,10 @@
 -- The laws that the proofs of the diagram layer cite.
-pub mod NodesLaws
-pub mod SideLaws
-pub mod WalkLaws
-pub mod SettleLaws
-pub mod MemoryLaws
-pub mod SinceLaws
-pub mod StepLaws
-pub mod NotLaws
-pub mod DropLaws
-pub mod CubeLaws
-pub mod CallLaws
-pub mod SweepLaws
-pub mod CanonicalLaws
-pub mod DeskLaws
 pub mod RemovalLaws
 pub mod RowLaws
 pub mod PlanLaws
 pub mod FitLaws
 pub mod ClearLaws
+pub mod LendLaws
 pub mod OutcomeLaws
 pub mod CaseLaws
 pub mod CountLaws

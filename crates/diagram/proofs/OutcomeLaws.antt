@@ -19,12 +19,12 @@ use Rattle.diagram.specs.declared.Instruction.{Instruction}
 use Rattle.diagram.specs.declared.Stepped.{Stepped}
 use Rattle.diagram.specs.declared.Told.the-variants.{Full, Done}
 use Rattle.nodes.specs.Nodes.{Table, Zeroed, Rows, canonical}
-use Rattle.diagram.specs.Walks.{Within}
-use Rattle.diagram.specs.Sweeps.{References, Renewal}
+use Rattle.walks.specs.Walks.{Within}
+use Rattle.sweeping.specs.Sweeps.{References, Renewal}
 use Rattle.keeping.specs.Checks.{freeBy, Right}
 use Rattle.diagram.specs.Steps.{newTrees, stages, workTable, cleared, layout, workOutcome, Leaves}
 use Rattle.diagram.specs.Works.{Fits, Ready, Short, Through}
-use Rattle.diagram.proofs.CallLaws.{within-all}
+use Rattle.walks.proofs.CallLaws.{within-all}
 use Rattle.diagram.proofs.RemovalLaws.{within-fine}
 use Rattle.diagram.proofs.RowLaws.{within-no}
 use Rattle.diagram.proofs.PlanLaws.{length-new}
@@ -35,7 +35,7 @@ use Rattle.keeping.proofs.VerdictLaws.{kept-right}
 pub ready : (k : ℕ) (allowed : List ℕ) (C count : ℕ) (refs : List ℕ) (kept : ℕ) (ns : List ℕ) → 1 ≤ k → count ≤ 64 → length refs ≡ 64 → length ns ≡ 3 * C → C ≤ 4096
     → WellKept (freeBy k allowed) C count refs kept ns → Ready k count refs kept ns
 ready k allowed C count refs kept ns pos few wide size small w =
-    record { table = sound-table ns kept (4 * k) right (w .apart) (omega arith) (omega (arith, w .fits)); leads = record { each = leads }; none = w .none; rest = w .rest }
+    record { table = sound-table ns kept (4 * k) right (w .apart) (omega arith) (omega (arith, w .fits)); leads = record { wide = wide; each = leads }; none = w .none; rest = w .rest }
   where
     right : Right ns kept (4 * k)
     right = kept-right k allowed C count refs kept ns pos (omega arith) w
@@ -75,15 +75,15 @@ module _ (k count : ℕ) (plan : List Instruction) (refs : List ℕ) (kept : ℕ
           (λ l. z .zero i l (omega (arith, z .size)) ∙ sym (r .rest i l))
           (lt-or-ge i (3 * kept)))
 
-  module _ {ns₁ : List ℕ} {n : ℕ} {w₁ : List ℕ} {news : List ℕ}
-      (t : Through k plan (diagrams ns kept refs count) ns kept ns₁ n w₁ (length ns / 3) refs news count) where
+  module _ {ns₁ : List ℕ} {n : ℕ} {w₀ : List ℕ} {slots : ℕ} {news : List ℕ}
+      (t : Through k plan (diagrams ns kept refs count) ns kept ns₁ n w₀ (length ns / 3) slots refs news count) where
     -- what the sweep asks
-    pub sweep-ready : Table ns₁ n × ((length ns₁ ≡ 3 * (length ns₁ / 3)) × (4 * (length ns₁ / 3) ≤ length w₁)) × Rows ns₁ n (4 * k) news count
-    sweep-ready =
-        let size = t .size in
-        let long = t .desk .long in (
-          t .desk .table,
-          (omega (arith, f .whole), omega arith),
+    pub sweep-ready : (w₁ : List ℕ) → length w₁ ≡ length w
+        → Table ns₁ n × ((length ns₁ ≡ 3 * (length ns₁ / 3)) × (4 * (length ns₁ / 3) ≤ length w₁) × (length news ≡ 64)) × Rows ns₁ n (4 * k) news count
+    sweep-ready w₁ e =
+        let size = t .size in (
+          t .desk .shelf .table,
+          (omega (arith, f .whole), omega (arith, f .room), t .new-lead .wide),
           record { few = f .few; inside = λ i h. t .new-lead .each i .below; fine = λ i h. within-fine (t .new-lead .each i) },
         )
 
@@ -97,7 +97,7 @@ module _ (k count : ℕ) (plan : List Instruction) (refs : List ℕ) (kept : ℕ
         List·getD-map (at (treesOf ns₁ n)) (take count news) i 0 ∙ ap (at (treesOf ns₁ n)) (getD-take count news i 0 l) ∙ t .new-are i)
       where
         size : length (map (at (treesOf ns₁ n)) (take count news)) ≡ count
-        size = length-map (take count news) (at (treesOf ns₁ n)) ∙ length-take-le count news (omega (arith, t .wide, f .few))
+        size = length-map (take count news) (at (treesOf ns₁ n)) ∙ length-take-le count news (omega (arith, t .new-lead .wide, f .few))
 
     -- the count of nodes is the room
     room-is : length (workTable k count plan refs kept ns) ≡ n
@@ -121,14 +121,14 @@ module _ (k count : ℕ) (plan : List Instruction) (refs : List ℕ) (kept : ℕ
         T = canonical ns₁ n news count
 
         size : length (map (refOf T) (map (at (treesOf ns₁ n)) (take count news))) ≡ count
-        size = rw (length-map, length-map) (length-take-le count news (omega (arith, t .wide, f .few)))
+        size = rw (length-map, length-map) (length-take-le count news (omega (arith, t .new-lead .wide, f .few)))
 
     -- all rows worked and swept
-    pub done-leaves : {w₂ ns₂ w₃ : List ℕ} {kept′ : ℕ} {refs′ : List ℕ} → Renewal ns₁ n news count w₁ ns₂ w₂ kept′ refs′ → w₃ ≡ cleared (length ns / 3) w
+    pub done-leaves : {w₁ w₂ ns₂ w₃ : List ℕ} {kept′ : ℕ} {refs′ : List ℕ} {visits : ℕ} → Renewal ns₁ n (4 * k) news count w₁ ns₂ w₂ kept′ refs′ visits → w₃ ≡ cleared (length ns / 3) w
         → Leaves (workOutcome (leb (length (workTable k count plan refs kept ns)) (length ns / 3)) k count plan refs kept ns w) (record { told = Done kept′ n; refs = refs′ }) ns₂ w₃
     unfolding workOutcome layout canonical
     done-leaves {kept′ = kept′} {refs′} r e =
-        let table = t .desk .table .fits in
+        let table = t .desk .shelf .table .fits in
         let size = t .size in
         let ds = new-diagrams in
         let test : leb (length (workTable k count plan refs kept ns)) (length ns / 3) ≡ true = rw room-is (le-leb n (length ns / 3) (omega arith)) in

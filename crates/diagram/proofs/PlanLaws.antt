@@ -20,11 +20,12 @@ use Rattle.trees.proofs.ReadLaws.{length-trees}
 use Rattle.trees.proofs.CanonicalLaws.{zeros-at}
 use Rattle.diagram.specs.declared.Instruction.{Instruction}
 use Rattle.diagram.specs.declared.Instruction.the-variants.{Yes}
-use Rattle.diagram.specs.Walks.{Within}
+use Rattle.walks.specs.Walks.{Within}
+use Rattle.walks.specs.Desks.{Desk}
 use Rattle.diagram.specs.Steps.{says, instructionSays, stagesOf, withRow, newTrees, stages}
-use Rattle.diagram.specs.Works.{Desk, Leads, led, Reached, Short, Are, Through}
-use Rattle.diagram.proofs.WalkLaws.{front-trans}
-use Rattle.diagram.proofs.CallLaws.{within-all}
+use Rattle.diagram.specs.Works.{Leads, led, Reached, Short, Are, Through}
+use Rattle.tables.proofs.WalkLaws.{front-trans}
+use Rattle.walks.proofs.CallLaws.{within-all}
 use Rattle.diagram.proofs.RemovalLaws.{within-fine}
 use Rattle.diagram.proofs.RowLaws.{within-no}
 
@@ -75,23 +76,22 @@ module _ (k : ℕ) (plan : List Instruction) (old : List Tree) where
 
   module _ (ns₀ : List ℕ) (kept : ℕ) where
     -- no row is worked yet
-    pub through-none : (w : List ℕ) (c : ℕ) (olds : List ℕ) → Desk ns₀ kept (4 * k) w c → Leads ns₀ kept (4 * k) olds → Are ns₀ kept olds old
-        → Through k plan old ns₀ kept ns₀ kept w c olds (replicate 64 0) 0
+    pub through-none : (w : List ℕ) (c slots : ℕ) (olds : List ℕ) → Desk ns₀ kept (4 * k) w c slots → Leads ns₀ kept (4 * k) olds → Are ns₀ kept olds old
+        → Through k plan old ns₀ kept ns₀ kept w c slots olds (replicate 64 0) 0
     unfolding stages newTrees addTrees at
-    through-none w c olds d l are = record {
+    through-none w c slots olds d l are = record {
       desk = d;
       size = refl;
       same = record { eq = λ i h. refl };
       trees = refl;
       old-lead = l;
       old-are = are;
-      new-lead = record { each = λ a. rw (zeros-at 64 a) (within-no ns₀ kept (4 * k)) };
+      new-lead = record { wide = refl; each = λ a. rw (zeros-at 64 a) (within-no ns₀ kept (4 * k)) };
       new-are = λ a. rw (zeros-at 64 a);
       none = λ a h. zeros-at 64 a;
-      wide = refl;
     }
 
-    module _ {ns : List ℕ} {n : ℕ} {w : List ℕ} {c : ℕ} {olds news : List ℕ} {i : ℕ} (t : Through k plan old ns₀ kept ns n w c olds news i) where
+    module _ {ns : List ℕ} {n : ℕ} {w : List ℕ} {c slots : ℕ} {olds news : List ℕ} {i : ℕ} (t : Through k plan old ns₀ kept ns n w c slots olds news i) where
       -- the functions that the references lead to
       old-says : led ns n olds ≡ says old
       unfolding led says
@@ -156,7 +156,7 @@ module _ (k : ℕ) (plan : List Instruction) (old : List Tree) where
             here : a ≡ i → at (treesOf ns′ n′) (getD (set news i r) a 0) ≡ getD (newTrees k plan old i ++ treeOf (4 * k) (instructionSays k (says old) (says (newTrees k plan old i)) i (getD plan i Yes)) ∷ []) a off
             here e =
                 let z : a ≡ length (newTrees k plan old i) = e ∙ sym (length-new k plan old i) in
-                rw (e, getD-set-same news i r 0 (omega (arith, t .wide)), own) (sym (ap (λ (x : ℕ). getD (newTrees k plan old i ++ treeOf (4 * k) (instructionSays k (says old) (says (newTrees k plan old i)) i (getD plan i Yes)) ∷ []) x off) (sym e ∙ z) ∙ getD-append-seam (newTrees k plan old i) _ [] off))
+                rw (e, getD-set-same news i r 0 (omega (arith, t .new-lead .wide)), own) (sym (ap (λ (x : ℕ). getD (newTrees k plan old i ++ treeOf (4 * k) (instructionSays k (says old) (says (newTrees k plan old i)) i (getD plan i Yes)) ∷ []) x off) (sym e ∙ z) ∙ getD-append-seam (newTrees k plan old i) _ [] off))
 
             past : i < a → at (treesOf ns′ n′) (getD (set news i r) a 0) ≡ getD (newTrees k plan old i ++ treeOf (4 * k) (instructionSays k (says old) (says (newTrees k plan old i)) i (getD plan i Yes)) ∷ []) a off
             past h =
@@ -164,7 +164,7 @@ module _ (k : ℕ) (plan : List Instruction) (old : List Tree) where
                 (sym (List·getD-eq-default (newTrees k plan old i ++ _ ∷ []) off (omega (arith, length-append (newTrees k plan old i) (treeOf (4 * k) (instructionSays k (says old) (says (newTrees k plan old i)) i (getD plan i Yes)) ∷ []), length-new k plan old i))))
 
         -- one row more is worked
-        pub through-more : {w′ : List ℕ} → Desk ns′ n′ (4 * k) w′ c → Through k plan old ns₀ kept ns′ n′ w′ c olds (set news i r) (i + 1)
+        pub through-more : {w′ : List ℕ} → Desk ns′ n′ (4 * k) w′ c slots → Through k plan old ns₀ kept ns′ n′ w′ c slots olds (set news i r) (i + 1)
         through-more d =
             let m = grows in
             rw (add-one i) (record {
@@ -172,16 +172,15 @@ module _ (k : ℕ) (plan : List Instruction) (old : List Tree) where
               size = g .size ∙ t .size;
               same = front-trans (t .same) (g .same) (omega arith);
               trees = g .trees ∙ met;
-              old-lead = record { each = λ a. lead-stay (getD olds a 0) (t .old-lead .each a) };
+              old-lead = record { wide = t .old-lead .wide; each = λ a. lead-stay (getD olds a 0) (t .old-lead .each a) };
               old-are = λ a. stay (getD olds a 0) (t .old-lead .each a .below) ∙ t .old-are a;
-              new-lead = record { each = λ a. new-leads a };
+              new-lead = record { wide = length-set news i r ∙ t .new-lead .wide; each = λ a. new-leads a };
               new-are = row-are;
               none = λ a h. getD-set-other news i a r 0 (λ e. omega arith) ∙ t .none a (omega arith);
-              wide = length-set news i r ∙ t .wide;
             })
           where
             new-leads : (a : ℕ) → Within ns′ n′ (4 * k) (4 * k) (getD (set news i r) a 0)
             new-leads a = elim (ℕ-discrete a i) [
-              | yes e ↦ rw (e, getD-set-same news i r 0 (omega (arith, t .wide))) (within-all ns′ n′ (4 * k) r (g .ref .below) (rw (g .ref .is) (fine-of (4 * k) _)))
+              | yes e ↦ rw (e, getD-set-same news i r 0 (omega (arith, t .new-lead .wide))) (within-all ns′ n′ (4 * k) r (g .ref .below) (rw (g .ref .is) (fine-of (4 * k) _)))
               | no e ↦ rw (getD-set-other news i a r 0 e) (lead-stay (getD news a 0) (t .new-lead .each a))
             ]

@@ -13,25 +13,27 @@ use Rattle.trees.specs.Table.{addTrees, at, treesOf}
 use Rattle.trees.proofs.Tests.{lt-or-ge}
 use Rattle.trees.proofs.TreeLaws.{asks-eval, fine-off, fine-on}
 use Rattle.trees.proofs.FunctionLaws.{tree-one}
-use Rattle.diagram.specs.declared.Made.{Made}
-use Rattle.diagram.specs.declared.Made.the-variants.{Full, At}
-use Rattle.diagram.specs.declared.Place.{Place}
+use Rattle.tables.specs.declared.Made.{Made}
+use Rattle.tables.specs.declared.Made.the-variants.{Full, At}
+use Rattle.tables.specs.declared.Place.{Place}
 use Rattle.diagram.specs.declared.Instruction.{Instruction}
 use Rattle.diagram.specs.declared.Instruction.the-variants.{Yes, No, Cube, And, Not, Since, Old, Drop}
-use Rattle.diagram.specs.Walks.{AddedWith, Within}
-use Rattle.diagram.specs.Cubes.{cubeSays}
+use Rattle.tables.specs.Tables.{Added}
+use Rattle.walks.specs.Walks.{Within}
+use Rattle.walks.specs.Desks.{Desk}
+use Rattle.tables.specs.Cubes.{cubeSays}
 use Rattle.diagram.specs.Steps.{instructionSays, dropStages, stagesOf}
-use Rattle.diagram.specs.Works.{Desk, Leads, led, Base, Reached, Short, Worked}
+use Rattle.diagram.specs.Works.{Leads, led, Base, Reached, Short, Worked}
 use Rattle.nodes.proofs.ReadLaws.{grown-ref, stays}
-use Rattle.diagram.proofs.SinceLaws.{and-since}
+use Rattle.walks.proofs.SinceLaws.{and-since}
 use Rattle.diagram.proofs.RemovalLaws.{tree-eval, within-fine, stages-past, drops-past}
 
 -- a row of one function, whose diagram a walk has added
-pub one-made : (levels : ℕ) (ns ms : List ℕ) (n : ℕ) (w : List ℕ) (c : ℕ) (f : Function) (d : Tree) (m : Made) → treeOf levels f ≡ d
-    → AddedWith (λ xs j. Desk xs j levels w c) ns ms n d m → Worked levels ns ms n (f ∷ []) f w c m
+pub one-made : (levels : ℕ) (ns ms : List ℕ) (n : ℕ) (w : List ℕ) (c slots : ℕ) (f : Function) (d : Tree) (m : Made) → treeOf levels f ≡ d
+    → Added (λ xs j. Desk xs j levels w c slots) ns ms n d m → Worked levels ns ms n (f ∷ []) f w c slots m
 unfolding addTrees
-one-made levels ns ms n w c f d Full e g = record { over = rw e (g .over); size = g .size; same = g .same }
-one-made levels ns ms n w c f d (At k r) e g = (
+one-made levels ns ms n w c slots f d Full e g = record { over = rw e (g .over); size = g .size; same = g .same }
+one-made levels ns ms n w c slots f d (At k r) e g = (
   record {
     size = g .0 .size;
     trees = rw e (g .0 .trees);
@@ -42,9 +44,9 @@ one-made levels ns ms n w c f d (At k r) e g = (
 )
 
 -- the same of a diagram that is there
-pub one-there : {levels : ℕ} {ns : List ℕ} {n : ℕ} {w : List ℕ} {c : ℕ} → Desk ns n levels w c → (f : Function) (r : ℕ) → r < n + 2
-    → treeOf levels f ≡ at (treesOf ns n) r → Worked levels ns ns n (f ∷ []) f w c (At n r)
-one-there {levels} {ns} {n} {w} {c} d f r h e = one-made levels ns ns n w c f (at (treesOf ns n) r) (At n r) e (stays ns n r (at (treesOf ns n) r) (d .table) h refl, d)
+pub one-there : {levels : ℕ} {ns : List ℕ} {n : ℕ} {w : List ℕ} {c slots : ℕ} → Desk ns n levels w c slots → (f : Function) (r : ℕ) → r < n + 2
+    → treeOf levels f ≡ at (treesOf ns n) r → Worked levels ns ns n (f ∷ []) f w c slots (At n r)
+one-there {levels} {ns} {n} {w} {c} {slots} d f r h e = one-made levels ns ns n w c slots f (at (treesOf ns n) r) (At n r) e (stays ns n r (at (treesOf ns n) r) (d .shelf .table) h refl, d)
 
 -- no asks no level
 pub within-no : (ns : List ℕ) (n levels : ℕ) → Within ns n levels levels 0
@@ -55,52 +57,52 @@ within-no ns n levels = record { below = omega arith; fine = fine-off (levels - 
 pub leads-to : {ns : List ℕ} {n levels : ℕ} {refs : List ℕ} → Leads ns n levels refs → {r : ℕ} (a : ℕ) → r ≡ getD refs a 0 → Within ns n levels levels r
 leads-to l a e = rw e (l .each a)
 
-module _ (k : ℕ) (ns ms : List ℕ) (n : ℕ) (olds news : List ℕ) (i : ℕ) (w : List ℕ) (c : ℕ) where
+module _ (k : ℕ) (ns ms : List ℕ) (n : ℕ) (olds news : List ℕ) (i : ℕ) (w : List ℕ) (c slots : ℕ) where
   -- what the row's work left, by its instruction
   abbrev pub Row : Instruction → Made → Type 0
-  Row x m = Worked (4 * k) ns ms n (stagesOf k (led ns n olds) (led ns n news) i x) (instructionSays k (led ns n olds) (led ns n news) i x) w c m
+  Row x m = Worked (4 * k) ns ms n (stagesOf k (led ns n olds) (led ns n news) i x) (instructionSays k (led ns n olds) (led ns n news) i x) w c slots m
 
   -- a cube
-  pub row-cube : (x y z u : Place) (m : Made) → AddedWith (λ xs j. Desk xs j (4 * k) w c) ns ms n (treeOf (4 * k) (cubeSays k (x ∷ y ∷ z ∷ u ∷ []))) m → Row (Cube x y z u) m
+  pub row-cube : (x y z u : Place) (m : Made) → Added (λ xs j. Desk xs j (4 * k) w c slots) ns ms n (treeOf (4 * k) (cubeSays k (x ∷ y ∷ z ∷ u ∷ []))) m → Row (Cube x y z u) m
   unfolding stagesOf instructionSays
-  row-cube x y z u m g = one-made (4 * k) ns ms n w c _ _ m refl g
+  row-cube x y z u m g = one-made (4 * k) ns ms n w c slots _ _ m refl g
 
   -- an and
   pub row-and : (a b : ℕ) (m : Made)
-      → AddedWith (λ xs j. Desk xs j (4 * k) w c) ns ms n (sinceT (4 * k) (at (treesOf ns n) (getD news a 0)) (at (treesOf ns n) 0) (at (treesOf ns n) (getD news b 0))) m → Row (And a b) m
+      → Added (λ xs j. Desk xs j (4 * k) w c slots) ns ms n (sinceT (4 * k) (at (treesOf ns n) (getD news a 0)) (at (treesOf ns n) 0) (at (treesOf ns n) (getD news b 0))) m → Row (And a b) m
   unfolding stagesOf instructionSays led at
-  row-and a b m g = one-made (4 * k) ns ms n w c _ _ m (sym (and-since (4 * k) (at (treesOf ns n) (getD news a 0)) (at (treesOf ns n) (getD news b 0)))) g
+  row-and a b m g = one-made (4 * k) ns ms n w c slots _ _ m (sym (and-since (4 * k) (at (treesOf ns n) (getD news a 0)) (at (treesOf ns n) (getD news b 0)))) g
 
   -- a complement
-  pub row-not : (a : ℕ) (m : Made) → AddedWith (λ xs j. Desk xs j (4 * k) w c) ns ms n (notT (4 * k) (at (treesOf ns n) (getD news a 0))) m → Row (Not a) m
+  pub row-not : (a : ℕ) (m : Made) → Added (λ xs j. Desk xs j (4 * k) w c slots) ns ms n (notT (4 * k) (at (treesOf ns n) (getD news a 0))) m → Row (Not a) m
   unfolding stagesOf instructionSays led notT
-  row-not a m g = one-made (4 * k) ns ms n w c _ _ m refl g
+  row-not a m g = one-made (4 * k) ns ms n w c slots _ _ m refl g
 
   -- a since
   pub row-since : (a b l r o : ℕ) → l ≡ getD news a 0 → r ≡ getD news b 0 → o ≡ getD olds i 0 → (m : Made)
-      → AddedWith (λ xs j. Desk xs j (4 * k) w c) ns ms n (sinceT (4 * k) (at (treesOf ns n) l) (at (treesOf ns n) r) (at (treesOf ns n) o)) m → Row (Since a b) m
+      → Added (λ xs j. Desk xs j (4 * k) w c slots) ns ms n (sinceT (4 * k) (at (treesOf ns n) l) (at (treesOf ns n) r) (at (treesOf ns n) o)) m → Row (Since a b) m
   unfolding stagesOf instructionSays led sinceT
-  row-since a b l r o el er eo m g = one-made (4 * k) ns ms n w c _ _ m refl (rw (el, er, eo) at g)
+  row-since a b l r o el er eo m g = one-made (4 * k) ns ms n w c slots _ _ m refl (rw (el, er, eo) at g)
 
   -- a removal
   pub row-drop : (v a : ℕ) (m : Made)
-      → Worked (4 * k) ns ms n (dropStages (v * k) k (eval (at (treesOf ns n) (getD news a 0)))) (drops (v * k) k (eval (at (treesOf ns n) (getD news a 0)))) w c m → Row (Drop v a) m
+      → Worked (4 * k) ns ms n (dropStages (v * k) k (eval (at (treesOf ns n) (getD news a 0)))) (drops (v * k) k (eval (at (treesOf ns n) (getD news a 0)))) w c slots m → Row (Drop v a) m
   unfolding stagesOf instructionSays led
   row-drop v a m g = g
 
-module _ (k : ℕ) {ns : List ℕ} {n : ℕ} (olds news : List ℕ) (i : ℕ) {w : List ℕ} {c : ℕ} (d : Desk ns n (4 * k) w c) where
+module _ (k : ℕ) {ns : List ℕ} {n : ℕ} (olds news : List ℕ) (i : ℕ) {w : List ℕ} {c slots : ℕ} (d : Desk ns n (4 * k) w c slots) where
   -- yes
-  pub row-yes : Row k ns ns n olds news i w c Yes (At n 1)
+  pub row-yes : Row k ns ns n olds news i w c slots Yes (At n 1)
   unfolding stagesOf instructionSays at eval
   row-yes = one-there d _ 1 (omega arith) (tree-one (4 * k) (λ s. true) (record { only = λ s t h. refl }) on (fine-on 0 (4 * k)) (λ s. refl))
 
   -- no
-  pub row-no : Row k ns ns n olds news i w c No (At n 0)
+  pub row-no : Row k ns ns n olds news i w c slots No (At n 0)
   unfolding stagesOf instructionSays at eval
   row-no = one-there d _ 0 (omega arith) (tree-one (4 * k) (λ s. false) (record { only = λ s t h. refl }) off (fine-off 0 (4 * k)) (λ s. refl))
 
   -- an old diagram
-  pub row-old : (a : ℕ) → Leads ns n (4 * k) olds → Row k ns ns n olds news i w c (Old a) (At n (getD olds a 0))
+  pub row-old : (a : ℕ) → Leads ns n (4 * k) olds → Row k ns ns n olds news i w c slots (Old a) (At n (getD olds a 0))
   unfolding stagesOf instructionSays led
   row-old a l = one-there d _ (getD olds a 0) (l .each a .below) (tree-eval (4 * k) _ (within-fine (l .each a)))
 

@@ -3,15 +3,16 @@ use Prim.Native.Nat.{ℕ, _+_, _*_, _-_, _/_, _≤_, _<_}
 use mathlib.Core.Path.{_≡_}
 use mathlib.Core.Bool.{Bool, true, false}
 use mathlib.Core.List.{List, map}
-use lib.ListN.{length, getD, take, drop}
+use lib.ListN.{length, getD}
 use Rattle.trees.specs.Bits.{Function}
 use Rattle.trees.specs.Tree.{Tree, off, eval, treeOf}
 use Rattle.trees.specs.Table.{addTrees, at, treesOf}
-use Rattle.diagram.specs.declared.Made.{Made}
-use Rattle.diagram.specs.declared.Made.the-variants.{Full, At}
+use Rattle.tables.specs.declared.Made.{Made}
+use Rattle.tables.specs.declared.Made.the-variants.{Full, At}
 use Rattle.diagram.specs.declared.Instruction.{Instruction}
 use Rattle.nodes.specs.Nodes.{Table, Front, To}
-use Rattle.diagram.specs.Walks.{Within, Memory, Complements}
+use Rattle.walks.specs.Walks.{Within}
+use Rattle.walks.specs.Desks.{Desk}
 use Rattle.diagram.specs.Steps.{newTrees, stages}
 
 -- the numbers that a step can work with
@@ -25,29 +26,17 @@ pub record Fits (k count nodes work : ℕ) : Type 0 where
   pub small : nodes / 3 ≤ 4096
   pub room : 16 * (nodes / 3) + 1024 ≤ work
 
--- each reference leads to a diagram over the levels
+-- each of 64 references leads to a diagram over the levels
 pub record Leads (ns : List ℕ) (n levels : ℕ) (refs : List ℕ) : Type 0 where
+  pub wide : length refs ≡ 64
   pub each : (a : ℕ) → Within ns n levels levels (getD refs a 0)
 
--- what the check of well kept diagrams gives: a table of reduced ordered diagrams, canonical, zeros behind it
+-- what the check of well kept diagrams gives: a table of reduced ordered diagrams, zeros behind it
 pub record Ready (k count : ℕ) (refs : List ℕ) (kept : ℕ) (ns : List ℕ) : Type 0 where
   pub table : Table ns kept
   pub leads : Leads ns kept (4 * k) refs
   pub none : (a : ℕ) → count ≤ a → getD refs a 0 ≡ 0
   pub rest : (i : ℕ) → 3 * kept ≤ i → getD ns i 0 ≡ 0
-
--- the numbers of a slice from place a on and before e
-abbrev pub part : ℕ → ℕ → List ℕ → List ℕ
-part a e w = take (e - a) (drop a w)
-
--- the first n of c nodes are a table, and the work slice holds its map of complements and its memory
-pub record Desk (ns : List ℕ) (n levels : ℕ) (w : List ℕ) (c : ℕ) : Type 0 where
-  pub table : Table ns n
-  pub size : length ns ≡ 3 * c
-  pub some : 1 ≤ c
-  pub long : 13 * c ≤ length w
-  pub complements : Complements ns n levels (part (4 * c) (5 * c) w)
-  pub memory : Memory ns n levels (part (5 * c) (13 * c) w)
 
 -- the functions that references lead to
 unfoldable pub led : List ℕ → ℕ → List ℕ → ℕ → Function
@@ -73,17 +62,17 @@ pub record Short (levels : ℕ) (ns ns′ : List ℕ) (n : ℕ) (gs : List Funct
   pub same : Front (3 * n) ns ns′
 
 -- the work on a row, which meets the functions gs and ends with f, left ns′ and w, and said m
-abbrev pub Worked : ℕ → List ℕ → List ℕ → ℕ → List Function → Function → List ℕ → ℕ → Made → Type 0
-Worked levels ns ns′ n gs f w c Full = Short levels ns ns′ n gs
-Worked levels ns ns′ n gs f w c (At n′ r) = Reached levels ns ns′ n n′ r gs f × Desk ns′ n′ levels w c
+abbrev pub Worked : ℕ → List ℕ → List ℕ → ℕ → List Function → Function → List ℕ → ℕ → ℕ → Made → Type 0
+Worked levels ns ns′ n gs f w c slots Full = Short levels ns ns′ n gs
+Worked levels ns ns′ n gs f w c slots (At n′ r) = Reached levels ns ns′ n n′ r gs f × Desk ns′ n′ levels w c slots
 
 -- the references lead to these diagrams, and to no past them
 abbrev pub Are : List ℕ → ℕ → List ℕ → List Tree → Type 0
 Are ns n refs ds = (a : ℕ) → at (treesOf ns n) (getD refs a 0) ≡ getD ds a off
 
 -- the first i rows are worked: the table has the diagrams of the functions met, and the references lead to the new diagrams
-pub record Through (k : ℕ) (plan : List Instruction) (old : List Tree) (ns₀ : List ℕ) (kept : ℕ) (ns : List ℕ) (n : ℕ) (w : List ℕ) (c : ℕ) (olds news : List ℕ) (i : ℕ) : Type 0 where
-  pub desk : Desk ns n (4 * k) w c
+pub record Through (k : ℕ) (plan : List Instruction) (old : List Tree) (ns₀ : List ℕ) (kept : ℕ) (ns : List ℕ) (n : ℕ) (w : List ℕ) (c slots : ℕ) (olds news : List ℕ) (i : ℕ) : Type 0 where
+  pub desk : Desk ns n (4 * k) w c slots
   pub size : length ns ≡ length ns₀
   pub same : Front (3 * kept) ns₀ ns
   pub trees : treesOf ns n ≡ addTrees (treesOf ns₀ kept) (map (treeOf (4 * k)) (stages k plan old i))
@@ -92,9 +81,8 @@ pub record Through (k : ℕ) (plan : List Instruction) (old : List Tree) (ns₀ 
   pub new-lead : Leads ns n (4 * k) news
   pub new-are : Are ns n news (newTrees k plan old i)
   pub none : (a : ℕ) → i ≤ a → getD news a 0 ≡ 0
-  pub wide : length news ≡ 64
 
 -- what the work on all rows says: no room, or all worked
-abbrev pub Ran : ℕ → List Instruction → List Tree → List ℕ → ℕ → List ℕ → List ℕ → ℕ → List ℕ → ℕ → Bool → ℕ → List ℕ → Type 0
-Ran k plan old ns₀ kept ns w c olds count true n news = Short (4 * k) ns₀ ns kept (stages k plan old count)
-Ran k plan old ns₀ kept ns w c olds count false n news = Through k plan old ns₀ kept ns n w c olds news count
+abbrev pub Ran : ℕ → List Instruction → List Tree → List ℕ → ℕ → List ℕ → List ℕ → ℕ → ℕ → List ℕ → ℕ → Bool → ℕ → List ℕ → Type 0
+Ran k plan old ns₀ kept ns w c slots olds count true n news = Short (4 * k) ns₀ ns kept (stages k plan old count)
+Ran k plan old ns₀ kept ns w c slots olds count false n news = Through k plan old ns₀ kept ns n w c slots olds news count

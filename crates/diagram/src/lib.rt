@@ -5,33 +5,14 @@
 
 ghost use Rattle.diagram.specs.Steps.{stepOutcome, formedOutcome, Leaves, Tells};
 
-mod cube;
-mod memory;
 mod plan;
 mod row;
-mod sweep;
-mod table;
-mod walk;
 
 use crate::plan::fit;
 use crate::plan::worked;
 use keeping::check;
 use nodes::zero;
-
-// What a walk answers: the count of nodes and the reference of the result, or that the slice is full.
-pub enum Made {
-    Full,
-    At(u32, u32),
-}
-
-// A number that stands for a value.
-pub struct Number(pub u32);
-
-// What a variable's bits are to show: any number, or this one.
-pub enum Place {
-    Any,
-    Is(Number),
-}
+use tables::Place;
 
 // What a row's new diagram is: yes; no; that the four variables show these numbers; of rows worked before it the and, the
 // complement, the since with its own old diagram; the old diagram of a row; or a row's diagram without the bits of a
@@ -89,7 +70,7 @@ pub fn step(
             refs,
         };
     }
-    if !check(k, count, allowed, refs, kept, nodes, work) {
+    if !check(k, count, &allowed, &refs, kept, nodes, work) {
         let c = nodes.len() / 3;
         zero(work, 0, 16 * c + 1024);
         return Stepped {
@@ -115,7 +96,7 @@ pub fn well_formed(
     if !fit(k, count, nodes.len(), work.len()) {
         return Formed::Unfit;
     }
-    let good = check(k, count, allowed, refs, kept, nodes, work);
+    let good = check(k, count, &allowed, &refs, kept, nodes, work);
     let c = nodes.len() / 3;
     zero(work, 0, 16 * c + 1024);
     if good {

@@ -1,22 +1,24 @@
 // The rows' work, one after the other, and what follows it: the sweep, or the refusal. Regions of the work slice, with c nodes
 // in the node slice: the sweep's table before 3 * c, its notes before 4 * c, the map of complements before 5 * c, the memory
-// of results before 13 * c, the heads of the buckets of nodes before 14 * c, their links before 15 * c. The check uses the
-// first c for its marks, and the buckets.
+// of results before 13 * c, the heads of the chains of nodes before 14 * c, their links before 15 * c. The check uses the
+// first c for its marks, and leaves the chains.
 ghost use mathlib.Core.Path.{_≡_};
 ghost use Prim.Native.Nat.{ℕ, _*_, _/_, _≤_};
 ghost use lib.Dec.{leb};
 ghost use lib.ListN.{length, getD};
 ghost use Rattle.trees.specs.Kept.{diagrams};
-ghost use Rattle.nodes.specs.Nodes.{Rest, Decides};
+ghost use Rattle.nodes.specs.Nodes.{Decides};
+ghost use Rattle.nodes.specs.Chains.{Chained};
+ghost use Rattle.walks.specs.Desks.{Desk};
 ghost use Rattle.diagram.specs.Steps.{workTable, workOutcome, Leaves};
-ghost use Rattle.diagram.specs.Works.{Fits, Desk, Leads, Ran, Ready};
+ghost use Rattle.diagram.specs.Works.{Fits, Leads, Ran, Ready};
 use crate::Instruction;
-use crate::Made;
 use crate::Stepped;
 use crate::Told;
 use crate::row::row;
-use crate::sweep::renew;
 use nodes::zero;
+use sweeping::renew;
+use tables::Made;
 
 // Whether the numbers and lengths are ones that a step can work with.
 pub fn fit(k: u32, count: u32, nodes: usize, work: usize) -> bool
@@ -59,17 +61,17 @@ fn rows(
     nodes: &mut [u32],
     work: &mut [u32],
     c: usize,
+    slots: usize,
     kept: u32,
     k: u32,
     count: u32,
     plan: [Instruction; 64],
-    olds: [u32; 64],
+    olds: &[u32; 64],
 ) -> Run
-    requires { ⌜ (k ≤ 10) × (count ≤ 64) × Desk (now nodes) kept (4 * k) (now work) c ⌝ }
-    requires { ⌜ Leads (now nodes) kept (4 * k) olds ⌝ }
-    requires { ⌜ ((a : ℕ) → count ≤ a → getD olds a 0 ≡ 0) ⌝ }
-    ensures { λ x. ⌜ Ran k plan (diagrams (now (nodes .entry)) kept olds count) (now (nodes .entry)) kept (now (nodes .exit)) (now (work .exit)) c olds count (x .full) (x .count) (x .refs) ⌝ }
-    ensures { λ _. ⌜ Rest (13 * c) (now (work .entry)) (now (work .exit)) ⌝ }
+    requires { ⌜ (k ≤ 10) × (count ≤ 64) × Desk (now nodes) kept (4 * k) (now work) c slots ⌝ }
+    requires { ⌜ Leads (now nodes) kept (4 * k) (now olds) ⌝ }
+    requires { ⌜ ((a : ℕ) → count ≤ a → getD (now olds) a 0 ≡ 0) ⌝ }
+    ensures { λ x. ⌜ Ran k plan (diagrams (now (nodes .entry)) kept (now (olds .entry)) count) (now (nodes .entry)) kept (now (nodes .exit)) (now (work .exit)) c slots (now (olds .entry)) count (x .full) (x .count) (x .refs) ⌝ }
 {
     let mut news = [0; 64];
     let mut n = kept;
@@ -77,11 +79,11 @@ fn rows(
     while i < count {
         let j = i as usize;
         let x = plan[j];
-        let Made::At(m, r) = row(nodes, work, c, n, k, i, x, olds, news) else {
+        let Made::At(m, r) = row(nodes, work, c, slots, n, k, i, x, olds, &news) else {
             return Run {
                 full: true,
                 count: 0,
-                refs: olds,
+                refs: news,
             };
         };
         news[j] = r;
@@ -95,6 +97,16 @@ fn rows(
     }
 }
 
+// How many slots the memory of results gets: some for each kept node, and no more than there is place for.
+fn slots_for(c: usize, kept: u32) -> usize
+    requires { ⌜ (1 ≤ c) × (c ≤ 4096) × (kept ≤ c) ⌝ }
+    ensures { λ r. ⌜ (1 ≤ r) × (r ≤ 2 * c) ⌝ }
+{
+    let wanted = 4 * (kept as usize) + 256;
+    let most = 2 * c;
+    if wanted < most { wanted } else { most }
+}
+
 // Works an event on diagrams that are well kept.
 pub fn worked(
     k: u32,
@@ -106,12 +118,23 @@ pub fn worked(
     work: &mut [u32],
 ) -> Stepped
     requires { ⌜ Fits k count (length (now nodes)) (length (now work)) ⌝ }
-    requires { ⌜ Ready k count refs kept (now nodes) ⌝ }
+    requires { ⌜ Ready k count refs kept (now nodes) × Chained (now nodes) kept (now work) ⌝ }
     ensures { λ x. ⌜ Leaves (workOutcome (leb (length (workTable k count plan refs kept (now (nodes .entry)))) (length (now (nodes .entry)) / 3)) k count plan refs kept (now (nodes .entry)) (now (work .entry))) x (now (nodes .exit)) (now (work .exit)) ⌝ }
 {
     let c = nodes.len() / 3;
-    zero(work, 4 * c, 13 * c);
-    let x = rows(nodes, work, c, kept, k, count, plan, refs);
+    let slots = slots_for(c, kept);
+    zero(work, 4 * c, 5 * c + 4 * slots);
+    let x = rows(
+        nodes,
+        &mut work[0..15 * c],
+        c,
+        slots,
+        kept,
+        k,
+        count,
+        plan,
+        &refs,
+    );
     if x.full {
         let end = nodes.len();
         zero(nodes, 3 * (kept as usize), end);
@@ -123,7 +146,7 @@ pub fn worked(
     }
     let room = x.count;
     let news = x.refs;
-    let y = renew(nodes, room, work, 4 * k, news, count);
+    let y = renew(nodes, room, work, 4 * k, &news, count);
     zero(work, 0, 16 * c + 1024);
     let out = y.refs;
     Stepped {

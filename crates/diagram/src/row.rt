@@ -1,70 +1,32 @@
-// The work of one row: the walk that its instruction asks for. The work slice lends the map of complements, from 4 * c on
-// and before 5 * c, and the memory of results, from 5 * c on and before 13 * c. Assumes that the first n nodes are a table.
+// The work of one row: the walk that its instruction asks for. Assumes that the first n nodes are a table, and that the work
+// slice holds its chains, its map of complements and its memory.
 ghost use mathlib.Core.Path.{_≡_};
 ghost use Prim.Native.Nat.{_*_, _≤_};
-ghost use lib.ListN.{getD};
+ghost use lib.ListN.{length, getD};
 ghost use Rattle.trees.specs.Bits.{drops};
-ghost use Rattle.trees.specs.Tree.{eval, notT, sinceT, dropT};
+ghost use Rattle.trees.specs.Tree.{eval};
 ghost use Rattle.trees.specs.Table.{at, treesOf};
-ghost use Rattle.nodes.specs.Nodes.{Rest};
-ghost use Rattle.diagram.specs.Walks.{Within, AddedWith};
+ghost use Rattle.walks.specs.Walks.{Within};
+ghost use Rattle.walks.specs.Desks.{Desk};
 ghost use Rattle.diagram.specs.Steps.{instructionSays, dropStages, stagesOf};
-ghost use Rattle.diagram.specs.Works.{Desk, Leads, led, Worked, Base};
+ghost use Rattle.diagram.specs.Works.{Leads, led, Worked, Base};
 use crate::Instruction;
-use crate::Made;
-use crate::cube::cube;
-use crate::walk::drop_walk;
-use crate::walk::not_walk;
-use crate::walk::since_walk;
+use tables::Made;
+use tables::cube::cube;
+use walks::drop_walk;
+use walks::not_walk;
+use walks::since_walk;
 
 // The reference of row a: no past the rows.
-fn pick(refs: [u32; 64], a: u32) -> u32
-    ensures { λ r. ⌜ r ≡ getD refs a 0 ⌝ }
+fn pick(refs: &[u32; 64], a: u32) -> u32
+    requires { ⌜ length (now refs) ≡ 64 ⌝ }
+    ensures { λ r. ⌜ r ≡ getD (now (refs .entry)) a 0 ⌝ }
 {
     if 64 <= a {
         return 0;
     }
     let i = a as usize;
     refs[i]
-}
-
-// Since, with the memory of the work slice.
-fn since_row(
-    nodes: &mut [u32],
-    work: &mut [u32],
-    c: usize,
-    n: u32,
-    k: u32,
-    l: u32,
-    r: u32,
-    o: u32,
-) -> Made
-    requires { ⌜ (k ≤ 10) × Desk (now nodes) n (4 * k) (now work) c ⌝ }
-    requires { ⌜ Within (now nodes) n (4 * k) (4 * k) l × Within (now nodes) n (4 * k) (4 * k) r × Within (now nodes) n (4 * k) (4 * k) o ⌝ }
-    ensures { λ m. ⌜ AddedWith (λ ns j. Desk ns j (4 * k) (now (work .exit)) c) (now (nodes .entry)) (now (nodes .exit)) n (sinceT (4 * k) (at (treesOf (now (nodes .entry)) n) l) (at (treesOf (now (nodes .entry)) n) r) (at (treesOf (now (nodes .entry)) n) o)) m ⌝ }
-    ensures { λ _. ⌜ Rest (13 * c) (now (work .entry)) (now (work .exit)) ⌝ }
-{
-    since_walk(nodes, &mut work[5 * c..13 * c], n, 4 * k, 4 * k, l, r, o)
-}
-
-// The complement, with the map of the work slice.
-fn not_row(nodes: &mut [u32], work: &mut [u32], c: usize, n: u32, k: u32, p: u32) -> Made
-    requires { ⌜ (k ≤ 10) × Desk (now nodes) n (4 * k) (now work) c ⌝ }
-    requires { ⌜ Within (now nodes) n (4 * k) (4 * k) p ⌝ }
-    ensures { λ m. ⌜ AddedWith (λ ns j. Desk ns j (4 * k) (now (work .exit)) c) (now (nodes .entry)) (now (nodes .exit)) n (notT (4 * k) (at (treesOf (now (nodes .entry)) n) p)) m ⌝ }
-    ensures { λ _. ⌜ Rest (13 * c) (now (work .entry)) (now (work .exit)) ⌝ }
-{
-    not_walk(nodes, &mut work[4 * c..5 * c], n, 4 * k, 4 * k, p)
-}
-
-// One bit removed, with the memory of the work slice.
-fn drop_row(nodes: &mut [u32], work: &mut [u32], c: usize, n: u32, k: u32, v: u32, p: u32) -> Made
-    requires { ⌜ (k ≤ 10) × Desk (now nodes) n (4 * k) (now work) c ⌝ }
-    requires { ⌜ Within (now nodes) n (4 * k) (4 * k) p ⌝ }
-    ensures { λ m. ⌜ AddedWith (λ ns j. Desk ns j (4 * k) (now (work .exit)) c) (now (nodes .entry)) (now (nodes .exit)) n (dropT (4 * k) v (at (treesOf (now (nodes .entry)) n) p)) m ⌝ }
-    ensures { λ _. ⌜ Rest (13 * c) (now (work .entry)) (now (work .exit)) ⌝ }
-{
-    drop_walk(nodes, &mut work[5 * c..13 * c], n, 4 * k, 4 * k, v, p)
 }
 
 // The level of bit 0 of the variable v; past all levels for a v past the four variables.
@@ -79,11 +41,19 @@ fn first_level(k: u32, v: u32) -> u32
 }
 
 // The bits of the variable v removed one at a time, from bit k - 1 down to bit 0.
-fn drops_row(nodes: &mut [u32], work: &mut [u32], c: usize, n: u32, k: u32, v: u32, p: u32) -> Made
-    requires { ⌜ (k ≤ 10) × Desk (now nodes) n (4 * k) (now work) c ⌝ }
+fn drops_row(
+    nodes: &mut [u32],
+    work: &mut [u32],
+    c: usize,
+    slots: usize,
+    n: u32,
+    k: u32,
+    v: u32,
+    p: u32,
+) -> Made
+    requires { ⌜ (k ≤ 10) × Desk (now nodes) n (4 * k) (now work) c slots ⌝ }
     requires { ⌜ Within (now nodes) n (4 * k) (4 * k) p ⌝ }
-    ensures { λ m. ⌜ Worked (4 * k) (now (nodes .entry)) (now (nodes .exit)) n (dropStages (v * k) k (eval (at (treesOf (now (nodes .entry)) n) p))) (drops (v * k) k (eval (at (treesOf (now (nodes .entry)) n) p))) (now (work .exit)) c m ⌝ }
-    ensures { λ _. ⌜ Rest (13 * c) (now (work .entry)) (now (work .exit)) ⌝ }
+    ensures { λ m. ⌜ Worked (4 * k) (now (nodes .entry)) (now (nodes .exit)) n (dropStages (v * k) k (eval (at (treesOf (now (nodes .entry)) n) p))) (drops (v * k) k (eval (at (treesOf (now (nodes .entry)) n) p))) (now (work .exit)) c slots m ⌝ }
 {
     let base = first_level(k, v);
     let mut m = n;
@@ -91,7 +61,7 @@ fn drops_row(nodes: &mut [u32], work: &mut [u32], c: usize, n: u32, k: u32, v: u
     let mut b = k;
     while 0 < b {
         b -= 1;
-        let Made::At(m1, r1) = drop_row(nodes, work, c, m, k, base + b, r) else {
+        let Made::At(m1, r1) = drop_walk(nodes, work, c, slots, m, 4 * k, 4 * k, base + b, r) else {
             return Made::Full;
         };
         m = m1;
@@ -106,39 +76,39 @@ pub fn row(
     nodes: &mut [u32],
     work: &mut [u32],
     c: usize,
+    slots: usize,
     n: u32,
     k: u32,
     i: u32,
     x: Instruction,
-    olds: [u32; 64],
-    news: [u32; 64],
+    olds: &[u32; 64],
+    news: &[u32; 64],
 ) -> Made
-    requires { ⌜ (k ≤ 10) × Desk (now nodes) n (4 * k) (now work) c ⌝ }
-    requires { ⌜ Leads (now nodes) n (4 * k) olds × Leads (now nodes) n (4 * k) news ⌝ }
-    ensures { λ m. ⌜ Worked (4 * k) (now (nodes .entry)) (now (nodes .exit)) n (stagesOf k (led (now (nodes .entry)) n olds) (led (now (nodes .entry)) n news) i x) (instructionSays k (led (now (nodes .entry)) n olds) (led (now (nodes .entry)) n news) i x) (now (work .exit)) c m ⌝ }
-    ensures { λ _. ⌜ Rest (13 * c) (now (work .entry)) (now (work .exit)) ⌝ }
+    requires { ⌜ (k ≤ 10) × Desk (now nodes) n (4 * k) (now work) c slots ⌝ }
+    requires { ⌜ Leads (now nodes) n (4 * k) (now olds) × Leads (now nodes) n (4 * k) (now news) ⌝ }
+    ensures { λ m. ⌜ Worked (4 * k) (now (nodes .entry)) (now (nodes .exit)) n (stagesOf k (led (now (nodes .entry)) n (now (olds .entry))) (led (now (nodes .entry)) n (now (news .entry))) i x) (instructionSays k (led (now (nodes .entry)) n (now (olds .entry))) (led (now (nodes .entry)) n (now (news .entry))) i x) (now (work .exit)) c slots m ⌝ }
 {
     match x {
         Instruction::Yes => Made::At(n, 1),
         Instruction::No => Made::At(n, 0),
         Instruction::Cube(p, q, r, s) => {
             let places = [p, q, r, s];
-            cube(nodes, n, k, places)
+            cube(nodes, work, c, n, k, places)
         }
         Instruction::And(a, b) => {
             let l = pick(news, a);
             let o = pick(news, b);
-            since_row(nodes, work, c, n, k, l, 0, o)
+            since_walk(nodes, work, c, slots, n, 4 * k, 4 * k, l, 0, o)
         }
         Instruction::Not(a) => {
             let p = pick(news, a);
-            not_row(nodes, work, c, n, k, p)
+            not_walk(nodes, work, c, slots, n, 4 * k, 4 * k, p)
         }
         Instruction::Since(a, b) => {
             let l = pick(news, a);
             let r = pick(news, b);
             let o = pick(olds, i);
-            since_row(nodes, work, c, n, k, l, r, o)
+            since_walk(nodes, work, c, slots, n, 4 * k, 4 * k, l, r, o)
         }
         Instruction::Old(a) => {
             let p = pick(olds, a);
@@ -146,7 +116,7 @@ pub fn row(
         }
         Instruction::Drop(v, a) => {
             let p = pick(news, a);
-            drops_row(nodes, work, c, n, k, v, p)
+            drops_row(nodes, work, c, slots, n, k, v, p)
         }
     }
 }

@@ -18,9 +18,9 @@ use Rattle.meaning.specs.Step.{argumentsSay}
 use Rattle.meaning.proofs.RowsLaws.{ArgumentsOk}
 use Rattle.meaning.proofs.AskingLaws.{has-place, Asked, InLists}
 use Rattle.meaning.proofs.Simulation.{Enough}
-use Rattle.diagram.specs.declared.Place.{Place}
-use Rattle.diagram.specs.declared.Place.the-variants.{Any, Is}
-use Rattle.diagram.specs.Cubes.{placeSays, cubeSays}
+use Rattle.tables.specs.declared.Place.{Place}
+use Rattle.tables.specs.declared.Place.the-variants.{Any, Is}
+use Rattle.tables.specs.Cubes.{placeSays, cubeSays}
 use Rattle.instructions.specs.Plan.{placeOf}
 
 -- a test of each of the four variables

@@ -5,12 +5,13 @@ use mathlib.Core.Bool.{Bool, true, false, not, _&&_}
 use mathlib.Core.List.{List}
 use mathlib.Core.Logic.{_≢_, ⊎-elim}
 use native.Mathlib.Omega.{arith}
+use lib.Bits.{bitOr, or-add-and, and-le-l, and-le-r}
 use lib.Dec.{eqb, ltb}
 use lib.ListN.{length, getD, List·getD-eq-default}
 use borrow.Author.Tests.{eq-eqb, ne-eqb, eqb-true, lt-ltb, le-ltb}
 use Rattle.trees.specs.Table.{NodeIs}
 use Rattle.trees.specs.Kept.{above, nodeRight, equalNodes}
-use Rattle.trees.proofs.Tests.{lt-or-ge, false-true, not-true, and-true-l, and-true-r}
+use Rattle.trees.proofs.Tests.{EqCase, equal, other, eq-case, lt-or-ge, false-true, not-true, and-true-l, and-true-r}
 use Rattle.nodes.specs.Nodes.{Decides}
 use Rattle.keeping.specs.Checks.{ZeroFrom, Right, Apart}
 
@@ -30,17 +31,42 @@ pub says-yes : (P : Type 0) (b : Bool) → Decides P b → not b ≡ false → P
 says-yes P true d e = d
 says-yes P false d e = absurd (false-true e refl)
 
+-- the or of two numbers is 0 if both are
+or-zero : (a b : ℕ) → bitOr a b ≡ 0 → (a ≡ 0) × (b ≡ 0)
+or-zero a b e = (omega (arith, or-add-and a b, and-le-r a b), omega (arith, or-add-and a b, and-le-l a b))
+
+zero-or : (a b : ℕ) → a ≡ 0 → b ≡ 0 → bitOr a b ≡ 0
+zero-or a b e f = omega (arith, or-add-and a b)
+
 -- the numbers from one place on and before another are 0
-abbrev pub ZeroTo : ℕ → List ℕ → ℕ → Type 0
+abbrev ZeroTo : ℕ → List ℕ → ℕ → Type 0
 ZeroTo from xs i = (j : ℕ) → from ≤ j → j < i → getD xs j 0 ≡ 0
 
--- one number more is 0
-pub zero-more : (from : ℕ) (xs : List ℕ) (i : ℕ) → ZeroTo from xs i → getD xs i 0 ≡ 0 → ZeroTo from xs (i + 1)
-zero-more from xs i z e j h k = ⊎-elim (λ l. z j h l) (λ l. let q : j ≡ i = omega arith in rw q e) (lt-or-ge j i)
+-- which their or tells
+pub record Ored (from : ℕ) (xs : List ℕ) (i all : ℕ) : Type 0 where
+  pub start : from ≤ i
+  pub zeros : all ≡ 0 → ZeroTo from xs i
+  pub none : ZeroTo from xs i → all ≡ 0
 
--- and so all are, once the end is reached
-pub zero-end : (from : ℕ) (xs : List ℕ) (i : ℕ) → length xs ≤ i → ZeroTo from xs i → ZeroFrom from xs
-zero-end from xs i l z j h = ⊎-elim (λ k. z j h k) (λ k. List·getD-eq-default xs 0 (omega arith)) (lt-or-ge j i)
+-- at first there are none
+pub ored-none : (from : ℕ) (xs : List ℕ) → Ored from xs from 0
+ored-none from xs = record { start = omega arith; zeros = λ e j h k. absurd (omega arith); none = λ z. refl }
+
+-- one number more
+pub ored-more : {from : ℕ} {xs : List ℕ} {i all : ℕ} → Ored from xs i all → Ored from xs (i + 1) (bitOr all (getD xs i 0))
+ored-more {from} {xs} {i} {all} o = record {
+  start = omega (arith, o .start);
+  zeros = λ e j h k. ⊎-elim (λ l. o .zeros (or-zero all (getD xs i 0) e .0) j h l) (λ l. let q : j ≡ i = omega arith in rw q (or-zero all (getD xs i 0) e .1)) (lt-or-ge j i);
+  none = λ z. zero-or all (getD xs i 0) (o .none (λ j h k. z j h (omega arith))) (z i (o .start) (omega arith));
+}
+
+-- and once the end is reached it tells of all
+pub ored-end : {from : ℕ} {xs : List ℕ} {i all : ℕ} → Ored from xs i all → length xs ≤ i → Decides (ZeroFrom from xs) (eqb all 0)
+ored-end {from} {xs} {i} {all} o l = go (eqb all 0) (eq-case all 0)
+  where
+    go : (b : Bool) → EqCase all 0 b → Decides (ZeroFrom from xs) b
+    go true (equal e) = λ j h. ⊎-elim (λ k. o .zeros e j h k) (λ k. List·getD-eq-default xs 0 (omega arith)) (lt-or-ge j i)
+    go false (other e) = λ z. e (o .none (λ j h k. z j h))
 
 -- what holds of each below i, and of i, holds of each below i + 1
 pub more : (P : ℕ → Type 0) (i : ℕ) → ((j : ℕ) → j < i → P j) → P i → (j : ℕ) → j < i + 1 → P j

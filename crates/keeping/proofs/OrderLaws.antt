@@ -11,10 +11,10 @@ use lib.ListN.{length, getD, length-append}
 use Rattle.trees.specs.Tree.{Tree, node}
 use Rattle.trees.specs.Table.{mem, addTree, addTrees, at, nodeAt, treesOf}
 use Rattle.trees.specs.Kept.{diagrams}
-use Rattle.trees.proofs.Tests.{not-true}
+use Rattle.trees.proofs.Tests.{lt-or-ge, not-true}
 use Rattle.trees.proofs.TableLaws.{Goes, goes-refl, goes-trans, goes-at, at-index, mem-place, push-out, push-goes, add-goes, add-in}
 use Rattle.nodes.specs.Nodes.{Table, Splits, canonical}
-use Rattle.keeping.specs.Checks.{InOrder, OutOfOrder, InRowOrder}
+use Rattle.keeping.specs.Checks.{InOrder, OutOfOrder, Follows, InRowOrder}
 use Rattle.trees.proofs.ReadLaws.{length-trees, at-end, trees-goes, back-closed}
 use Rattle.nodes.proofs.PartLaws.{sides-only}
 use Rattle.nodes.proofs.ReadLaws.{canonical-suc}
@@ -30,7 +30,7 @@ unfolding addTree
 high-goes ts l x y = push-goes (addTree (addTree ts x) y) (node l x y)
 
 -- the low side stands out of order
-pub order-low : {ns : List ℕ} {kept n r l a b : ℕ} → Splits ns kept r l a b → OutOfOrder ns kept n a → OutOfOrder ns kept n r
+order-low : {ns : List ℕ} {kept n r l a b : ℕ} → Splits ns kept r l a b → OutOfOrder ns kept n a → OutOfOrder ns kept n r
 order-low {ns} {kept} {n} {r} {l} {a} {b} s o = record {
   never = λ more e.
       let g = goes-trans (low-goes (treesOf ns n) l (at (treesOf ns kept) a) (at (treesOf ns kept) b)) (record { more = more; is = rw (s .is) at e }) in
@@ -38,7 +38,7 @@ order-low {ns} {kept} {n} {r} {l} {a} {b} s o = record {
 }
 
 -- the high side does
-pub order-high : {ns : List ℕ} {kept n n₁ r l a b : ℕ} → Splits ns kept r l a b → InOrder ns kept n a n₁ → OutOfOrder ns kept n₁ b → OutOfOrder ns kept n r
+order-high : {ns : List ℕ} {kept n n₁ r l a b : ℕ} → Splits ns kept r l a b → InOrder ns kept n a n₁ → OutOfOrder ns kept n₁ b → OutOfOrder ns kept n r
 order-high {ns} {kept} {n} {n₁} {r} {l} {a} {b} s p o = record {
   never = λ more e.
       let g = goes-trans (high-goes (treesOf ns n) l (at (treesOf ns kept) a) (at (treesOf ns kept) b)) (record { more = more; is = rw (s .is) at e }) in
@@ -51,7 +51,7 @@ module _ {ns : List ℕ} {kept : ℕ} (t : Table ns kept) where
   early n r h k = goes-at (trees-goes ns n kept h) r (omega (arith, length-trees ns n))
 
   -- a leaf, or a place that was passed
-  pub order-passed : {n r : ℕ} → n ≤ kept → r < n + 2 → InOrder ns kept n r n
+  order-passed : {n r : ℕ} → n ≤ kept → r < n + 2 → InOrder ns kept n r n
   order-passed {n} {r} h k = record {
     more = omega arith;
     fits = h;
@@ -87,7 +87,7 @@ module _ {ns : List ℕ} {kept : ℕ} (t : Table ns kept) where
     added = rw (s .is, p .trees, q .trees) (push-out (treesOf ns n₂) (node l x y) (rw both (sides-only (treesOf ns n) l x y before)))
 
     -- the node stands elsewhere
-    pub order-place : n₂ + 2 ≢ r → OutOfOrder ns kept n r
+    order-place : n₂ + 2 ≢ r → OutOfOrder ns kept n r
     unfolding x y
     order-place ne = record {
       never = λ more e.
@@ -102,7 +102,7 @@ module _ {ns : List ℕ} {kept : ℕ} (t : Table ns kept) where
     }
 
     -- the node stands at its place
-    pub order-node : n₂ + 2 ≡ r → InOrder ns kept n r (n₂ + 1)
+    order-node : n₂ + 2 ≡ r → InOrder ns kept n r (n₂ + 1)
     unfolding treesOf x y
     order-node e =
         let len = length-trees ns n₂ in
@@ -115,6 +115,42 @@ module _ {ns : List ℕ} {kept : ℕ} (t : Table ns kept) where
           trees = added ∙ rw (add-one n₂) (ap (λ (d : Tree). treesOf ns n₂ ++ d ∷ []) (sym here));
         }
 
+-- a reference r is followed from the count n, unless it was passed; from a count over kept all were passed
+pub record Followed (ns : List ℕ) (kept n r n′ : ℕ) : Type 0 where
+  pub most : n′ ≤ kept + 1
+  pub inside : n′ ≤ kept → (n ≤ kept) × InOrder ns kept n r n′
+  pub over : n ≤ kept → kept < n′ → OutOfOrder ns kept n r
+
+-- it was followed
+pub followed : {ns : List ℕ} {kept n r n′ : ℕ} → n ≤ kept → Follows ns kept n r n′ → Followed ns kept n r n′
+followed h f = record { most = f .most; inside = λ k. (h, f .inside k); over = λ k. f .over }
+
+module _ {ns : List ℕ} {kept : ℕ} (t : Table ns kept) where
+  -- it was passed
+  pub followed-not : {n r : ℕ} → n ≤ kept + 1 → r < n + 2 → Followed ns kept n r n
+  followed-not h k = record { most = h; inside = λ l. (l, order-passed t l k); over = λ l m. absurd (omega arith) }
+
+  -- both sides were followed: the node stands at its place, or elsewhere
+  module _ {n n₁ n₂ r l a b : ℕ} (s : Splits ns kept r l a b) (in₀ : n ≤ kept) (low : n + 2 ≤ r) (top : r < kept + 2) (p : Followed ns kept n a n₁) (q : Followed ns kept n₁ b n₂) where
+    pub follows-no : n₂ + 2 ≢ r → Follows ns kept n r (kept + 1)
+    follows-no ne = record {
+      most = omega arith;
+      inside = λ h. absurd (omega arith);
+      over = λ _. ⊎-elim
+          (λ h. order-low s (p .over in₀ h))
+          (λ h. ⊎-elim
+          (λ k. order-high s (p .inside h .1) (q .over h k))
+          (λ k. order-place t s low top (p .inside h .1) (q .inside k .1) ne)
+          (lt-or-ge kept n₂))
+          (lt-or-ge kept n₁);
+    }
+
+    pub follows-node : n₂ + 2 ≡ r → Follows ns kept n r (n₂ + 1)
+    follows-node e =
+        let h : n₂ ≤ kept = omega arith in
+        let o = order-node t s low top (p .inside (q .inside h .0) .1) (q .inside h .1) e in
+        record { most = omega arith; inside = λ k. o; over = λ k. absurd (omega (arith, o .fits)) }
+
 -- the tables of more rows go on from those of fewer
 canonical-goes : (ns : List ℕ) (m : ℕ) (refs : List ℕ) (i j : ℕ) → i ≤ j → j ≤ length refs → Goes (canonical ns m refs i) (canonical ns m refs j)
 canonical-goes ns m refs i zero h k = let e : i ≡ 0 = omega arith in rw e (goes-refl (canonical ns m refs 0))
@@ -126,23 +162,37 @@ canonical-goes ns m refs i (suc j) h k = ⊎-elim
     goes-trans (canonical-goes ns m refs i j (omega arith) (omega arith)) (rw (← one, step) (add-goes (canonical ns m refs j) (at (treesOf ns m) (getD refs j 0)))))
     (eq-or-lt-of-le h)
 
-module _ (ns : List ℕ) (kept : ℕ) (refs : List ℕ) where
-  pub rows-none : canonical ns kept refs 0 ≡ treesOf ns 0
+-- the first i rows lead to the first n nodes, or, where n is over kept, the rows are not in order
+pub record RowsFollowed (ns : List ℕ) (kept : ℕ) (refs : List ℕ) (count i n : ℕ) : Type 0 where
+  pub most : n ≤ kept + 1
+  pub inside : n ≤ kept → canonical ns kept refs i ≡ treesOf ns n
+  pub over : kept < n → InRowOrder ns kept refs count → ⊥
+
+module _ (ns : List ℕ) (kept : ℕ) (refs : List ℕ) (count : ℕ) where
+  pub rows-none : RowsFollowed ns kept refs count 0 0
   unfolding canonical diagrams addTrees treesOf
-  rows-none = refl
+  rows-none = record { most = omega arith; inside = λ h. refl; over = λ h. absurd (omega arith) }
 
   -- one row more
-  pub rows-more : (i n n′ : ℕ) → i < length refs → canonical ns kept refs i ≡ treesOf ns n → InOrder ns kept n (getD refs i 0) n′
-      → canonical ns kept refs (i + 1) ≡ treesOf ns n′
-  rows-more i n n′ h e o = canonical-suc ns kept refs i h ∙ rw e (o .trees)
+  pub rows-more : (i n n′ : ℕ) → i < count → count ≤ length refs → RowsFollowed ns kept refs count i n → Followed ns kept n (getD refs i 0) n′
+      → RowsFollowed ns kept refs count (i + 1) n′
+  rows-more i n n′ h k w f = record {
+    most = f .most;
+    inside = λ l. let o = f .inside l in canonical-suc ns kept refs i (omega arith) ∙ rw (w .inside (o .0)) (o .1 .trees);
+    over = λ l e. ⊎-elim
+        (λ m. w .over m e)
+        (λ m.
+        let g = canonical-goes ns kept refs (i + 1) count (omega arith) k in
+        f .over m l .never (g .more) (sym e ∙ g .is ∙ ap (λ (ts : List Tree). ts ++ g .more) (canonical-suc ns kept refs i (omega arith) ∙ ap (λ (ts : List Tree). addTree ts (at (treesOf ns kept) (getD refs i 0))) (w .inside m))))
+        (lt-or-ge kept n);
+  }
 
-  -- a row out of order, or nodes left over
-  pub rows-broken : (i n count : ℕ) → i < count → count ≤ length refs → canonical ns kept refs i ≡ treesOf ns n → OutOfOrder ns kept n (getD refs i 0)
-      → InRowOrder ns kept refs count → ⊥
-  rows-broken i n count h k e o f =
-      let g = canonical-goes ns kept refs (i + 1) count (omega arith) k in
-      o .never (g .more) (sym f ∙ g .is ∙ ap (λ (ts : List Tree). ts ++ g .more) (canonical-suc ns kept refs i (omega arith) ∙ ap (λ (ts : List Tree). addTree ts (at (treesOf ns kept) (getD refs i 0))) e))
+  -- all rows are in order, and nodes are left over or not
+  pub rows-short : (n : ℕ) → RowsFollowed ns kept refs count count n → n ≢ kept → InRowOrder ns kept refs count → ⊥
+  rows-short n w ne f = ⊎-elim
+      (λ h. w .over h f)
+      (λ h. ne (sym (length-trees ns n) ∙ ap length (sym (w .inside h) ∙ f) ∙ length-trees ns kept))
+      (lt-or-ge kept n)
 
-  -- all rows are in order, and nodes are left over
-  pub rows-short : (n count : ℕ) → canonical ns kept refs count ≡ treesOf ns n → n ≢ kept → InRowOrder ns kept refs count → ⊥
-  rows-short n count e ne f = ne (sym (length-trees ns n) ∙ ap length (sym e ∙ f) ∙ length-trees ns kept)
+  pub rows-whole : (n : ℕ) → RowsFollowed ns kept refs count count n → n ≡ kept → InRowOrder ns kept refs count
+  rows-whole n w e = rw e at (w .inside (omega arith))

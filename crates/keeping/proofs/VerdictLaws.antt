@@ -1,6 +1,6 @@
 -- The passes together say whether the diagrams are well kept. Assumes nothing.
-use Prim.Native.Nat.{ℕ, _*_, _≤_, _<_}
-use mathlib.Core.Path.{_≡_, sym, ap, _∙_}
+use Prim.Native.Nat.{ℕ, _*_, _/_, _≤_, _<_}
+use mathlib.Core.Path.{_≡_, refl, sym, ap, _∙_}
 use mathlib.Core.Bool.{Bool, true, false, not, _&&_}
 use mathlib.Core.List.{List, []}
 use native.Mathlib.Omega.{arith}
@@ -9,12 +9,12 @@ use lib.Seq.{length-take-le, getD-take}
 use Rattle.trees.specs.Tree.{Tree, off, on, node}
 use Rattle.trees.specs.Table.{addTrees, at, nodeAt, treesOf}
 use Rattle.trees.specs.Kept.{levels, diagrams, WellKept, wellKept}
-use Rattle.trees.proofs.Tests.{not-true, and-true-l, and-true-r}
+use Rattle.trees.proofs.Tests.{false-true, not-true, and-true-l, and-true-r}
 use Rattle.trees.proofs.TableLaws.{at-index}
 use Rattle.trees.proofs.RoomLaws.{Part, whole, low, high, all-adds}
 use Rattle.trees.proofs.KeptLaws.{kept-of, of-kept}
-use Rattle.nodes.specs.Nodes.{Table, Rows, canonical, Decides}
-use Rattle.keeping.specs.Checks.{freeBy, Inside, ZeroFrom, Right, Apart, InRowOrder, FreeOnly}
+use Rattle.nodes.specs.Nodes.{Rest, Table, Rows, canonical, Decides}
+use Rattle.keeping.specs.Checks.{freeBy, Inside, ZeroFrom, Right, Apart, InRowOrder, FreeOnly, CheckLeaves}
 use Rattle.trees.proofs.ReadLaws.{length-trees, at-node}
 use Rattle.keeping.proofs.FreeLaws.{free-below}
 use Rattle.keeping.proofs.SoundLaws.{right-back, sound-table, sound-rows}
@@ -120,3 +120,11 @@ module _ (k : ℕ) (allowed : List ℕ) (C count : ℕ) (refs : List ℕ) (kept 
         rest = p .rest;
       }))
   verdict p order false d = refused (λ w. d (w .free-only))
+
+-- where the answer is no, the chains are of no account
+pub leaves-no : {ns : List ℕ} {kept : ℕ} {w w′ : List ℕ} → Rest (15 * (length ns / 3)) w w′ → CheckLeaves ns kept w w′ false
+leaves-no r = record { rest = r; chained = λ e. absurd (false-true refl e) }
+
+-- and nothing may have been written yet
+pub leaves-all : (ns : List ℕ) (kept : ℕ) (w : List ℕ) → CheckLeaves ns kept w w false
+leaves-all ns kept w = leaves-no (record { eq = λ i h. refl })

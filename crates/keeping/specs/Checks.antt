@@ -1,17 +1,16 @@
 -- What the check of a state's diagrams asks, pass by pass. Assumes nothing: these are definitions.
-use Prim.Native.Nat.{ℕ, zero, suc, _+_, _*_, _/_, _%_, _^_, _≤_, _<_}
+use Prim.Native.Nat.{ℕ, _+_, _*_, _/_, _%_, _^_, _≤_, _<_}
 use mathlib.Core.Path.{_≡_}
 use mathlib.Core.Bool.{Bool, true, false, _&&_, _||_}
 use mathlib.Core.List.{List, _++_}
+use lib.Bits.{bitOr}
 use lib.Dec.{eqb, ltb}
 use lib.ListN.{length, getD}
 use Rattle.trees.specs.Tree.{Tree, off, on, node}
-use Rattle.trees.specs.Bits.{bit}
 use Rattle.trees.specs.Table.{addTree, at, treesOf}
 use Rattle.trees.specs.Kept.{nodeRight, equalNodes, levels}
-use Rattle.nodes.specs.Nodes.{canonical}
-use Rattle.keeping.specs.declared.order.Ordered.{Ordered}
-use Rattle.keeping.specs.declared.order.Ordered.the-variants.{Broken, At}
+use Rattle.nodes.specs.Nodes.{canonical, Rest}
+use Rattle.nodes.specs.Chains.{Chained}
 
 -- the level l is one of the row i's: its variable l / k is one of four, and allowed to the row
 unfoldable pub freeBy : ℕ → List ℕ → ℕ → ℕ → Bool
@@ -44,10 +43,11 @@ pub record InOrder (ns : List ℕ) (kept n r n′ : ℕ) : Type 0 where
 pub record OutOfOrder (ns : List ℕ) (kept n r : ℕ) : Type 0 where
   pub never : (more : List Tree) → treesOf ns kept ≡ addTree (treesOf ns n) (at (treesOf ns kept) r) ++ more → ⊥
 
--- what the walk over a diagram answers
-abbrev pub Follows : List ℕ → ℕ → ℕ → ℕ → Ordered → Type 0
-Follows ns kept n r Broken = OutOfOrder ns kept n r
-Follows ns kept n r (At n′) = InOrder ns kept n r n′
+-- what the walk over a diagram answers: the count of nodes it leads to, or one over kept
+pub record Follows (ns : List ℕ) (kept n r n′ : ℕ) : Type 0 where
+  pub most : n′ ≤ kept + 1
+  pub inside : n′ ≤ kept → InOrder ns kept n r n′
+  pub over : kept < n′ → OutOfOrder ns kept n r
 
 -- the kept nodes are the rows' diagrams, in canonical order
 abbrev pub InRowOrder : List ℕ → ℕ → List ℕ → ℕ → Type 0
@@ -59,34 +59,30 @@ asked k v off = false
 asked k v on = false
 asked k v (node l a b) = eqb (l / k) v || (asked k v a || asked k v b)
 
--- for each of the first n of the kept nodes, whether its diagram asks the variable v: 1 or 0
-pub record Marks (ns : List ℕ) (kept k v : ℕ) (w : List ℕ) (n : ℕ) : Type 0 where
-  pub is : (j : ℕ) → j < n → getD w j 0 ≡ bit (asked k v (at (treesOf ns kept) (j + 2)))
+-- bit v of the number n is set
+unfoldable pub hasBit : ℕ → ℕ → Bool
+hasBit n v = eqb (n / 2 ^ v % 2) 1
 
--- the rows that ask the variable v are allowed it
-abbrev pub Allowed : List ℕ → ℕ → ℕ → List ℕ → List ℕ → ℕ → ℕ → Type 0
-Allowed ns kept k allowed refs count v = (i : ℕ) → i < count → asked k v (at (treesOf ns kept) (getD refs i 0)) ≡ true → getD allowed i 0 / 2 ^ v % 2 ≡ 1
+-- at each reference to a leaf or one of the first n nodes stands the set of variables that its diagram asks, a bit a variable
+pub record Marks (ns : List ℕ) (kept k : ℕ) (w : List ℕ) (n : ℕ) : Type 0 where
+  pub is : (r : ℕ) → r < n + 2 → (v : ℕ) → hasBit (getD w r 0) v ≡ asked k v (at (treesOf ns kept) r)
 
 -- the levels of each row's diagram are the row's
 abbrev pub FreeOnly : List ℕ → ℕ → ℕ → List ℕ → List ℕ → ℕ → Type 0
 FreeOnly ns kept k allowed refs count = (i : ℕ) → i < count → levels (freeBy k allowed i) (at (treesOf ns kept) (getD refs i 0)) ≡ true
 
--- the mark of a reference: a leaf has none
-unfoldable pub markOf : List ℕ → ℕ → ℕ
-markOf w zero = 0
-markOf w (suc zero) = 0
-markOf w (suc (suc j)) = getD w j 0
-
--- a row whose diagram is marked has its variable's bit set among those allowed: set / p is odd
-abbrev pub RowAllowed : List ℕ → ℕ → ℕ → ℕ → Type 0
-RowAllowed w r set p = (markOf w r ≡ 0 → ⊥) → set / p % 2 ≡ 1
-
--- every row is so
-abbrev pub RowsAllowed : List ℕ → List ℕ → List ℕ → ℕ → ℕ → Type 0
-RowsAllowed w allowed refs count p = (i : ℕ) → i < count → RowAllowed w (getD refs i 0) (getD allowed i 0) p
+-- the marks of every row are among those that it is allowed
+abbrev pub RowsAllowed : List ℕ → List ℕ → List ℕ → ℕ → Type 0
+RowsAllowed w allowed refs count = (i : ℕ) → i < count → bitOr (getD w (getD refs i 0) 0) (getD allowed i 0) ≡ getD allowed i 0
 
 -- the lengths of the node slice, of whole nodes and no more than 4,096, and of the work slice
 pub record Sized (ns w : List ℕ) : Type 0 where
   pub nodes : length ns ≡ 3 * (length ns / 3)
   pub few : length ns ≤ 12288
   pub room : 16 * (length ns / 3) + 1024 ≤ length w
+
+-- what the check leaves in the work slice: all as it was past the first 15 * c numbers, with c nodes in ns, and where it
+-- answers yes the chains of the kept nodes
+pub record CheckLeaves (ns : List ℕ) (kept : ℕ) (w w′ : List ℕ) (b : Bool) : Type 0 where
+  pub rest : Rest (15 * (length ns / 3)) w w′
+  pub chained : b ≡ true → Chained ns kept w′

@@ -4,16 +4,18 @@ use nodes::chain::seek;
 use nodes::chain::slot;
 use nodes::zero;
 ghost use mathlib.Core.Path.{_≡_};
+ghost use mathlib.Core.Bool.{true};
 ghost use Prim.Native.Nat.{_+_, _*_, _-_, _/_, _<_, _≤_};
 ghost use lib.ListN.{length};
 ghost use Rattle.trees.specs.Kept.{above, nodeRight};
 ghost use Rattle.nodes.specs.Nodes.{Between, Decides};
+ghost use Rattle.nodes.specs.Chains.{Chained};
 ghost use Rattle.keeping.specs.Checks.{Inside, ZeroFrom, Right, Apart, Sized};
 
 // Whether the references of the first `count` rows lead to kept nodes or leaves.
-pub fn inside(refs: [u32; 64], count: u32, kept: u32) -> bool
+pub fn inside(refs: &[u32; 64], count: u32, kept: u32) -> bool
     requires { ⌜ (count ≤ 64) × (kept ≤ 4096) ⌝ }
-    ensures { λ b. ⌜ Decides (Inside refs count kept) b ⌝ }
+    ensures { λ b. ⌜ Decides (Inside (now (refs .entry)) count kept) b ⌝ }
 {
     let mut i = 0;
     while i < count {
@@ -26,33 +28,17 @@ pub fn inside(refs: [u32; 64], count: u32, kept: u32) -> bool
     true
 }
 
-// Whether the references past the rows are 0.
-pub fn none_past(refs: [u32; 64], count: u32) -> bool
-    requires { ⌜ count ≤ 64 ⌝ }
-    ensures { λ b. ⌜ Decides (ZeroFrom count refs) b ⌝ }
-{
-    let mut i = count as usize;
-    while i < 64 {
-        if refs[i] != 0 {
-            return false;
-        }
-        i += 1;
-    }
-    true
-}
-
-// Whether the numbers from `from` on are 0.
+// Whether the numbers from `from` on are 0. They are or-ed together with no way out, so that many are read at once.
 pub fn rest_zero(xs: &[u32], from: usize) -> bool
     ensures { λ b. ⌜ Decides (ZeroFrom from (now (xs .entry))) b ⌝ }
 {
+    let mut all = 0;
     let mut i = from;
     while i < xs.len() {
-        if xs[i] != 0 {
-            return false;
-        }
+        all = all | xs[i];
         i += 1;
     }
-    true
+    all == 0
 }
 
 // Whether a reference leads to a level above this one, or to a leaf.
@@ -111,11 +97,13 @@ pub fn all_right(nodes: &[u32], n: u32, levels: u32) -> bool
 }
 
 // Whether no two of the first n nodes are equal. Each place is chained from the head of its node's bucket, so only that chain
-// is walked. With c nodes in the slice the heads stand in `work` from 13 * c on, and the links from 14 * c on.
+// is walked. With c nodes in the slice the heads stand in `work` from 13 * c on, and the links from 14 * c on; where all
+// differ, all are chained.
 pub fn all_differ(nodes: &[u32], n: u32, work: &mut [u32]) -> bool
     requires { ⌜ Sized (now nodes) (now work) × (3 * n ≤ length (now nodes)) ⌝ }
     ensures { λ b. ⌜ Decides (Apart (now (nodes .entry)) n) b ⌝ }
     ensures { λ _. ⌜ Between (13 * (length (now (nodes .entry)) / 3)) (15 * (length (now (nodes .entry)) / 3)) (now (work .entry)) (now (work .exit)) ⌝ }
+    ensures { λ b. ⌜ (b ≡ true → Chained (now (nodes .entry)) n (now (work .exit))) ⌝ }
 {
     let c = nodes.len() / 3;
     let links = 14 * c;

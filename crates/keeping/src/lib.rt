@@ -7,7 +7,6 @@ mod free; // the rows' variables
 use crate::each::all_differ;
 use crate::each::all_right;
 use crate::each::inside;
-use crate::each::none_past;
 use crate::each::rest_zero;
 use crate::free::free_only;
 use crate::order::rows_in_order;
@@ -15,24 +14,24 @@ ghost use mathlib.Core.Path.{_≡_};
 ghost use Prim.Native.Nat.{_*_, _/_, _≤_};
 ghost use lib.ListN.{length};
 ghost use Rattle.trees.specs.Kept.{wellKept};
-ghost use Rattle.nodes.specs.Nodes.{Rest};
-ghost use Rattle.keeping.specs.Checks.{freeBy, Sized};
+ghost use Rattle.keeping.specs.Checks.{freeBy, Sized, CheckLeaves};
 
 // Whether a state's diagrams are well kept, pass after pass, for a rule of `count` rows of which row i may ask the variables of
-// allowed[i]. With c nodes in the slice, the passes use the first 15 * c numbers of `work` and leave them as they fall.
+// allowed[i]. With c nodes in the slice, the passes use the first 15 * c numbers of `work` and leave them as they fall. Where
+// all is well kept, the chains of the kept nodes are left there.
 pub fn check(
     k: u32,
     count: u32,
-    allowed: [u32; 64],
-    refs: [u32; 64],
+    allowed: &[u32; 64],
+    refs: &[u32; 64],
     kept: u32,
     nodes: &[u32],
     work: &mut [u32],
 ) -> bool
-    requires { ⌜ (1 ≤ k) × (k ≤ 10) × (count ≤ 64) ⌝ }
+    requires { ⌜ (1 ≤ k) × (k ≤ 10) × (count ≤ 64) × (length (now refs) ≡ 64) ⌝ }
     requires { ⌜ Sized (now nodes) (now work) ⌝ }
-    ensures { λ b. ⌜ b ≡ wellKept (freeBy k allowed) (length (now (nodes .entry)) / 3) count refs kept (now (nodes .entry)) ⌝ }
-    ensures { λ _. ⌜ Rest (15 * (length (now (nodes .entry)) / 3)) (now (work .entry)) (now (work .exit)) ⌝ }
+    ensures { λ b. ⌜ b ≡ wellKept (freeBy k (now (allowed .entry))) (length (now (nodes .entry)) / 3) count (now (refs .entry)) kept (now (nodes .entry)) ⌝ }
+    ensures { λ b. ⌜ CheckLeaves (now (nodes .entry)) kept (now (work .entry)) (now (work .exit)) b ⌝ }
 {
     let c = nodes.len() / 3;
     let m = kept as usize;
@@ -42,7 +41,7 @@ pub fn check(
     if !inside(refs, count, kept) {
         return false;
     }
-    if !none_past(refs, count) {
+    if !rest_zero(refs, count as usize) {
         return false;
     }
     if !rest_zero(nodes, 3 * m) {
@@ -54,7 +53,7 @@ pub fn check(
     if !all_differ(nodes, kept, work) {
         return false;
     }
-    if !rows_in_order(nodes, kept, 4 * k, refs, count) {
+    if !rows_in_order(nodes, kept, refs, count) {
         return false;
     }
     free_only(nodes, kept, work, k, allowed, refs, count)

@@ -1,55 +1,50 @@
 // The pass that finds whether the kept nodes stand in canonical order: each node is gone into once. Assumes nothing.
 use nodes::read;
-ghost use Prim.Native.Nat.{_+_, _-_, _<_, _≤_};
-ghost use Rattle.trees.specs.Tree.{Fine};
-ghost use Rattle.trees.specs.Table.{at, treesOf};
-ghost use Rattle.nodes.specs.Nodes.{Table, Rows, Decides};
-ghost use Rattle.keeping.specs.Checks.{Follows, InRowOrder};
+ghost use mathlib.Core.Path.{_≡_};
+ghost use Prim.Native.Nat.{_+_, _<_, _≤_};
+ghost use lib.ListN.{length};
+ghost use Rattle.nodes.specs.Nodes.{Table, Decides};
+ghost use Rattle.keeping.specs.Checks.{Inside, Follows, InRowOrder};
 
-// What the walk over a diagram in order answers: the count of nodes passed, or that a node stands out of order.
-pub enum Ordered {
-    Broken,
-    At(u32),
-}
-
-// Walks the diagram r low side first, then high, then the node itself, which must stand at the place of the count n so
-// far. A leaf, or a place below n, changes nothing. Of r's levels at most `left` are left to ask.
-fn in_order(nodes: &[u32], kept: u32, n: u32, levels: u32, left: u32, r: u32) -> Ordered
+// Walks the diagram of the node r, which is not among the n nodes passed so far: low side first, then high, each unless it was
+// passed, then the node itself, which must stand at the place of the count. Gives the count, or one over `kept` where a node
+// stands out of order: from such a count on every reference was passed, and no node stands at its place.
+fn in_order(nodes: &[u32], kept: u32, n: u32, r: u32) -> u32
     requires { ⌜ Table (now nodes) kept ⌝ }
-    requires { ⌜ (n ≤ kept) × (r < kept + 2) × (left ≤ levels) ⌝ }
-    requires { ⌜ Fine (levels - left) levels (at (treesOf (now nodes) kept) r) ⌝ }
-    ensures { λ o. ⌜ Follows (now (nodes .entry)) kept n r o ⌝ }
+    requires { ⌜ (n ≤ kept) × (n + 2 ≤ r) × (r < kept + 2) ⌝ }
+    ensures { λ m. ⌜ Follows (now (nodes .entry)) kept n r m ⌝ }
 {
-    if r < n + 2 {
-        return Ordered::At(n);
-    }
     let x = read(nodes, kept, r);
-    let Ordered::At(a) = in_order(nodes, kept, n, levels, left - 1, x.low) else {
-        return Ordered::Broken;
-    };
-    let Ordered::At(b) = in_order(nodes, kept, a, levels, left - 1, x.high) else {
-        return Ordered::Broken;
-    };
-    if b + 2 != r {
-        return Ordered::Broken;
+    let low = x.low;
+    let high = x.high;
+    let mut a = n;
+    if n + 2 <= low {
+        a = in_order(nodes, kept, n, low);
     }
-    Ordered::At(b + 1)
+    let mut b = a;
+    if a + 2 <= high {
+        b = in_order(nodes, kept, a, high);
+    }
+    if b + 2 != r {
+        return kept + 1;
+    }
+    b + 1
 }
 
 // Whether the kept nodes are the diagrams of the first `count` references, in canonical order.
-pub fn rows_in_order(nodes: &[u32], kept: u32, levels: u32, refs: [u32; 64], count: u32) -> bool
-    requires { ⌜ Table (now nodes) kept ⌝ }
-    requires { ⌜ Rows (now nodes) kept levels refs count ⌝ }
-    ensures { λ b. ⌜ Decides (InRowOrder (now (nodes .entry)) kept refs count) b ⌝ }
+pub fn rows_in_order(nodes: &[u32], kept: u32, refs: &[u32; 64], count: u32) -> bool
+    requires { ⌜ Table (now nodes) kept × Inside (now refs) count kept ⌝ }
+    requires { ⌜ (count ≤ 64) × (length (now refs) ≡ 64) ⌝ }
+    ensures { λ b. ⌜ Decides (InRowOrder (now (nodes .entry)) kept (now (refs .entry)) count) b ⌝ }
 {
     let mut n = 0;
     let mut i = 0;
     while i < count {
         let j = i as usize;
-        let Ordered::At(a) = in_order(nodes, kept, n, levels, levels, refs[j]) else {
-            return false;
-        };
-        n = a;
+        let r = refs[j];
+        if n + 2 <= r {
+            n = in_order(nodes, kept, n, r);
+        }
         i += 1;
     }
     if n != kept {

@@ -33,6 +33,22 @@ splits ns n r back h k =
     let e : r - 2 + 2 ≡ r = omega arith in
     record { low = omega arith; high = omega arith; is = ap (λ (q : ℕ). at (treesOf ns n) q) (sym e) ∙ at-node ns n (r - 2) back (omega arith) }
 
+-- and no other
+pub one-read : {ns : List ℕ} {n r l a b l′ a′ b′ : ℕ} → Table ns n → Splits ns n r l a b → Splits ns n r l′ a′ b′ → (l ≡ l′) × (a ≡ a′) × (b ≡ b′)
+one-read {ns} {n} {r} {l} {a} {b} {l′} {a′} {b′} t s u =
+    let e = s .is in
+    let f = u .is in
+    let low : at (treesOf ns n) a ≡ at (treesOf ns n) a′ = cc in
+    let high : at (treesOf ns n) b ≡ at (treesOf ns n) b′ = cc in
+    (cc, t .one a a′ (s .low) (u .low) low, t .one b b′ (s .high) (u .high) high)
+
+-- its references go back
+pub read-below : {ns : List ℕ} {n r l a b : ℕ} → Table ns n → Splits ns n r l a b → 2 ≤ r → r < n + 2 → (a < r) × (b < r)
+read-below {ns} {n} {r} t s h k =
+    let back = t .back (r - 2) (omega arith) in
+    let e = one-read t s (splits ns n r (t .back) h k) in
+    (omega (arith, e .1, back .0), omega (arith, e .2, back .1))
+
 -- the table of a walk goes on from the one before
 pub grown-goes : {ns ms : List ℕ} {n m r : ℕ} {d : Tree} → Grown ns ms n m r d → Goes (treesOf ns n) (treesOf ms m)
 grown-goes {ns} {n = n} {d = d} g = rw (g .trees) (add-goes (treesOf ns n) d)

@@ -1,12 +1,12 @@
 -- Laws of numbers that are set to 0. Assumes nothing.
 use Prim.Native.Nat.{ℕ, _+_, _≤_, _<_}
-use mathlib.Core.Path.{_≡_, refl, _∙_}
+use mathlib.Core.Path.{_≡_, refl, sym, _∙_}
 use mathlib.Core.List.{List}
 use mathlib.Core.Logic.{⊎-elim}
 use native.Mathlib.Decide.{ℕ-discrete}
 use native.Mathlib.Omega.{arith}
 use lib.ListN.{length, getD, set, length-set}
-use lib.Seq.{getD-set-same, getD-set-other}
+use lib.Seq.{getD-set-same, getD-set-other, ext-getD}
 use Rattle.trees.proofs.Tests.{lt-or-ge}
 use Rattle.nodes.specs.Nodes.{Rest, Zeroed}
 
@@ -44,3 +44,13 @@ zeroed-after r e z = record {
   same = record { eq = λ i h. absurd (omega arith) };
   rest = record { eq = λ i h. z .rest .eq i h ∙ r .eq i h };
 }
+
+-- what is left is one list
+pub one-zeroed : {from to : ℕ} {xs ys zs : List ℕ} → Zeroed from to xs ys → Zeroed from to xs zs → ys ≡ zs
+one-zeroed {from} {to} {xs} {ys} {zs} p q = ext-getD 0 ys zs (p .size ∙ sym (q .size)) (λ i h. ⊎-elim
+    (λ l. p .same .eq i l ∙ sym (q .same .eq i l))
+    (λ l. ⊎-elim
+    (λ k. p .zero i l k ∙ sym (q .zero i l k))
+    (λ k. p .rest .eq i k ∙ sym (q .rest .eq i k))
+    (lt-or-ge i to))
+    (lt-or-ge i from))

@@ -8,11 +8,6 @@ use Rattle.diagram.proofs.CaseLaws.{sized, cleared-after, unfit-tells, 
 use borrow.Author.Needs.{needs}
 use Rattle.diagram.proofs.well_formed.Statement.{statement}
 use Rattle.diagram.proofs.well_formed.Tie as tie
-use Rattle.diagram.proofs.well_formed.Reads as reads
-use Rattle.diagram.proofs.well_formed.Lts as lts
-use Rattle.keeping.proofs.check.Reads as check-reads
-use Rattle.diagram.proofs.plan.fit.Reads as fit-reads
-use Rattle.nodes.proofs.zero.Reads as zero-reads
 
 fit-requires : tie.Need-fit-requires
 fit-requires c κs = search needs
@@ -21,15 +16,15 @@ returns : tie.Need-returns
 returns c =
     let first = c .before in
     let s = first .before .before .before in
-    unfit-tells (s .args .k) (s .args .count) (s .args .allowed) (s .args .refs) (s .args .kept) (s .args .nodes .now) (s .args .work .now) (first .fit .result) (first .fit .ensures) (c .if1 .taken)
+    unfit-tells (s .args .k) (s .args .count) (s .args .t3) (s .args .t4) (s .args .kept) (s .args .nodes .now) (s .args .work .now) (first .fit .result) (first .fit .ensures) (c .if1 .taken)
 
 check-requires : tie.Need-check-requires
 check-requires c κs =
-    let test = c .before in
+    let test = c .before .before .before in
     let first = test .before in
     let s = first .before .before .before in
     let f = says-yes (Fits (s .args .k) (s .args .count) (length (s .args .nodes .now)) (length (s .args .work .now))) (first .fit .result) (first .fit .ensures) (test .if1 .left) in
-    ((f .least, f .most, f .few), sized f)
+    ((f .least, f .most, f .few, s .good .1 .1 .1 .0 .1 .0 .1), sized f)
 
 mul-zero : tie.Need-mul-zero
 mul-zero c = search needs
@@ -39,38 +34,35 @@ add-zero c = search needs
 
 zero-requires : tie.Need-zero-requires
 zero-requires c κs =
-    let checked = c .before .before .before in
-    let test = checked .before .before in
+    let test = c .before .before .before .before .before .before .before in
     let first = test .before in
     let s = first .before .before .before in
     let f = says-yes (Fits (s .args .k) (s .args .count) (length (s .args .nodes .now)) (length (s .args .work .now))) (first .fit .result) (first .fit .ensures) (test .if1 .left) in
-    omega (arith, f .room, checked .check .kept .1 .1 .1 .1 .1 .1 .0)
+    omega (arith, f .room, c .before .before .before .check .kept .1 .1 .1 .1 .1 .1 .0)
 
 same-length : tie.Need-same-length
 same-length c = search needs
 
 returns-2 : tie.Need-returns-2
 returns-2 c =
-    let last = c .before .before .before in
-    let checked = last .before .before .before .before in
-    let test = checked .before .before in
+    let checked = c .before .before .before .before .before .before .before in
+    let test = checked .before .before .before .before in
     let first = test .before in
     let s = first .before .before .before in
     let f = says-yes (Fits (s .args .k) (s .args .count) (length (s .args .nodes .now)) (length (s .args .work .now))) (first .fit .result) (first .fit .ensures) (test .if1 .left) in
-    good-tells (s .args .k) (s .args .count) (s .args .allowed) (s .args .refs) (s .args .kept) (s .args .nodes .now) (s .args .work .now) f (cleared-after (s .args .k) (s .args .count) (s .args .allowed) (s .args .refs) (s .args .kept) (s .args .nodes .now) (s .args .work .now) f (checked .check .ensures .1) (checked .check .kept .1 .1 .1 .1 .1 .1 .0) (last .zero .ensures)) (sym (checked .check .ensures .0) ∙ c .if2 .taken)
+    good-tells (s .args .k) (s .args .count) (s .args .t3) (s .args .t4) (s .args .kept) (s .args .nodes .now) (s .args .work .now) f (cleared-after (s .args .k) (s .args .count) (s .args .t3) (s .args .t4) (s .args .kept) (s .args .nodes .now) (s .args .work .now) f (checked .check .ensures .1 .rest) (checked .check .kept .1 .1 .1 .1 .1 .1 .0) (c .before .before .before .zero .ensures)) (sym (checked .check .ensures .0) ∙ c .if2 .taken)
 
 same-length-2 : tie.Need-same-length-2
 same-length-2 c = search needs
 
 returns-3 : tie.Need-returns-3
 returns-3 c =
-    let last = c .before .before .before in
-    let checked = last .before .before .before .before in
-    let test = checked .before .before in
+    let checked = c .before .before .before .before .before .before .before in
+    let test = checked .before .before .before .before in
     let first = test .before in
     let s = first .before .before .before in
     let f = says-yes (Fits (s .args .k) (s .args .count) (length (s .args .nodes .now)) (length (s .args .work .now))) (first .fit .result) (first .fit .ensures) (test .if1 .left) in
-    bad-tells (s .args .k) (s .args .count) (s .args .allowed) (s .args .refs) (s .args .kept) (s .args .nodes .now) (s .args .work .now) f (cleared-after (s .args .k) (s .args .count) (s .args .allowed) (s .args .refs) (s .args .kept) (s .args .nodes .now) (s .args .work .now) f (checked .check .ensures .1) (checked .check .kept .1 .1 .1 .1 .1 .1 .0) (last .zero .ensures)) (sym (checked .check .ensures .0) ∙ c .if2 .left)
+    bad-tells (s .args .k) (s .args .count) (s .args .t3) (s .args .t4) (s .args .kept) (s .args .nodes .now) (s .args .work .now) f (cleared-after (s .args .k) (s .args .count) (s .args .t3) (s .args .t4) (s .args .kept) (s .args .nodes .now) (s .args .work .now) f (checked .check .ensures .1 .rest) (checked .check .kept .1 .1 .1 .1 .1 .1 .0) (c .before .before .before .zero .ensures)) (sym (checked .check .ensures .0) ∙ c .if2 .left)
 
 pub well-formed-spec : {M : Type 1} → statement M
 well-formed-spec =

@@ -1,35 +1,31 @@
--- `plan::rows` meets its contract. The loop's invariant: the first i rows are worked. The measure is what is left. Assumes nothing.
-use Prim.Native.Nat.{_*_, _-_, _≤_}
+-- `rows` meets its contract. The loop's invariant: the first i rows are worked. The measure is the count of rows that are left.
+-- Assumes nothing.
+use Prim.Native.Nat.{_-_, _≤_}
 use mathlib.Core.Path.{_≡_, refl, _∙_}
 use native.Mathlib.Omega.{arith}
 use lib.ListN.{length}
+use denote.Ref.{now}
 use borrow.Author.Needs.{needs}
 use Rattle.trees.specs.Kept.{diagrams}
-use Rattle.nodes.specs.Nodes.{Rest}
 use Rattle.diagram.specs.Works.{Through}
-use Rattle.diagram.proofs.WalkLaws.{rest-trans}
 use Rattle.diagram.proofs.PlanLaws.{old-are, through-none, through-short, through-more}
 use Rattle.diagram.proofs.plan.rows.Statement.{statement}
 use Rattle.diagram.proofs.plan.rows.Tie as tie
-use Rattle.diagram.proofs.plan.rows.Reads as reads
-use Rattle.diagram.proofs.plan.rows.Lts as lts
-use Rattle.diagram.proofs.row.row.Reads as row-reads
 
 abbrev Inv-loop : tie.InvT-loop
-Inv-loop nodes₀ work₀ c kept k count olds plan news₀ n₀ i₀ nodes work news n i =
-    (i ≤ count) × (length work ≡ length work₀) × Rest (13 * c) work₀ work × Through k plan (diagrams nodes₀ kept olds count) nodes₀ kept nodes n work c olds news i
+Inv-loop nodes₀ work₀ c slots kept k count olds plan news₀ n₀ i₀ nodes work news n i =
+    (i ≤ count) × (length work ≡ length work₀) × Through k plan (diagrams nodes₀ kept olds count) nodes₀ kept nodes n work c slots olds news i
 
 abbrev μ-loop : tie.MeasureT-loop
-μ-loop nodes₀ work₀ c kept k count olds plan news₀ n₀ i₀ nodes work news n i = count - i
+μ-loop nodes₀ work₀ c slots kept k count olds plan news₀ n₀ i₀ nodes work news n i = count - i
 
 loop-holds : tie.Need-loop-holds Inv-loop μ-loop
 loop-holds c =
     let s = c .before .before in (
       omega arith,
       refl,
-      record { eq = λ i h. refl },
-      through-none (s .args .k) (s .args .t7) _ (s .args .nodes .now) (s .args .kept) (s .args .work .now) (s .args .c) (s .args .olds)
-          (s .pre .0 .2) (s .pre .1 .0) (old-are (s .args .nodes .now) (s .args .kept) (s .args .olds) (s .args .count) (omega (arith, s .pre .0 .1, s .good .1 .1 .1 .1 .1 .1 .1 .0 .1 .0 .1)) (s .pre .1 .1)),
+      through-none (s .args .k) (s .args .t8) _ (s .args .nodes .now) (s .args .kept) (s .args .work .now) (s .args .c) (s .args .slots) (now (s .args .olds))
+          (s .pre .0 .2) (s .pre .1 .0) (old-are (s .args .nodes .now) (s .args .kept) (now (s .args .olds)) (s .args .count) (omega (arith, s .pre .0 .1, s .pre .1 .0 .wide)) (s .pre .1 .1)),
     )
 
 cast-j : tie.Need-cast-j Inv-loop μ-loop
@@ -43,8 +39,8 @@ array-copy-out-x c = omega (arith, c .before .before .before .before .pre .0 .1)
 
 row-requires : tie.Need-row-requires Inv-loop μ-loop
 row-requires c κs =
-    let loop = c .before .before .before .before in
-    let t = loop .loop .inv .3 in
+    let loop = c .before .before .before .before .before in
+    let t = loop .loop .inv .2 in
     ((loop .before .before .before .pre .0 .0, t .desk), (t .old-lead, t .new-lead))
 
 enum-known-m : tie.Need-enum-known-m Inv-loop μ-loop
@@ -54,34 +50,26 @@ enum-told : tie.Need-enum-told Inv-loop μ-loop
 enum-told c = search needs
 
 same-length : tie.Need-same-length Inv-loop μ-loop
-same-length c =
-    let done = c .before .before .before .before .before .before in
-    done .row .kept .0 ∙ done .before .before .before .before .before .loop .inv .3 .size
+same-length c = c .before .before .before .before .before .before .row .kept .0 ∙ c .before .before .before .before .before .before .before .before .before .before .before .before .loop .inv .2 .size
 
 same-length-2 : tie.Need-same-length-2 Inv-loop μ-loop
-same-length-2 c =
-    let done = c .before .before .before .before .before .before in
-    done .row .kept .1 .0 ∙ done .before .before .before .before .before .loop .inv .1
+same-length-2 c = c .before .before .before .before .before .before .row .kept .1 .0 ∙ c .before .before .before .before .before .before .before .before .before .before .before .before .loop .inv .1
 
 returns : tie.Need-returns Inv-loop μ-loop
 returns c =
-    let done = c .before .before .before .before .before .before in
-    let test = done .before .before .before .before in
+    let test = c .before .before .before .before .before .before .before .before .before .before .before in
     let loop = test .before in
     let s = loop .before .before .before in
-    let v = loop .loop .inv in (
-      through-short (s .args .k) (s .args .t7) _ (s .args .nodes .now) (s .args .kept) (v .3) (s .args .count) (test .loop-test .taken) (rw (c .enum-told .given .1) at (done .row .ensures .0)),
-      rest-trans (v .2) (done .row .ensures .1) (omega arith),
-    )
+    through-short (s .args .k) (s .args .t8) _ (s .args .nodes .now) (s .args .kept) (loop .loop .inv .2) (s .args .count) (test .loop-test .taken) (rw (c .enum-told .given .1) at (c .before .before .before .before .before .before .row .ensures))
 
 mul-news : tie.Need-mul-news Inv-loop μ-loop
-mul-news c = omega (arith, c .before .before .before .before .before .before .before .before .before .before .before .before .before .before .before .pre .0 .1)
+mul-news c = omega (arith, c .before .before .before .before .before .before .before .before .before .before .before .before .before .before .before .before .pre .0 .1)
 
 array-write-news : tie.Need-array-write-news Inv-loop μ-loop
-array-write-news c = omega (arith, c .before .before .before .before .before .before .before .before .before .before .before .before .before .before .before .pre .0 .1)
+array-write-news c = omega (arith, c .before .before .before .before .before .before .before .before .before .before .before .before .before .before .before .before .pre .0 .1)
 
 add-i : tie.Need-add-i Inv-loop μ-loop
-add-i c = omega (arith, c .before .before .before .before .before .before .before .before .before .before .before .before .before .before .before .pre .0 .1)
+add-i c = omega (arith, c .before .before .before .before .before .before .before .before .before .before .before .before .before .before .before .before .pre .0 .1)
 
 loop-less : tie.Need-loop-less Inv-loop μ-loop
 loop-less c = omega arith
@@ -89,19 +77,17 @@ loop-less c = omega arith
 loop-again : tie.Need-loop-again Inv-loop μ-loop
 loop-again c =
     let done = c .before .before .before .before .before .before .before in
-    let test = done .before .before .before .before in
-    let loop = test .before in
+    let loop = done .before .before .before .before .before .before in
     let s = loop .before .before .before in
     let v = loop .loop .inv in
-    let g = rw (c .before .m .given .1) at (done .row .ensures .0) in (
-      omega arith,
+    let g = rw (c .before .m .given .1) at (done .row .ensures) in (
+      omega (arith, done .before .before .before .before .before .loop-test .taken),
       done .row .kept .1 .0 ∙ v .1,
-      rest-trans (v .2) (done .row .ensures .1) (omega arith),
-      through-more (s .args .k) (s .args .t7) _ (s .args .nodes .now) (s .args .kept) (v .3) (g .0) (omega (arith, s .pre .0 .1)) (g .1),
+      through-more (s .args .k) (s .args .t8) _ (s .args .nodes .now) (s .args .kept) (v .2) (g .0) (omega (arith, s .pre .0 .1, done .before .before .before .before .before .loop-test .taken)) (g .1),
     )
 
 same-length-3 : tie.Need-same-length-3 Inv-loop μ-loop
-same-length-3 c = c .before .loop .inv .3 .size
+same-length-3 c = c .before .loop .inv .2 .size
 
 same-length-4 : tie.Need-same-length-4 Inv-loop μ-loop
 same-length-4 c = c .before .loop .inv .1
@@ -111,7 +97,7 @@ returns-2 c =
     let loop = c .before in
     let v = loop .loop .inv in
     let e : loop .loop .i ≡ loop .before .before .before .args .count = omega (arith, v .0, c .loop-test .left) in
-    (rw e at (v .3), v .2)
+    rw e at (v .2)
 
 pub rows-spec : {M : Type 1} → statement M
 rows-spec =

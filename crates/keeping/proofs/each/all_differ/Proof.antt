@@ -1,19 +1,20 @@
 -- `each::all_differ` meets its contract. The loop's invariant: the first j places are chained, and no two of their nodes are
 -- equal. The measure is what is left. Assumes nothing.
-use Prim.Native.Nat.{ℕ, _+_, _*_, _-_, _/_, _≤_, _<_}
+use Prim.Native.Nat.{_+_, _*_, _-_, _/_, _≤_}
 use native.Mathlib.Omega.{arith}
-use mathlib.Core.Path.{_≡_, refl, ap, _∙_}
-use lib.ListN.{length, getD}
+use mathlib.Core.Path.{_≡_, refl, _∙_}
+use lib.ListN.{length}
+use Rattle.trees.proofs.Tests.{false-true}
 use Rattle.nodes.specs.Nodes.{Between}
-use Rattle.nodes.specs.Chains.{Chains, joined, headOf}
+use Rattle.nodes.specs.Chains.{Chained}
 use Rattle.keeping.specs.Checks.{Apart}
-use Rattle.nodes.proofs.ChainLaws.{chains-none, chains-more, joined-between, between-trans, between-zeroed, head-within, head-is, sought-none, sought-some}
+use Rattle.nodes.proofs.ChainLaws.{joined-between, between-trans, between-zeroed, chained-start, chained-walk, chained-missed, chained-found, chained-more}
 use Rattle.keeping.proofs.CheckLaws.{apart-more, apart-not}
 use Rattle.keeping.proofs.each.all_differ.Statement.{statement}
 use Rattle.keeping.proofs.each.all_differ.Tie as tie
 
 abbrev Inv-loop : tie.InvT-loop
-Inv-loop nodes n work₀ c links j₀ work j = (j ≤ n) × (length work ≡ length work₀) × Between (13 * c) (15 * c) work₀ work × Chains (headOf nodes (13 * c) c) (13 * c) links work j × Apart nodes j
+Inv-loop nodes n work₀ c links j₀ work j = (j ≤ n) × (length work ≡ length work₀) × Between (13 * c) (15 * c) work₀ work × Chained nodes j work × Apart nodes j
 
 abbrev μ-loop : tie.MeasureT-loop
 μ-loop nodes n work₀ c links j₀ work j = n - j
@@ -32,10 +33,6 @@ size l = l .loop .inv .1 ∙ l .before .before .before .zero .ensures .size
 room : (l : tie.At-loop Inv-loop μ-loop) → 16 * (length (l .before .before .before .before .before .before .before .args .nodes .now) / 3) + 1024 ≤ length (l .loop .work)
 room l = omega (arith, size l, l .before .before .before .before .before .before .before .pre .0 .room)
 
--- a chain starts at a place that was passed
-start : (l : tie.At-loop Inv-loop μ-loop) (r : ℕ) → r < length (l .before .before .before .before .before .before .before .args .nodes .now) / 3 → getD (l .loop .work) (13 * (length (l .before .before .before .before .before .before .before .args .nodes .now) / 3) + r) 0 ≤ l .loop .j
-start l r h = l .loop .inv .3 .starts (13 * (length (l .before .before .before .before .before .before .before .args .nodes .now) / 3) + r) (omega arith) (omega arith)
-
 -- only heads and links have changed since the entry
 between : (l : tie.At-loop Inv-loop μ-loop) → let C = length (l .before .before .before .before .before .before .before .args .nodes .now) / 3 in Between (13 * C) (15 * C) (l .before .before .before .before .before .before .before .args .work .now) (l .loop .work)
 between l = between-trans (between-zeroed (omega arith) (omega arith) (l .before .before .before .zero .ensures)) (l .loop .inv .2)
@@ -51,7 +48,7 @@ loop-holds c =
       omega arith,
       refl,
       record { same = record { eq = λ i h. refl }; rest = record { eq = λ i h. refl } },
-      chains-none (headOf (s .args .nodes .now) (13 * C) C) (13 * C) (14 * C) (z .last .0) (z .ensures .zero),
+      chained-start (z .ensures .zero),
       λ i j h. absurd (omega arith),
     )
 
@@ -103,14 +100,8 @@ slice-reshared-read-seek c = omega (arith, c .before .slot .ensures .0, room (c 
 seek-requires : tie.Need-seek-requires Inv-loop μ-loop
 seek-requires c κs =
     let l = c .before .before .before .before .before .before in
-    let s = l .before .before .before .before .before .before .before in
-    let first = start l (c .before .slot .result) (c .before .slot .ensures .0) in
     let low = c .before .before .before .before .before .loop-test .taken in
-    record {
-      places = omega (arith, first, low, s .pre .1);
-      room = omega (arith, first, low, s .pre .1, room l);
-      falls = λ i h. l .loop .inv .3 .falls i (omega (arith, first));
-    }
+    chained-walk (l .loop .inv .3) _ _ _ (c .before .slot .result) (c .before .slot .ensures .0) (c .before .slot .ensures .1) (omega (arith, low, l .before .before .before .before .before .before .before .pre .1)) (omega (arith, room l))
 
 same-length : tie.Need-same-length Inv-loop μ-loop
 same-length c = size (c .before .before .before .before .before .before .before .before)
@@ -120,10 +111,9 @@ returns c =
     let l = c .before .before .before .before .before .before .before .before in
     let s = l .before .before .before .before .before .before .before in
     let slot = c .before .before .before .slot in
-    let first = start l (slot .result) (slot .ensures .0) in
-    let i = 3 * l .loop .j in
-    let f = sought-some (s .args .nodes .now) (14 * (length (s .args .nodes .now) / 3)) (l .loop .work) _ (getD (s .args .nodes .now) i 0) (getD (s .args .nodes .now) (i + 1) 0) (getD (s .args .nodes .now) (i + 2) 0) (c .before .seek .result) (l .loop .j) first (c .if1 .taken) (c .before .seek .ensures) in
-    (apart-not (s .args .nodes .now) (s .args .n) (l .loop .j) (f .0) (c .before .before .before .before .before .before .before .loop-test .taken) (f .1) (f .2), between l)
+    let some = c .if1 .taken in
+    let f = chained-found (l .loop .inv .3) _ _ _ (slot .result) (slot .ensures .0) (slot .ensures .1) (c .before .seek .ensures) (omega arith) in
+    (apart-not (s .args .nodes .now) (s .args .n) (l .loop .j) (c .before .seek .result - 1) (c .before .before .before .before .before .before .before .loop-test .taken) (f .0) (f .1), (between l, λ e. absurd (false-true refl e)))
 
 join-requires : tie.Need-join-requires Inv-loop μ-loop
 join-requires c κs =
@@ -147,24 +137,24 @@ loop-again c =
     let low = c .before .before .before .before .before .before .before .before .before .before .before .loop-test .taken in
     let ns = s .args .nodes .now in
     let C = length ns / 3 in
-    let some : 0 < C = omega (arith, low, s .pre .1) in
-    let inside = head-within ns (13 * C) C (14 * C) some (omega arith) in
-    let head : 13 * C + slot .result ≡ headOf ns (13 * C) C (l .loop .j) = head-is ns (13 * C) C (l .loop .j) (slot .result) (slot .ensures .1) in
-    let room : 14 * C + l .loop .j < length (l .loop .work) = omega (arith, low, s .pre .1, room l) in
-    let new : join .last .0 ≡ joined (l .loop .work) (headOf ns (13 * C) C (l .loop .j)) (14 * C) (l .loop .j) = join .ensures ∙ ap (λ (x : ℕ). joined (l .loop .work) x (14 * C) (l .loop .j)) head in
-    let here = inside (l .loop .j) in (
+    let below = slot .ensures .0 in
+    let more = chained-more (l .loop .inv .3) _ _ _ (slot .result) below (slot .ensures .1) (record { level = refl; low = refl; high = refl }) (omega (arith, low, s .pre .1)) (omega (arith, room l)) in (
       omega (arith, low),
       join .kept .0 ∙ l .loop .inv .1,
-      between-trans (l .loop .inv .2) (rw new (joined-between (13 * C) (15 * C) (l .loop .work) _ (14 * C) (l .loop .j) (here .0) (here .1) (omega (arith, low, s .pre .1)))),
-      rw new (chains-more (headOf ns (13 * C) C) (13 * C) (14 * C) (l .loop .work) (l .loop .j) inside room (l .loop .inv .3)),
-      apart-more ns (l .loop .j) (l .loop .inv .4) (sought-none ns (13 * C) C (14 * C) (l .loop .work) (l .loop .j) (seek .result) (l .loop .inv .3) (c .before .before .before .before .if1 .left) (rw head at (seek .ensures))),
+      between-trans (l .loop .inv .2) (rw (join .ensures) (joined-between (13 * C) (15 * C) (l .loop .work) _ (14 * C) (l .loop .j) (omega arith) (omega arith) (omega (arith, low, s .pre .1)))),
+      rw (join .ensures) more,
+      apart-more ns (l .loop .j) (l .loop .inv .4) (chained-missed (l .loop .inv .3) _ _ _ (slot .result) below (slot .ensures .1) (seek .ensures) (c .before .before .before .before .if1 .left)),
     )
 
 same-length-2 : tie.Need-same-length-2 Inv-loop μ-loop
 same-length-2 c = size (c .before)
 
 returns-2 : tie.Need-returns-2 Inv-loop μ-loop
-returns-2 c = (λ i j h k. c .before .loop .inv .4 i j (omega (arith, c .loop-test .left, c .before .loop .inv .0)) k, between (c .before))
+returns-2 c =
+    let l = c .before .loop in
+    let n = c .before .before .before .before .before .before .before .before .args .n in
+    let e : l .j ≡ n = omega (arith, c .loop-test .left, l .inv .0) in
+    (rw e at (l .inv .4), (between (c .before), λ b. rw e at (l .inv .3)))
 
 pub all-differ-spec : {M : Type 1} → statement M
 all-differ-spec =

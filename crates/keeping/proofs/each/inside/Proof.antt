@@ -7,10 +7,10 @@ use Rattle.keeping.proofs.each.inside.Statement.{statement}
 use Rattle.keeping.proofs.each.inside.Tie as tie
 
 abbrev Inv-loop : tie.InvT-loop
-Inv-loop count kept refs i₀ i = (i ≤ count) × Inside refs i kept
+Inv-loop refs count kept i₀ i = (i ≤ count) × Inside refs i kept
 
 abbrev μ-loop : tie.MeasureT-loop
-μ-loop count kept refs i₀ i = count - i
+μ-loop refs count kept i₀ i = count - i
 
 loop-holds : tie.Need-loop-holds Inv-loop μ-loop
 loop-holds c = (omega arith, λ j h. absurd (omega arith))
@@ -24,11 +24,11 @@ add-if1 c = omega arith
 mul-if1 : tie.Need-mul-if1 Inv-loop μ-loop
 mul-if1 c = omega arith
 
-array-read-if1 : tie.Need-array-read-if1 Inv-loop μ-loop
-array-read-if1 c = omega arith
+element-copy-out-if1 : tie.Need-element-copy-out-if1 Inv-loop μ-loop
+element-copy-out-if1 c = omega arith
 
 returns : tie.Need-returns Inv-loop μ-loop
-returns c = λ h. let e = h (c .before .before .loop .i) (c .before .loop-test .taken) in omega arith
+returns c = λ h. let e = h (c .before .before .before .loop .i) (c .before .before .loop-test .taken) in omega arith
 
 add-i : tie.Need-add-i Inv-loop μ-loop
 add-i c = omega arith
@@ -37,7 +37,7 @@ loop-less : tie.Need-loop-less Inv-loop μ-loop
 loop-less c = omega arith
 
 loop-again : tie.Need-loop-again Inv-loop μ-loop
-loop-again c = (omega arith, more _ _ (c .before .before .loop .inv .1) (c .if1 .left))
+loop-again c = (omega arith, more _ _ (c .before .before .before .loop .inv .1) (c .if1 .left))
 
 returns-2 : tie.Need-returns-2 Inv-loop μ-loop
 returns-2 c = λ i h. c .before .loop .inv .1 i (omega (arith, c .loop-test .left))
@@ -52,7 +52,7 @@ inside-spec =
     cast-j
     add-if1
     mul-if1
-    array-read-if1
+    element-copy-out-if1
     returns
     add-i
     loop-less

@@ -1,28 +1,26 @@
--- `each::rest_zero` meets its contract. The loop's invariant: the numbers from `from` to i are 0. The measure is what is left. Assumes nothing.
-use Prim.Native.Nat.{_-_, _≤_}
+-- `each::rest_zero` meets its contract. The loop's invariant: the or of the numbers so far tells whether they are 0. The measure is
+-- what is left. Assumes nothing.
+use Prim.Native.Nat.{_-_}
 use native.Mathlib.Omega.{arith}
 use lib.ListN.{length}
-use Rattle.keeping.proofs.CheckLaws.{ZeroTo, zero-more, zero-end}
+use Rattle.keeping.proofs.CheckLaws.{Ored, ored-none, ored-more, ored-end}
 use Rattle.keeping.proofs.each.rest_zero.Statement.{statement}
 use Rattle.keeping.proofs.each.rest_zero.Tie as tie
 
 abbrev Inv-loop : tie.InvT-loop
-Inv-loop xs from i₀ i = (from ≤ i) × ZeroTo from xs i
+Inv-loop xs from all₀ i₀ all i = Ored from xs i all
 
 abbrev μ-loop : tie.MeasureT-loop
-μ-loop xs from i₀ i = length xs - i
+μ-loop xs from all₀ i₀ all i = length xs - i
 
 loop-holds : tie.Need-loop-holds Inv-loop μ-loop
-loop-holds c = (omega arith, λ j h k. absurd (omega arith))
+loop-holds c = ored-none _ _
 
-mul-if1 : tie.Need-mul-if1 Inv-loop μ-loop
-mul-if1 c = omega arith
+mul-all : tie.Need-mul-all Inv-loop μ-loop
+mul-all c = omega arith
 
-shared-slice-read-if1 : tie.Need-shared-slice-read-if1 Inv-loop μ-loop
-shared-slice-read-if1 c = omega arith
-
-returns : tie.Need-returns Inv-loop μ-loop
-returns c = λ h. c .if1 .taken (h (c .before .before .before .loop .i) (c .before .before .before .loop .inv .0))
+shared-slice-read-all : tie.Need-shared-slice-read-all Inv-loop μ-loop
+shared-slice-read-all c = omega arith
 
 add-i : tie.Need-add-i Inv-loop μ-loop
 add-i c = omega arith
@@ -31,10 +29,10 @@ loop-less : tie.Need-loop-less Inv-loop μ-loop
 loop-less c = omega arith
 
 loop-again : tie.Need-loop-again Inv-loop μ-loop
-loop-again c = (omega (arith, c .before .before .before .loop .inv .0), zero-more _ (c .before .before .before .before .args .xs .now) _ (c .before .before .before .loop .inv .1) (c .if1 .left))
+loop-again c = ored-more (c .before .before .loop .inv)
 
-returns-2 : tie.Need-returns-2 Inv-loop μ-loop
-returns-2 c = zero-end _ (c .before .before .args .xs .now) _ (c .loop-test .left) (c .before .loop .inv .1)
+returns : tie.Need-returns Inv-loop μ-loop
+returns c = ored-end (c .before .loop .inv) (c .loop-test .left)
 
 pub rest-zero-spec : {M : Type 1} → statement M
 rest-zero-spec =
@@ -43,10 +41,9 @@ rest-zero-spec =
     Inv-loop
     μ-loop
     loop-holds
-    mul-if1
-    shared-slice-read-if1
-    returns
+    mul-all
+    shared-slice-read-all
     add-i
     loop-less
     loop-again
-    returns-2)
+    returns)

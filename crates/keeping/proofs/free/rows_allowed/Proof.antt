@@ -1,18 +1,20 @@
 -- `free::rows_allowed` meets its contract. The loop's invariant: the first i rows are allowed. The measure is what is left.
 -- Assumes nothing.
 use Prim.Native.Nat.{_-_, _≤_}
+use mathlib.Core.Path.{_≡_}
 use native.Mathlib.Omega.{arith}
+use lib.Bits.{bitOr}
 use lib.ListN.{getD}
-use Rattle.keeping.specs.Checks.{RowAllowed, RowsAllowed}
-use Rattle.keeping.proofs.CheckLaws.{more, says-no, says-yes}
+use Rattle.keeping.specs.Checks.{RowsAllowed}
+use Rattle.keeping.proofs.CheckLaws.{more}
 use Rattle.keeping.proofs.free.rows_allowed.Statement.{statement}
 use Rattle.keeping.proofs.free.rows_allowed.Tie as tie
 
 abbrev Inv-loop : tie.InvT-loop
-Inv-loop work count p allowed refs i₀ i = (i ≤ count) × RowsAllowed work allowed refs i p
+Inv-loop work allowed refs count i₀ i = (i ≤ count) × RowsAllowed work allowed refs i
 
 abbrev μ-loop : tie.MeasureT-loop
-μ-loop work count p allowed refs i₀ i = count - i
+μ-loop work allowed refs count i₀ i = count - i
 
 loop-holds : tie.Need-loop-holds Inv-loop μ-loop
 loop-holds c = (omega arith, λ j h. absurd (omega arith))
@@ -20,26 +22,23 @@ loop-holds c = (omega arith, λ j h. absurd (omega arith))
 cast-j : tie.Need-cast-j Inv-loop μ-loop
 cast-j c = omega arith
 
-mul-row-allowed : tie.Need-mul-row-allowed Inv-loop μ-loop
-mul-row-allowed c = omega arith
+mul-set : tie.Need-mul-set Inv-loop μ-loop
+mul-set c = omega arith
 
-array-read-row-allowed : tie.Need-array-read-row-allowed Inv-loop μ-loop
-array-read-row-allowed c = omega arith
+element-copy-out-set : tie.Need-element-copy-out-set Inv-loop μ-loop
+element-copy-out-set c = omega arith
 
-mul-row-allowed-2 : tie.Need-mul-row-allowed-2 Inv-loop μ-loop
-mul-row-allowed-2 c = omega arith
+mul-marked : tie.Need-mul-marked Inv-loop μ-loop
+mul-marked c = omega arith
 
-array-read-row-allowed-2 : tie.Need-array-read-row-allowed-2 Inv-loop μ-loop
-array-read-row-allowed-2 c = omega arith
+element-copy-out-marked : tie.Need-element-copy-out-marked Inv-loop μ-loop
+element-copy-out-marked c = omega arith
 
-row-allowed-requires : tie.Need-row-allowed-requires Inv-loop μ-loop
-row-allowed-requires c κs = let s = c .before .before .before in (s .pre .1 (c .before .loop .i) (c .loop-test .taken), s .pre .0 .1)
+marked-requires : tie.Need-marked-requires Inv-loop μ-loop
+marked-requires c κs = let l = c .before .before .before in l .before .before .pre .1 (l .loop .i) (c .before .before .loop-test .taken)
 
 returns : tie.Need-returns Inv-loop μ-loop
-returns c =
-    let s = c .before .before .before .before .before in
-    let i = c .before .before .before .loop .i in
-    λ h. says-no (RowAllowed (s .args .work .now) (getD (s .args .t3) i 0) (getD (s .args .t2) i 0) (s .args .p)) (c .before .row-allowed .result) (c .before .row-allowed .ensures) (c .if1 .taken) (h i (c .before .before .loop-test .taken))
+returns c = let l = c .before .before .before .before .before in λ h. c .if1 .taken (rw (c .before .marked .ensures) (h (l .loop .i) (c .before .before .before .before .loop-test .taken)))
 
 add-i : tie.Need-add-i Inv-loop μ-loop
 add-i c = omega arith
@@ -49,10 +48,10 @@ loop-less c = omega arith
 
 loop-again : tie.Need-loop-again Inv-loop μ-loop
 loop-again c =
-    let s = c .before .before .before .before .before in
-    let i = c .before .before .before .loop .i in
-    let one = says-yes (RowAllowed (s .args .work .now) (getD (s .args .t3) i 0) (getD (s .args .t2) i 0) (s .args .p)) (c .before .row-allowed .result) (c .before .row-allowed .ensures) (c .if1 .left) in
-    (omega arith, more (λ j. RowAllowed (s .args .work .now) (getD (s .args .t3) j 0) (getD (s .args .t2) j 0) (s .args .p)) i (c .before .before .before .loop .inv .1) one)
+    let l = c .before .before .before .before .before in
+    let s = l .before .before in
+    let one : bitOr (getD (s .args .work .now) (getD (s .args .refs .now) (l .loop .i) 0) 0) (getD (s .args .allowed .now) (l .loop .i) 0) ≡ getD (s .args .allowed .now) (l .loop .i) 0 = rw (c .before .marked .ensures) at (c .if1 .left) in
+    (omega arith, more _ (l .loop .i) (l .loop .inv .1) one)
 
 returns-2 : tie.Need-returns-2 Inv-loop μ-loop
 returns-2 c = λ i h. c .before .loop .inv .1 i (omega (arith, c .loop-test .left))
@@ -65,11 +64,11 @@ rows-allowed-spec =
     μ-loop
     loop-holds
     cast-j
-    mul-row-allowed
-    array-read-row-allowed
-    mul-row-allowed-2
-    array-read-row-allowed-2
-    row-allowed-requires
+    mul-set
+    element-copy-out-set
+    mul-marked
+    element-copy-out-marked
+    marked-requires
     returns
     add-i
     loop-less

@@ -1,11 +1,12 @@
--- `order::in_order` meets its contract: the laws of OrderLaws, one for each way out. The measure is the levels left. Assumes nothing.
-use Rattle.nodes.proofs.ReadLaws.{steps}
-use Rattle.keeping.proofs.OrderLaws.{order-passed, order-low, order-high, order-place, order-node}
-use borrow.Author.Needs.{needs}
-use native.Mathlib.Omega.{arith}
+-- `order::in_order` meets its contract: the laws of OrderLaws, one for each way out. The measure is the reference, since a node's
+-- references go back. Assumes nothing.
 use Prim.Native.Nat.{ℕ, _<_}
+use mathlib.Core.Logic.{⊎-elim}
+use native.Mathlib.Omega.{arith}
 use borrow.Fn.Kinds.{In}
 use borrow.Fn.PlainCycle.{Measures, is, falls, and}
+use Rattle.nodes.proofs.ReadLaws.{read-below}
+use Rattle.keeping.proofs.OrderLaws.{Followed, followed, followed-not, follows-no, follows-node}
 use Rattle.keeping.proofs.order.in_order.Reads as in-order
 use Rattle.keeping.proofs.order.in_order.Kinds as in-order-kinds
 use Rattle.keeping.proofs.order.+in_order.Lts-in_order as in-order-lts
@@ -14,7 +15,7 @@ use Rattle.keeping.proofs.order.+in_order.{statement}
 use Rattle.keeping.proofs.order.+in_order.Tie.{close}
 
 abbrev μ-in-order : Measures 1 in-order-kinds.ps ℕ
-μ-in-order κs a = a .1 .1 .1 .1 .0
+μ-in-order κs a = a .1 .1 .1 .0
 
 abbrev in-order-at : ℕ → In 1 in-order-kinds.ps
 in-order-at t = and 1 in-order-kinds.ps (is 1 in-order-kinds.ps μ-in-order t) in-order.Pre
@@ -25,84 +26,73 @@ in-order-below t =
 
 -- the contracts of what is called, at the measure t
 module _ (t : ℕ) where
-  add-if1 : in-order-lts.Need-add-if1 (read-reads.Asked, read-reads.Learnt, in-order-below t, in-order.Post) (in-order-at t) in-order.Post
-  add-if1 c = let s = c .before in let t = s .pre .1 .0 in omega (arith, t .fits, t .small, s .pre .1 .1 .0 .0)
-
-  returns : in-order-lts.Need-returns (read-reads.Asked, read-reads.Learnt, in-order-below t, in-order.Post) (in-order-at t) in-order.Post
-  returns c = let s = c .before .before in order-passed (s .pre .1 .0) (s .pre .1 .1 .0 .0) (c .if1 .taken)
-
   read-requires : in-order-lts.Need-read-requires (read-reads.Asked, read-reads.Learnt, in-order-below t, in-order.Post) (in-order-at t) in-order.Post
-  read-requires c κs = let s = c .before .before in (s .pre .1 .0, (omega (arith, c .if1 .left), s .pre .1 .1 .0 .1))
+  read-requires c κs = let s = c .before in (s .pre .1 .0, (omega (arith, s .pre .1 .1 .1), s .pre .1 .1 .2))
 
-  sub-in-order : in-order-lts.Need-sub-in-order (read-reads.Asked, read-reads.Learnt, in-order-below t, in-order.Post) (in-order-at t) in-order.Post
-  sub-in-order c = let s = c .before .before .before in steps (c .read .ensures) (s .args .levels) (s .args .left) (s .pre .1 .1 .0 .2) (s .pre .1 .1 .1) .some
+  add-if1 : in-order-lts.Need-add-if1 (read-reads.Asked, read-reads.Learnt, in-order-below t, in-order.Post) (in-order-at t) in-order.Post
+  add-if1 c = let s = c .before .before in let table = s .pre .1 .0 in omega (arith, table .fits, table .small, s .pre .1 .1 .0)
 
   in-order-requires : in-order-lts.Need-in-order-requires (read-reads.Asked, read-reads.Learnt, in-order-below t, in-order.Post) (in-order-at t) in-order.Post
   in-order-requires c κs =
       let s = c .before .before .before in
-      let x = c .read .ensures in
-      let le = s .pre .1 .1 .0 .2 in
-      let d = steps x (s .args .levels) (s .args .left) le (s .pre .1 .1 .1) in
-      (omega (arith, s .pre .0, d .some), (s .pre .1 .0, ((s .pre .1 .1 .0 .0, x .low, omega arith), d .low)))
+      let x = c .before .read .ensures in
+      let below = read-below (s .pre .1 .0) x (omega (arith, s .pre .1 .1 .1)) (s .pre .1 .1 .2) in
+      (omega (arith, s .pre .0, below .0), (s .pre .1 .0, (s .pre .1 .1 .0, c .if1 .taken, x .low)))
 
-  enum-known-a : in-order-lts.Need-enum-known-a (read-reads.Asked, read-reads.Learnt, in-order-below t, in-order.Post) (in-order-at t) in-order.Post
-  enum-known-a c = search needs
+  -- the low side was followed
+  low-side : (c : in-order-lts.Joined1 (read-reads.Asked, read-reads.Learnt, in-order-below t, in-order.Post) (in-order-at t) in-order.Post)
+      → let s = c .before .before .before in Followed (s .args .nodes .now) (s .args .kept) (s .args .n) (c .before .read .result .low) (c .if1 .a)
+  low-side c =
+      let s = c .before .before .before in
+      ⊎-elim
+      (λ w. rw (w .2) (followed (s .pre .1 .1 .0) (w .1 .ensures)))
+      (λ w. rw (w .1) (followed-not (s .pre .1 .0) (omega (arith, s .pre .1 .1 .0)) (w .0 .left)))
+      (c .if1 .came)
 
-  enum-told : in-order-lts.Need-enum-told (read-reads.Asked, read-reads.Learnt, in-order-below t, in-order.Post) (in-order-at t) in-order.Post
-  enum-told c = search needs
-
-  returns-2 : in-order-lts.Need-returns-2 (read-reads.Asked, read-reads.Learnt, in-order-below t, in-order.Post) (in-order-at t) in-order.Post
-  returns-2 c = order-low (c .before .before .before .read .ensures) (rw (c .enum-told .given .1) at (c .before .before .in-order .ensures))
-
-  sub-in-order-2 : in-order-lts.Need-sub-in-order-2 (read-reads.Asked, read-reads.Learnt, in-order-below t, in-order.Post) (in-order-at t) in-order.Post
-  sub-in-order-2 c = let s = c .before .before .before .before .before .before .before in steps (c .before .before .before .before .read .ensures) (s .args .levels) (s .args .left) (s .pre .1 .1 .0 .2) (s .pre .1 .1 .1) .some
+  add-if2 : in-order-lts.Need-add-if2 (read-reads.Asked, read-reads.Learnt, in-order-below t, in-order.Post) (in-order-at t) in-order.Post
+  add-if2 c = let s = c .before .before .before .before in let table = s .pre .1 .0 in omega (arith, table .fits, table .small, low-side (c .before) .most)
 
   in-order-requires-2 : in-order-lts.Need-in-order-requires-2 (read-reads.Asked, read-reads.Learnt, in-order-below t, in-order.Post) (in-order-at t) in-order.Post
   in-order-requires-2 c κs =
-      let s = c .before .before .before .before .before .before .before in
-      let x = c .before .before .before .before .read .ensures in
-      let le = s .pre .1 .1 .0 .2 in
-      let d = steps x (s .args .levels) (s .args .left) le (s .pre .1 .1 .1) in
-      let p = rw (c .before .a .given .1) at (c .before .before .before .in-order .ensures) in
-      (omega (arith, s .pre .0, d .some), (s .pre .1 .0, ((p .fits, x .high, omega arith), d .high)))
+      let j = c .before .before in
+      let s = j .before .before .before in
+      let x = j .before .read .ensures in
+      let below = read-below (s .pre .1 .0) x (omega (arith, s .pre .1 .1 .1)) (s .pre .1 .1 .2) in
+      (omega (arith, s .pre .0, below .1), (s .pre .1 .0, (omega (arith, c .if2 .taken, x .high), c .if2 .taken, x .high)))
 
-  enum-known-b : in-order-lts.Need-enum-known-b (read-reads.Asked, read-reads.Learnt, in-order-below t, in-order.Post) (in-order-at t) in-order.Post
-  enum-known-b c = search needs
+  -- and the high side from there
+  high-side : (c : in-order-lts.Joined2 (read-reads.Asked, read-reads.Learnt, in-order-below t, in-order.Post) (in-order-at t) in-order.Post)
+      → let j = c .before .before in let s = j .before .before .before in Followed (s .args .nodes .now) (s .args .kept) (j .if1 .a) (j .before .read .result .high) (c .if2 .b)
+  high-side c =
+      let j = c .before .before in
+      let s = j .before .before .before in
+      let high = j .before .read .ensures .high in
+      ⊎-elim
+      (λ w. rw (w .2) (followed (omega (arith, w .0 .taken)) (w .1 .ensures)))
+      (λ w. rw (w .1) (followed-not (s .pre .1 .0) (low-side j .most) (w .0 .left)))
+      (c .if2 .came)
 
-  enum-told-2 : in-order-lts.Need-enum-told-2 (read-reads.Asked, read-reads.Learnt, in-order-below t, in-order.Post) (in-order-at t) in-order.Post
-  enum-told-2 c = search needs
+  add-if3 : in-order-lts.Need-add-if3 (read-reads.Asked, read-reads.Learnt, in-order-below t, in-order.Post) (in-order-at t) in-order.Post
+  add-if3 c = let s = c .before .before .before .before .before .before in let table = s .pre .1 .0 in omega (arith, table .fits, table .small, high-side (c .before) .most)
 
-  returns-3 : in-order-lts.Need-returns-3 (read-reads.Asked, read-reads.Learnt, in-order-below t, in-order.Post) (in-order-at t) in-order.Post
-  returns-3 c =
-      let p = rw (c .before .before .before .before .a .given .1) at (c .before .before .before .before .before .before .in-order .ensures) in
-      order-high (c .before .before .before .before .before .before .before .read .ensures) p (rw (c .enum-told2 .given .1) at (c .before .before .in-order2 .ensures))
+  add-result : in-order-lts.Need-add-result (read-reads.Asked, read-reads.Learnt, in-order-below t, in-order.Post) (in-order-at t) in-order.Post
+  add-result c = let s = c .before .before .before .before .before .before .before in let table = s .pre .1 .0 in omega (arith, table .fits, table .small)
 
-  add-if2 : in-order-lts.Need-add-if2 (read-reads.Asked, read-reads.Learnt, in-order-below t, in-order.Post) (in-order-at t) in-order.Post
-  add-if2 c =
-      let t = c .before .before .before .before .before .before .before .before .before .before .before .pre .1 .0 in
-      let q = rw (c .before .b .given .1) at (c .before .before .before .in-order2 .ensures) in
-      omega (arith, q .fits, t .fits, t .small)
+  returns : in-order-lts.Need-returns (read-reads.Asked, read-reads.Learnt, in-order-below t, in-order.Post) (in-order-at t) in-order.Post
+  returns c =
+      let j = c .before .before .before .before in
+      let s = j .before .before .before in
+      follows-no (s .pre .1 .0) (j .before .read .ensures) (s .pre .1 .1 .0) (s .pre .1 .1 .1) (s .pre .1 .1 .2) (low-side j) (high-side (c .before .before)) (c .if3 .taken)
 
-  returns-4 : in-order-lts.Need-returns-4 (read-reads.Asked, read-reads.Learnt, in-order-below t, in-order.Post) (in-order-at t) in-order.Post
-  returns-4 c =
-      let s = c .before .before .before .before .before .before .before .before .before .before .before .before in
-      let p = rw (c .before .before .before .before .before .before .a .given .1) at (c .before .before .before .before .before .before .before .before .in-order .ensures) in
-      let q = rw (c .before .before .b .given .1) at (c .before .before .before .before .in-order2 .ensures) in
-      order-place (s .pre .1 .0) (c .before .before .before .before .before .before .before .before .before .read .ensures) (c .before .before .before .before .before .before .before .before .before .before .if1 .left) (s .pre .1 .1 .0 .1) p q (omega (arith, c .if2 .taken))
+  add-result-2 : in-order-lts.Need-add-result-2 (read-reads.Asked, read-reads.Learnt, in-order-below t, in-order.Post) (in-order-at t) in-order.Post
+  add-result-2 c = let s = c .before .before .before .before .before .before .before in let table = s .pre .1 .0 in omega (arith, table .fits, table .small, high-side (c .before .before) .most)
 
-  add-t10 : in-order-lts.Need-add-t10 (read-reads.Asked, read-reads.Learnt, in-order-below t, in-order.Post) (in-order-at t) in-order.Post
-  add-t10 c =
-      let t = c .before .before .before .before .before .before .before .before .before .before .before .before .pre .1 .0 in
-      let q = rw (c .before .before .b .given .1) at (c .before .before .before .before .in-order2 .ensures) in
-      omega (arith, q .fits, t .fits, t .small)
-
-  returns-5 : in-order-lts.Need-returns-5 (read-reads.Asked, read-reads.Learnt, in-order-below t, in-order.Post) (in-order-at t) in-order.Post
-  returns-5 c =
-      let s = c .before .before .before .before .before .before .before .before .before .before .before .before in
-      let p = rw (c .before .before .before .before .before .before .a .given .1) at (c .before .before .before .before .before .before .before .before .in-order .ensures) in
-      let q = rw (c .before .before .b .given .1) at (c .before .before .before .before .in-order2 .ensures) in
-      order-node (s .pre .1 .0) (c .before .before .before .before .before .before .before .before .before .read .ensures) (c .before .before .before .before .before .before .before .before .before .before .if1 .left) (s .pre .1 .1 .0 .1) p q (omega (arith, c .if2 .left))
+  returns-2 : in-order-lts.Need-returns-2 (read-reads.Asked, read-reads.Learnt, in-order-below t, in-order.Post) (in-order-at t) in-order.Post
+  returns-2 c =
+      let j = c .before .before .before .before in
+      let s = j .before .before .before in
+      follows-node (s .pre .1 .0) (j .before .read .ensures) (s .pre .1 .1 .0) (s .pre .1 .1 .1) (s .pre .1 .1 .2) (low-side j) (high-side (c .before .before)) (c .if3 .left)
 
 pub +in-order-spec : {M : Type 1} → statement M
 +in-order-spec = close μ-in-order λ t. in-order-lts.spec (read-reads.Asked, read-reads.Learnt, in-order-below t, in-order.Post) (in-order-at t) in-order.Post
-    (add-if1 t) (returns t) (read-requires t) (sub-in-order t) (in-order-requires t) (enum-known-a t) (enum-told t) (returns-2 t) (sub-in-order-2 t) (in-order-requires-2 t) (enum-known-b t) (enum-told-2 t) (returns-3 t) (add-if2 t) (returns-4 t) (add-t10 t) (returns-5 t)
+    (read-requires t) (add-if1 t) (in-order-requires t) (add-if2 t) (in-order-requires-2 t) (add-if3 t) (add-result t) (returns t) (add-result-2 t) (returns-2 t)

@@ -1,21 +1,20 @@
--- `chain::seek` meets its contract. The loop's invariant: what the chain has of the node is still ahead. The measure is p, since each
--- link leads to a smaller place. Assumes nothing.
-use Prim.Native.Nat.{_+_, _-_, _≤_}
+-- `chain::seek` meets its contract. The loop's invariant: what is found from p on is what is found from `first` on. The measure is p,
+-- since each link leads to a smaller place. Assumes nothing.
+use Prim.Native.Nat.{ℕ, _+_, _-_, _≤_}
 use native.Mathlib.Omega.{arith}
 use lib.ListN.{getD}
-use Rattle.trees.specs.Table.{NodeIs}
-use Rattle.nodes.proofs.ChainLaws.{Ahead, ahead-next, ahead-end}
+use Rattle.nodes.specs.Chains.{Sought, ended, found, passed}
 use Rattle.nodes.proofs.chain.seek.Statement.{statement}
 use Rattle.nodes.proofs.chain.seek.Tie as tie
 
 abbrev Inv-loop : tie.InvT-loop
-Inv-loop nodes work links first level low high p₀ p = (p ≤ first) × Ahead (λ i. NodeIs nodes i level low high) work links first p
+Inv-loop nodes work links first level low high p₀ p = (p ≤ first) × ((r : ℕ) → Sought nodes links work level low high p r → Sought nodes links work level low high first r)
 
 abbrev μ-loop : tie.MeasureT-loop
 μ-loop nodes work links first level low high p₀ p = p
 
 loop-holds : tie.Need-loop-holds Inv-loop μ-loop
-loop-holds c = (omega arith, λ i r e. r)
+loop-holds c = (omega arith, λ r s. s)
 
 cast-j : tie.Need-cast-j Inv-loop μ-loop
 cast-j c = omega arith
@@ -28,12 +27,9 @@ holds-requires c κs = let s = c .before .before .before .before in omega (arith
 
 returns : tie.Need-returns Inv-loop μ-loop
 returns c =
-    let l = c .before .before .before in
-    let nonzero = c .before .before .loop-test .taken in
-    record {
-      found = λ h. (l .loop .inv .0, rw (c .if1 .taken) at (c .before .holds .ensures));
-      missed = λ e. absurd (nonzero e);
-    }
+    let l = c .before .before .before .loop in
+    let some = c .before .before .loop-test .taken in
+    l .inv .1 (l .p) (found (l .p) (l .p - 1) (l .p) (omega arith) (rw (c .if1 .taken) at (c .before .holds .ensures)) (omega arith))
 
 add-p : tie.Need-add-p Inv-loop μ-loop
 add-p c = let s = c .before .before .before .before .before .before in omega (arith, s .pre .room, c .before .before .before .loop .inv .0, c .before .before .loop-test .taken)
@@ -54,20 +50,12 @@ loop-less c = omega (arith, link c, c .before .before .before .loop-test .taken)
 
 loop-again : tie.Need-loop-again Inv-loop μ-loop
 loop-again c =
-    let a = c .before .before .before .before .before .before .before .args in
-    let l = c .before .before .before .before .loop in (
-      omega (arith, link c, l .inv .0),
-      ahead-next (λ i. NodeIs (a .nodes .now) i (a .level) (a .low) (a .high)) (a .work .now) (a .links) (a .first) (l .p) (l .inv .1) (rw (c .before .if1 .left) at (c .before .before .holds .ensures)),
-    )
+    let l = c .before .before .before .before .loop in
+    let some = c .before .before .before .loop-test .taken in
+    (omega (arith, link c, l .inv .0), λ r s. l .inv .1 r (passed (l .p) (l .p - 1) r (omega arith) (rw (c .before .if1 .left) at (c .before .before .holds .ensures)) s))
 
 returns-2 : tie.Need-returns-2 Inv-loop μ-loop
-returns-2 c =
-    let a = c .before .before .before .before .args in
-    let l = c .before .loop in
-    record {
-      found = λ h. absurd (omega (arith, c .loop-test .left));
-      missed = λ e. ahead-end (λ i. NodeIs (a .nodes .now) i (a .level) (a .low) (a .high)) (a .work .now) (a .links) (a .first) (l .p) e (l .inv .1);
-    }
+returns-2 c = let l = c .before .loop in let none = c .loop-test .left in l .inv .1 (l .p) (ended (l .p) (l .p) none none)
 
 pub seek-spec : {M : Type 1} → statement M
 seek-spec =

@@ -1,8 +1,10 @@
--- `slot` meets its contract. Assumes nothing.
+-- `chain::slot` meets its contract. Assumes nothing.
+use Prim.Native.Nat.{ℕ, _+_, _*_}
 use mathlib.Core.Path.{refl}
-use native.Mathlib.Nat.{mod-lt}
+use native.Mathlib.Omega.{arith}
 use borrow.Author.Needs.{needs}
 use Rattle.nodes.specs.Chains.{spread}
+use Rattle.nodes.proofs.ChainLaws.{share-fits, share-below}
 use Rattle.nodes.proofs.chain.slot.Statement.{statement}
 use Rattle.nodes.proofs.chain.slot.Tie as tie
 
@@ -21,17 +23,18 @@ mul-mixed-3 c = search needs
 add-mixed-2 : tie.Need-add-mixed-2
 add-mixed-2 c = search needs
 
-add-result : tie.Need-add-result
-add-result c = search needs
+-- the sum of the three products
+mixed : tie.Start → ℕ
+mixed c = c .args .a * 625341585 + c .args .b * 668265263 + c .args .c * 374761393
 
-rem-result : tie.Need-rem-result
-rem-result c = search needs
+mul-result : tie.Need-mul-result
+unfolding mixed
+mul-result c = omega (arith, share-fits (mixed c) (c .args .size) (c .pre .1))
 
 returns : tie.Need-returns
-unfolding spread
-returns c = (mod-lt _ (c .pre), refl)
+unfolding spread mixed
+returns c = (share-below (mixed c) 4294967296 (c .args .size) (omega arith) (c .pre .0), refl)
 
 pub slot-spec : {M : Type 1} → statement M
 slot-spec =
-    tie.close
-    (tie.spec mul-mixed mul-mixed-2 add-mixed mul-mixed-3 add-mixed-2 add-result rem-result returns)
+    tie.close (tie.spec mul-mixed mul-mixed-2 add-mixed mul-mixed-3 add-mixed-2 mul-result returns)

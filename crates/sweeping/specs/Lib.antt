@@ -1,0 +1,2 @@
+-- What the canonical sweep promises.
+pub mod Sweeps

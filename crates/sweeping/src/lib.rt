@@ -1,0 +1,161 @@
+// The canonical sweep: the diagrams of some references, copied in canonical order into a table of their own, with the visits
+// that it takes. The work slice holds that table in its first 3 * c numbers, and behind it, for each place of the nodes, 0 or
+// one more than the reference that its diagram has in the new table. Assumes nothing.
+use nodes::Node;
+use nodes::read;
+use nodes::zero;
+ghost use mathlib.Core.Path.{_≡_};
+ghost use Prim.Native.Nat.{ℕ, _+_, _*_, _-_, _/_, _<_, _≤_};
+ghost use mathlib.Core.List.{_++_};
+ghost use lib.ListN.{length, getD, set, take, replicate};
+ghost use Rattle.nodes.specs.Nodes.{Table, Rows};
+ghost use Rattle.sweeping.specs.Sweeps.{Noted, Ordered, Emitted, Copied, Renewal};
+
+// What the sweep of a diagram answers: the count of nodes of the new table, the diagram's reference there, and how many
+// visits the sweep took: one for each reference that it followed.
+struct Swept {
+    count: u32,
+    reference: u32,
+    visits: u32,
+}
+
+// Writes a node at place n of the new table, and at j the note that it stands there.
+fn emit(work: &mut [u32], n: u32, j: usize, x: Node)
+    requires { ⌜ (n < 4096) × (3 * n + 2 < length (now work)) × (j < length (now work)) ⌝ }
+    ensures { λ _. ⌜ now (work .exit) ≡ set (set (set (set (now (work .entry)) (3 * n) (x .level)) (3 * n + 1) (x .low)) (3 * n + 2) (x .high)) j (n + 3) ⌝ }
+{
+    let i = 3 * (n as usize);
+    work[i] = x.level;
+    work[i + 1] = x.low;
+    work[i + 2] = x.high;
+    work[j] = n + 3;
+}
+
+// Adds the diagram r of the first m nodes to the new table of n nodes. A leaf, or a node that has a note, is visited and goes
+// no further.
+fn sweep(nodes: &[u32], m: u32, work: &mut [u32], c: usize, n: u32, r: u32) -> Swept
+    requires { ⌜ Noted (now nodes) m (now work) c n ⌝ }
+    requires { ⌜ Ordered (now nodes) m r ⌝ }
+    ensures { λ x. ⌜ Emitted (now (nodes .entry)) m r (now (work .entry)) (now (work .exit)) c n (x .count) (x .reference) (x .visits) ⌝ }
+{
+    if r < 2 {
+        return Swept {
+            count: n,
+            reference: r,
+            visits: 1,
+        };
+    }
+    let note = work[3 * c + (r as usize - 2)];
+    if note == 0 {
+        return apart(nodes, m, work, c, n, r);
+    }
+    Swept {
+        count: n,
+        reference: note - 1,
+        visits: 1,
+    }
+}
+
+// Adds the node r, which has no note, and its sides: low side first, then high, then the node itself. It is in the new table
+// nowhere, so it is written without a search.
+fn apart(nodes: &[u32], m: u32, work: &mut [u32], c: usize, n: u32, r: u32) -> Swept
+    requires { ⌜ Noted (now nodes) m (now work) c n ⌝ }
+    requires { ⌜ Ordered (now nodes) m r ⌝ }
+    requires { ⌜ (2 ≤ r) × (getD (now work) (3 * c + (r - 2)) 0 ≡ 0) ⌝ }
+    ensures { λ x. ⌜ Emitted (now (nodes .entry)) m r (now (work .entry)) (now (work .exit)) c n (x .count) (x .reference) (x .visits) ⌝ }
+{
+    let j = 3 * c + (r as usize - 2);
+    let x = read(nodes, m, r);
+    let a = sweep(nodes, m, work, c, n, x.low);
+    let b = sweep(nodes, m, work, c, a.count, x.high);
+    let y = Node {
+        level: x.level,
+        low: a.reference,
+        high: b.reference,
+    };
+    emit(work, b.count, j, y);
+    Swept {
+        count: b.count + 1,
+        reference: b.count + 2,
+        visits: a.visits + b.visits + 1,
+    }
+}
+
+// What the sweep of all rows answers: the count of nodes of the canonical table, the rows' references there, and all visits.
+pub struct Renewed {
+    pub kept: u32,
+    pub refs: [u32; 64],
+    pub visits: u32,
+}
+
+// Sweeps the diagrams of the first `count` references, in order, into an empty table. The notes of the m nodes are 0 before.
+fn sweep_all(
+    nodes: &[u32],
+    m: u32,
+    work: &mut [u32],
+    c: usize,
+    levels: u32,
+    refs: &[u32; 64],
+    count: u32,
+) -> Renewed
+    requires { ⌜ Table (now nodes) m ⌝ }
+    requires { ⌜ (length (now nodes) ≡ 3 * c) × (4 * c ≤ length (now work)) × (length (now refs) ≡ 64) ⌝ }
+    requires { ⌜ ((i : ℕ) → 3 * c ≤ i → i < 3 * c + m → getD (now work) i 0 ≡ 0) ⌝ }
+    requires { ⌜ Rows (now nodes) m levels (now refs) count ⌝ }
+    ensures { λ x. ⌜ Copied (now (nodes .entry)) m levels (now (refs .entry)) count (now (work .entry)) (now (work .exit)) c (x .kept) (x .refs) (x .visits) ⌝ }
+{
+    let mut out = [0; 64];
+    let mut n = 0;
+    let mut visits = 0;
+    let mut i = 0;
+    while i < count {
+        let j = i as usize;
+        let s = sweep(nodes, m, work, c, n, refs[j]);
+        out[j] = s.reference;
+        n = s.count;
+        visits += s.visits;
+        i += 1;
+    }
+    Renewed {
+        kept: n,
+        refs: out,
+        visits,
+    }
+}
+
+// Copies the first n nodes of `work` to `nodes`, and sets the rest of `nodes` to 0.
+fn copy_back(work: &[u32], nodes: &mut [u32], n: u32)
+    requires { ⌜ (3 * n ≤ length (now work)) × (3 * n ≤ length (now nodes)) ⌝ }
+    ensures { λ _. ⌜ now (nodes .exit) ≡ take (3 * n) (now (work .entry)) ++ replicate (length (now (nodes .entry)) - 3 * n) 0 ⌝ }
+{
+    let k = 3 * (n as usize);
+    let mut i = 0;
+    while i < k {
+        nodes[i] = work[i];
+        i += 1;
+    }
+    let end = nodes.len();
+    zero(nodes, k, end);
+}
+
+// Makes the nodes the canonical table of the diagrams of the first `count` references: the rows in order, each diagram
+// low side first, children before parents, each node once. The work slice is changed before 4 * c, c being the nodes' places.
+pub fn renew(
+    nodes: &mut [u32],
+    m: u32,
+    work: &mut [u32],
+    levels: u32,
+    refs: &[u32; 64],
+    count: u32,
+) -> Renewed
+    requires { ⌜ Table (now nodes) m ⌝ }
+    requires { ⌜ (length (now nodes) ≡ 3 * (length (now nodes) / 3)) × (4 * (length (now nodes) / 3) ≤ length (now work)) × (length (now refs) ≡ 64) ⌝ }
+    requires { ⌜ Rows (now nodes) m levels (now refs) count ⌝ }
+    ensures { λ x. ⌜ Renewal (now (nodes .entry)) m levels (now (refs .entry)) count (now (work .entry)) (now (nodes .exit)) (now (work .exit)) (x .kept) (x .refs) (x .visits) ⌝ }
+{
+    let c = nodes.len() / 3;
+    zero(work, 3 * c, 3 * c + m as usize);
+    let x = sweep_all(nodes, m, work, c, levels, refs, count);
+    copy_back(work, nodes, x.kept);
+    x
+}

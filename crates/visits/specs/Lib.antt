@@ -1,0 +1,2 @@
+-- The complement and the sweep, with their visits.
+pub mod Visits

@@ -1,0 +1,3 @@
+-- What the walks over diagrams promise.
+pub mod Walks
+pub mod Desks
