@@ -1,14 +1,14 @@
 -- Laws of the lent tables: their lengths, and what clears them. Assumes nothing.
-use Prim.Native.Nat.{ℕ, zero, suc, _+_, _-_, _*_, _/_, _%_, _≤_, _<_}
+use Prim.Native.Nat.{ℕ, _+_, _-_, _*_, _/_, _%_, _≤_, _<_}
 use mathlib.Core.Path.{_≡_, refl, ap, sym, _∙_}
 use mathlib.Core.Bool.{Bool, false, _&&_}
-use mathlib.Core.List.{List, _++_}
+use mathlib.Core.List.{List}
 use mathlib.Core.Logic.{_≢_}
 use native.Mathlib.Decide.{ℕ-discrete}
 use native.Mathlib.Omega.{arith}
-use lib.Dec.{eqb, ltb, leb}
-use lib.ListN.{length, getD, set, drop, replicate, length-set, length-drop, length-append, length-replicate, getD-replicate}
-use lib.Seq.{drop-append-add, drop-drop, ext-getD, getD-set-same, getD-set-other}
+use lib.Dec.{eqb}
+use lib.ListN.{length, getD, set, replicate, length-set, length-replicate, getD-replicate}
+use lib.Seq.{ext-getD, getD-set-same, getD-set-other}
 use borrow.Author.Tests.{eq-eqb, ne-eqb, lt-ltb, le-ltb, le-leb, lt-leb}
 use Rattle.trees.specs.Kept.{allBelow}
 use Rattle.meaning.specs.declared.State.{State}
@@ -59,16 +59,6 @@ clear-more xs ys i h z = record { size = length-set ys i 0 ∙ z .size; zeros = 
 pub clear-all : (xs ys : List ℕ) (i : ℕ) → length ys ≤ i → Cleared xs i ys → ys ≡ replicate (length xs) 0
 clear-all xs ys i h z = ext-getD 0 ys (replicate (length xs) 0) (z .size ∙ sym (length-replicate {A = ℕ} (length xs) 0))
     (λ j l. z .zeros j (omega arith) ∙ sym (getD-replicate {A = ℕ} (length xs) j 0 0 (rw (z .size) at l)))
-
--- the first h numbers are 0, and h is at most w
-pub beyond-zeros : (h w : ℕ) (xs ys : List ℕ) → h ≤ w → w ≤ length xs → ys ≡ replicate h 0 ++ drop h xs → Beyond w xs ys
-beyond-zeros h w xs ys a b e =
-    let size : length (replicate {A = ℕ} h 0) ≡ h = length-replicate h 0 in
-    let whole : length (replicate h 0 ++ drop h xs) ≡ length xs = length-append (replicate h 0) (drop h xs) ∙ rw (length-drop h xs) (omega (arith, size)) in
-    let split : length (replicate {A = ℕ} h 0) + (w - h) ≡ w = omega (arith, size) in
-    let rest : drop (length (replicate {A = ℕ} h 0) + (w - h)) (replicate h 0 ++ drop h xs) ≡ drop (h + (w - h)) xs =
-    drop-append-add (replicate h 0) (drop h xs) (w - h) ∙ drop-drop (w - h) h xs in
-    record { size = ap length e ∙ whole; rest = ap (drop w) e ∙ (rw split at rest) ∙ (let z : h + (w - h) ≡ w = omega arith in ap (λ (n : ℕ). drop n xs) z) }
 
 -- nothing is changed
 pub beyond-same : (w : ℕ) (xs : List ℕ) → Beyond w xs xs

@@ -26,27 +26,6 @@ pub fn lengths_right(k: u32, nodes: &[u32], values: &[u32]) -> bool
     values.len() == (4 * numbers::most(k)) as usize
 }
 
-// How many buckets the check of the lists spreads values over: about one for each value that can have a number, and no more than
-// the first w numbers of the work slice leave room for beside 1,023 links. No power of 2, so that values numbered in steps of a round
-// number don't all fall into one.
-fn heads(k: u32, w: usize) -> usize
-    requires { ⌜ (k ≤ 10) × (1024 ≤ w) ⌝ }
-    ensures { λ r. ⌜ (0 < r) × (r + 1023 ≤ w) ⌝ }
-{
-    let values = numbers::most(k) as usize;
-    let room = w - 1023;
-    if values < 1 {
-        return 1;
-    }
-    if room < values {
-        return room;
-    }
-    if 1021 < values {
-        return 1021;
-    }
-    values
-}
-
 // Whether the count of rows is the rule's n, and the value lists are right: a part of refusal 4. Only the first w numbers of the work
 // slice are used.
 pub fn lists_right(state: State, n: usize, values: &[u32], w: usize, work: &mut [u32]) -> bool
@@ -59,7 +38,7 @@ pub fn lists_right(state: State, n: usize, values: &[u32], w: usize, work: &mut 
         return false;
     }
     let counts = state.counts;
-    numbers::lists_right(state.k, counts, values, heads(state.k, w), work)
+    numbers::lists_right(state.k, counts, values, w, work)
 }
 
 // Every number of the slice becomes 0.

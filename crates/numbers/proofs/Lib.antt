@@ -6,6 +6,6 @@ pub mod TallyLaws
 pub mod WalkLaws
 pub mod StartLaws
 pub mod WritingLaws
-pub mod ChainsLaws
+pub mod SlotsLaws
 pub mod ListsLaws
 pub mod AskedLaws

@@ -4,18 +4,19 @@ use mathlib.Core.Path.{_≡_, refl, ap, sym, _∙_}
 use mathlib.Core.Bool.{Bool, true, false, _&&_, _||_}
 use mathlib.Core.List.{List, _++_}
 use mathlib.Core.Logic.{⊎-elim}
+use native.Mathlib.Numerals.{add-one}
 use native.Mathlib.Omega.{arith}
+use lib.Bits.{bitOr, or-add-and, and-le-l, and-le-r}
 use lib.Dec.{eqb, ltb}
-use lib.ListN.{length, getD, take, drop, set, replicate, length-drop, length-replicate, getD-replicate, List·getD-append}
-use lib.Seq.{getD-take, getD-drop, drop-drop, drop-append-add, drop-set-lt, length-take-le}
-use borrow.Author.Tests.{ltb-true, lt-ltb, le-leb, lt-leb}
+use lib.ListN.{length, getD, take, drop, replicate, length-drop, length-replicate, getD-replicate, List·getD-append}
+use lib.Seq.{getD-take, getD-drop, drop-drop, drop-append-add, length-take-le}
+use borrow.Author.Tests.{ne-eqb, ltb-true, lt-ltb, le-leb, lt-leb}
 use Rattle.trees.specs.Kept.{allBelow}
-use Rattle.trees.proofs.Tests.{lt-or-ge, false-true, not-true, or-cases, or-l, or-r, iff-eq}
+use Rattle.trees.proofs.Tests.{EqCase, equal, other, eq-case, lt-or-ge, false-true, not-true, or-cases, or-l, or-r, iff-eq}
 use Rattle.trees.proofs.KeptLaws.{all-at, all-of}
 use Rattle.meaning.specs.Tables.{most, part, listOf, distinct, listRight}
 use Rattle.numbers.specs.Asking.{withCounts}
-use Rattle.numbers.specs.Chains.{partRight}
-use Rattle.numbers.proofs.ChainsLaws.{joined}
+use Rattle.numbers.specs.Slots.{partRight}
 
 -- a test of all numbers below n that fails of one fails, and one that holds of each holds
 pub all-false : (n : ℕ) (f : ℕ → Bool) (i : ℕ) → i < n → f i ≡ false → false ≡ allBelow n f
@@ -23,6 +24,20 @@ all-false n f i h e = sym (not-true (allBelow n f) (λ t. false-true e (all-at n
 
 pub all-true : (n : ℕ) (f : ℕ → Bool) → ((i : ℕ) → i < n → f i ≡ true) → true ≡ allBelow n f
 all-true n f h = sym (all-of n f h)
+
+-- one number more is 0, or has a bit
+pub zero-more : (list : List ℕ) (i bits : ℕ) → eqb bits 0 ≡ allBelow i (λ j. eqb (getD list j 0) 0)
+    → eqb (bitOr bits (getD list i 0)) 0 ≡ allBelow (i + 1) (λ j. eqb (getD list j 0) 0)
+unfolding allBelow
+zero-more list i bits e = rw (add-one i, ← e) (go (eqb bits 0) (eq-case bits 0) (eqb x 0) (eq-case x 0))
+  where
+    x : ℕ
+    x = getD list i 0
+
+    go : (s : Bool) → EqCase bits 0 s → (t : Bool) → EqCase x 0 t → eqb (bitOr bits x) 0 ≡ (s && t)
+    go true (equal p) true (equal q) = rw (p, q)
+    go true (equal p) false (other q) = ne-eqb (bitOr bits x) 0 (λ z. q (omega (arith, or-add-and bits x, and-le-l bits x)))
+    go false (other p) t q = ne-eqb (bitOr bits x) 0 (λ z. p (omega (arith, or-add-and bits x, and-le-r bits x)))
 
 -- the part of one variable
 module _ (m count : ℕ) (xs : List ℕ) where
@@ -93,7 +108,3 @@ clear-beyond n b xs h =
     let y : n + (b - n) ≡ b = omega arith in
     ap (λ (i : ℕ). drop i (replicate n 0 ++ drop n xs)) (sym z)
     ∙ (drop-append-add (replicate n 0) (drop n xs) (b - n) ∙ (drop-drop (b - n) n xs ∙ ap (λ (i : ℕ). drop i xs) y))
-
--- a place that joins a chain leaves what lies beyond
-pub joined-beyond : (work : List ℕ) (heads n b B : ℕ) → heads + n < B → b < B → drop B (joined work heads n b) ≡ drop B work
-joined-beyond work heads n b B h k = drop-set-lt B (set work (heads + n) (getD work b 0)) b (n + 1) k ∙ drop-set-lt B work (heads + n) (getD work b 0) h

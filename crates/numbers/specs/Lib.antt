@@ -2,4 +2,4 @@
 pub mod Matching
 pub mod Asking
 pub mod Writing
-pub mod Chains
+pub mod Slots

@@ -8,7 +8,7 @@ use lib.ListN.{length, getD, take, drop, length-drop}
 use lib.Seq.{length-take-le}
 use borrow.Author.Count.{below-more}
 use borrow.Author.Tests.{not-true, not-false}
-use Rattle.numbers.specs.Chains.{partRight}
+use Rattle.numbers.specs.Slots.{partRight}
 use Rattle.numbers.proofs.SettledLaws.{part-inside}
 use Rattle.numbers.proofs.ListsLaws.{all-false, all-true}
 use borrow.Author.Needs.{needs}
@@ -16,11 +16,11 @@ use Rattle.numbers.proofs.lists.all_right.Statement.{statement}
 use Rattle.numbers.proofs.lists.all_right.Tie as tie
 
 abbrev Inv-loop : tie.InvT-loop
-Inv-loop m values heads work₀ counts v₀ work v = (v ≤ 4) × (length work ≡ length work₀) × (drop (heads + 1023) work ≡ drop (heads + 1023) work₀)
+Inv-loop m values room work₀ counts v₀ work v = (v ≤ 4) × (length work ≡ length work₀) × (drop (room) work ≡ drop (room) work₀)
     × ((w : ℕ) → w < v → partRight m (getD counts w 0) (take m (drop (w * m) values)) ≡ true)
 
 abbrev μ-loop : tie.MeasureT-loop
-μ-loop m values heads work₀ counts v₀ work v = 4 - v
+μ-loop m values room work₀ counts v₀ work v = 4 - v
 
 -- the part of a variable is one of four
 inside : (c : tie.In-loop Inv-loop μ-loop) → let l = c .before in let a = l .before .before .before .args in l .loop .v * a .m + a .m ≤ 4 * a .m
@@ -62,7 +62,7 @@ list-right-requires c κs =
     let s = l .before .before .before in
     let a = s .args in
     let z : l .loop .v * a .m + a .m - l .loop .v * a .m ≡ a .m = omega arith in (
-      record { some = s .pre .0 .some; room = omega (arith, l .loop .inv .1, s .pre .0 .room) },
+      record { some = s .pre .0 .some; inside = omega (arith, l .loop .inv .1, s .pre .0 .inside) },
       s .pre .1,
       rw z (length-take-le (a .m) (drop (l .loop .v * a .m) (a .values .now)) (rw (length-drop, s .pre .2) (omega (arith, inside (c .before .before))))),
     )

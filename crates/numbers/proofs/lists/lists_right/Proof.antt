@@ -1,9 +1,6 @@
 -- `lists_right` meets its contract. Assumes nothing.
 use native.Mathlib.Omega.{arith}
-use Prim.Native.Nat.{ℕ, _+_}
-use mathlib.Core.Path.{ap, _∙_}
-use mathlib.Core.List.{List, _++_}
-use lib.ListN.{replicate}
+use mathlib.Core.Path.{_∙_}
 use Rattle.numbers.proofs.StartLaws.{most-le}
 use Rattle.numbers.proofs.ListsLaws.{lists-same}
 use borrow.Author.Needs.{needs}
@@ -22,26 +19,15 @@ all-right-requires c κs =
     let m = c .before .most .ensures in
     (s .pre .2, omega (arith, m, most-le (s .args .k) (s .pre .0)), rw m (s .pre .1))
 
-add-clear : tie.Need-add-clear
-add-clear c = search needs
-
-clear-requires : tie.Need-clear-requires
-clear-requires c κs = search needs
-
 same-length : tie.Need-same-length
 same-length c = search needs
 
 returns : tie.Need-returns
 returns c =
-    let a = c .before .before .before .before .before .before .before .before .before .before .before .args in
-    let d = c .before .before .before .before .before .before .all-right .ensures in
-    let m = c .before .before .before .before .before .before .before .before .most in
-    record {
-      answer = d .answer ∙ lists-same (a .k) (m .result) (a .counts) (a .values .now) (m .ensures);
-      work = c .before .before .clear .ensures ∙ ap (λ (xs : List ℕ). replicate (a .heads + 1023) 0 ++ xs) (d .beyond);
-    }
+    let a = c .before .before .before .before .before .before .before .args in
+    let d = c .before .before .all-right .ensures in
+    let m = c .before .before .before .before .most in
+    record { answer = d .answer ∙ lists-same (a .k) (m .result) (a .counts) (a .values .now) (m .ensures); beyond = d .beyond }
 
 pub lists-right-spec : {M : Type 1} → statement M
-lists-right-spec =
-    tie.close
-    (tie.spec most-requires cast-m all-right-requires add-clear clear-requires same-length returns)
+lists-right-spec = tie.close (tie.spec most-requires cast-m all-right-requires same-length returns)
