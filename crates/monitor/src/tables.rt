@@ -38,7 +38,7 @@ pub fn lists_right(state: State, n: usize, values: &[u32], w: usize, work: &mut 
         return false;
     }
     let counts = state.counts;
-    numbers::lists_right(state.k, counts, values, w, work)
+    lists::lists_right(state.k, counts, values, w, work)
 }
 
 // Every number of the slice becomes 0.

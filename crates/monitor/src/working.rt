@@ -88,7 +88,7 @@ fn work_on(
     match told {
         Told::Done(kept, room) => {
             let old = state.counts;
-            numbers::write_fresh(state.k, old, asked, values);
+            lists::write_fresh(state.k, old, asked, values);
             let counts = asked.counts;
             taken(state, counts, refs, kept, room)
         }
@@ -117,7 +117,7 @@ pub fn judged(
     let counts = state.counts;
     let asked = numbers::ask(state.k, counts, values, rows, event);
     let grown = asked.counts;
-    let v = numbers::shortest(state.k, grown);
+    let v = lists::shortest(state.k, grown);
     if v < 4 {
         return refused_formed(state, free, nodes, work, 6, v);
     }
