@@ -34,15 +34,6 @@ slot-low size y h =
     let below : low < 4294967296 = mod-lt (bitXor (y * 2654435769 % 4294967296) (y * 2654435769 % 4294967296 / 32768) * 3266489909) (omega arith) in
     div-lt-iff-lt-mul {k = 4294967296} {x = low * size} {y = size} (omega arith) .1 (rw (mul-comm size 4294967296) (mul-lt-mul-of-pos-right below h))
 
--- it goes on at a slot of the table
-pub next-low : (size p : ℕ) → p < size → nextOf size p < size
-unfolding nextOf
-next-low size p h = go (eqb (p + 1) size) (eq-case (p + 1) size)
-  where
-    go : (t : Bool) → EqCase (p + 1) size t → cond t 0 (p + 1) < size
-    go true (equal e) = omega arith
-    go false (other e) = omega (arith, e)
-
 -- how far it is from the slot p on to the slot t
 unfoldable pub distance : ℕ → ℕ → ℕ → ℕ
 distance size t p = cond (leb p t) (t - p) (size - p + t)
