@@ -1,5 +1,5 @@
 -- What follows from the definitions. The proofs of the functions stand beside these files.
-pub mod TablesLaws
+pub mod LentLaws
 pub mod StartLaws
 pub mod OneOutcome
 pub mod DecisionLaws

@@ -25,8 +25,9 @@ use Rattle.meaning.proofs.RunLaws.{few, Laid}
 use Rattle.meaning.proofs.AnyState.{laid-formed}
 use Rattle.numbers.specs.declared.Asked.{Asked}
 use Rattle.numbers.specs.Asking.{withCounts, numberIn, Asks, Askable}
-use Rattle.numbers.specs.Writing.{withFresh, Writable}
-use Rattle.numbers.proofs.AskedLaws.{lists-of, shortest-is, writable, written-is}
+use Rattle.numbers.proofs.AskedLaws.{lists-of}
+use Rattle.lists.specs.Writing.{withFresh, Writable}
+use Rattle.lists.proofs.WrittenLaws.{shortest-is, writable, written-is}
 use Rattle.diagram.specs.declared.Instruction.{Instruction}
 use Rattle.diagram.specs.declared.Instruction.the-variants.{Yes}
 use Rattle.diagram.specs.declared.Told.{Told}

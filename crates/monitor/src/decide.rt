@@ -1,6 +1,6 @@
 // What is decided of a call: k, the rule and the lengths (refusals 1 to 3). The first refusal that applies is given.
 use crate::Decision;
-use crate::tables;
+use crate::lent;
 use rule::Checked;
 ghost use mathlib.Core.Path.{_≡_};
 ghost use mathlib.Core.Bool.{_&&_};
@@ -56,6 +56,6 @@ pub fn judge(k: u32, checked: Checked, nodes: &[u32], values: &[u32]) -> Decisio
         return Decision::Refused(1, 0);
     }
     let rule = of_rule(checked);
-    let lengths = of_lengths(tables::lengths_right(k, nodes, values));
+    let lengths = of_lengths(lent::lengths_right(k, nodes, values));
     first(rule, lengths)
 }

@@ -1,7 +1,7 @@
 // The monitor: a start checks k, the rule and the lengths, and clears the lent tables; an event is judged, and taken or refused.
 // What each call answers and leaves is defined in the crate `meaning`.
 mod decide;
-mod tables;
+mod lent;
 mod working;
 
 use meaning::Answer;
@@ -62,8 +62,8 @@ pub fn start(k: u32, rows: &[u32], nodes: &mut [u32], values: &mut [u32]) -> Tur
     if let Decision::Refused(number, place) = decision {
         return refused_start(number, place);
     }
-    tables::zero(nodes);
-    tables::zero(values);
+    lent::zero(nodes);
+    lent::zero(values);
     started(k, (rows.len() / 9) as u32)
 }
 
@@ -115,8 +115,8 @@ pub fn event_on(
     if work.len() < w {
         return refused(figures, 3, 0);
     }
-    if !tables::lists_right(figures, rows.len() / 9, values, w, work) {
-        tables::zero(&mut work[0..w]);
+    if !lent::lists_right(figures, rows.len() / 9, values, w, work) {
+        lent::zero(&mut work[0..w]);
         return refused(figures, 4, 0);
     }
     let free = rule.free;

@@ -96,7 +96,7 @@ fn work_on(
     match told {
         Told::Done(kept, room) => {
             let old = figures.counts;
-            numbers::write_fresh(figures.k, old, asked, values);
+            lists::write_fresh(figures.k, old, asked, values);
             let counts = asked.counts;
             taken(figures, counts, refs, kept, room)
         }
@@ -126,7 +126,7 @@ pub fn judged(
     let counts = figures.counts;
     let asked = numbers::ask(figures.k, counts, values, rows, event);
     let grown = asked.counts;
-    let v = numbers::shortest(figures.k, grown);
+    let v = lists::shortest(figures.k, grown);
     if v < 4 {
         return refused_formed(figures, refs, free, nodes, work, 6, v);
     }

@@ -5,7 +5,4 @@ pub mod SettledLaws
 pub mod TallyLaws
 pub mod WalkLaws
 pub mod StartLaws
-pub mod WritingLaws
-pub mod ChainsLaws
-pub mod ListsLaws
 pub mod AskedLaws

@@ -1,5 +1,3 @@
 -- What the functions of this crate promise, over the definitions of `meaning`.
 pub mod Matching
 pub mod Asking
-pub mod Writing
-pub mod Chains

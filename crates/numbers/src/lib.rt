@@ -1,13 +1,9 @@
-// The monitor's value lists: which values have numbers, which an event asks for, how they are written down, and their check.
+// Numbers for values: which atoms match an event, and which numbers it asks for. Nothing is written to the value slice here.
 // What each function promises is in specs/; the lists themselves are those of `meaning`.
 pub mod asking; // asking.rt: what an event asks
-pub mod lists; // lists.rt: the lists in the value slice
 pub mod matching; // matching.rt: the atoms that match an event
 
 pub use asking::ask;
-pub use lists::lists_right;
-pub use lists::shortest;
-pub use lists::write_fresh;
 pub use matching::matches;
 use meaning::Event;
 ghost use mathlib.Core.Path.{_≡_};

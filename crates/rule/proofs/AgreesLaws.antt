@@ -14,11 +14,11 @@ use Rattle.meaning.specs.declared.Event.{Event}
 use Rattle.meaning.specs.Qtl.{Argument}
 use Rattle.meaning.specs.Rows.{Row, field, argumentAt, ofKind, rowAt, rowsUpTo, rowCount, ruleOf}
 use Rattle.meaning.specs.Outcome.{agrees, allAgree, countRight}
-use Rattle.rule.specs.Checking.{otherCount, Agrees}
+use Rattle.rule.specs.Checking.{atomOf, otherCount, Agrees}
 
 -- an event agrees with a row unless the row is an atom of its predicate with another count
 agrees-kind : (e : Event) (k p q n : ℕ) (gs : List Argument) → length gs ≡ n
-    → agrees e (ofKind k p q gs) ≡ not (eqb k 2 && (eqb (e .predicate) p && not (eqb n (e .count))))
+    → agrees e (ofKind k p q gs) ≡ not ((eqb k 2 && eqb (e .predicate) p) && not (eqb n (e .count)))
 unfolding agrees ofKind
 agrees-kind e zero p q n gs h = refl
 agrees-kind e (suc zero) p q n gs h = refl
@@ -36,7 +36,7 @@ agrees-kind e (suc (suc (suc (suc (suc (suc (suc k))))))) p q n gs h = rw (ne-eq
 
 -- the same of the row at place i
 agrees-at : (raw : List ℕ) (e : Event) (i : ℕ) → agrees e (rowAt raw i) ≡ not (otherCount raw i (e .predicate) (e .count))
-unfolding rowAt otherCount
+unfolding rowAt otherCount atomOf
 agrees-at raw e i = agrees-kind e (field raw i 0) (field raw i 1) (field raw i 2) (min (field raw i 2) 3) _
     (length-take (field raw i 2) (argumentAt raw i 0 ∷ argumentAt raw i 1 ∷ argumentAt raw i 2 ∷ []))
 

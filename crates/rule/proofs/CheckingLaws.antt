@@ -8,12 +8,13 @@ use native.Mathlib.Omega.{arith}
 use lib.Dec.{eqb, ltb, leb}
 use lib.ListN.{length, getD, set, replicate, length-set, length-replicate, getD-replicate, List·getD-eq-default}
 use lib.Seq.{getD-set-same, getD-set-other}
+use borrow.Author.Tests as Tests
 use borrow.Author.Tests.{eq-eqb, ne-eqb, lt-ltb, le-ltb, le-leb, lt-leb}
 use Rattle.trees.specs.Kept.{allBelow}
-use Rattle.trees.proofs.Tests.{lt-or-ge, false-true, not-true}
+use Rattle.trees.proofs.Tests.{lt-or-ge, false-true, not-true, and-true-r}
 use Rattle.trees.proofs.KeptLaws.{all-at, all-of, not-false}
 use Rattle.meaning.specs.Qtl.{free}
-use Rattle.meaning.specs.Rows.{rowRight, rowFault, rowAt, rowCount, ruleOf, formulaAt, closed, firstBelow, right, fault, judgeRows, checkRows}
+use Rattle.meaning.specs.Rows.{rowRight, disagree, rowFault, rowAt, rowCount, ruleOf, formulaAt, closed, firstBelow, right, fault, judgeRows, checkRows}
 use Rattle.meaning.proofs.RowsLaws.{first-none, first-some, rows-length, row-ok}
 use Rattle.rule.specs.declared.Checked.the-variants.{Right}
 use Rattle.rule.specs.Masks.{hasBit, maskOf, freeOfRow}
@@ -55,6 +56,11 @@ walk-start raw = record {
 no-fault : (raw : List ℕ) (i : ℕ) → rowRight raw i ≡ true → agreesBefore raw i ≡ true → rowFault raw i ≡ false
 unfolding rowFault agreesBefore
 no-fault raw i r a = rw (r, a)
+
+-- and one that is no fault agrees with those before it
+pub agreed : (raw : List ℕ) (i : ℕ) → rowFault raw i ≡ false → agreesBefore raw i ≡ true
+unfolding rowFault agreesBefore
+agreed raw i e = and-true-r (rowRight raw i) (allBelow i (λ j. not (disagree raw i j))) (Tests.not-false (rowRight raw i && allBelow i (λ j. not (disagree raw i j))) e)
 
 -- a row that is not right is a fault
 pub fault-row : (raw : List ℕ) (i : ℕ) → rowRight raw i ≡ false → rowFault raw i ≡ true

@@ -1,9 +1,11 @@
--- Laws of masks: a mask has the bits of its test, and is put together bit by bit. Assumes nothing.
-use Prim.Native.Nat.{ℕ, zero, suc, _+_, _*_, _/_, _%_, _≤_, _<_}
+-- Laws of masks: a mask has the bits of its test, and so have what is made of masks. Assumes nothing.
+use Prim.Native.Nat.{ℕ, zero, suc, _+_, _-_, _*_, _/_, _%_, _^_, _≤_, _<_}
 use mathlib.Core.Path.{_≡_, refl, ap, sym, _∙_}
-use mathlib.Core.Bool.{Bool, true, false, not, _&&_, _||_, or-false, or-assoc}
+use mathlib.Core.Bool.{Bool, true, false, not, _&&_, _||_, and-comm, or-false, or-assoc}
 use mathlib.Core.List.{List, [], _∷_}
+use native.Mathlib.Nat.{mod-eq-of-lt}
 use native.Mathlib.Omega.{arith}
+use lib.Bits.{bitOr, bitAnd, and-le-r, or-shr, or-mod, and-shr, and-mod}
 use lib.Dec.{eqb}
 use lib.ListN.{take}
 use borrow.Author.Tests.{ne-eqb, eqb-true, eqb-false}
@@ -61,11 +63,6 @@ pub mask-same : (f g : ℕ → Bool) → ((v : ℕ) → v < 4 → f v ≡ g v) �
 unfolding maskOf
 mask-same f g h = rw (h 0 (omega arith), h 1 (omega arith), h 2 (omega arith), h 3 (omega arith))
 
--- the bit of the variable 0 is the last
-pub last-bit : (m : ℕ) → hasBit m 0 ≡ eqb (m % 2) 1
-unfolding hasBit
-last-bit m = let e : m / 1 % 2 ≡ m % 2 = omega arith in ap (λ (x : ℕ). eqb x 1) e
-
 -- two bits
 bits-two : (m : ℕ) → m % 4 ≡ m / 1 % 2 + 2 * (m / 2 % 2)
 bits-two m = omega arith
@@ -89,11 +86,50 @@ pub mask-none : maskOf (λ v. false) ≡ 0
 unfolding maskOf digit
 mask-none = refl
 
--- a sum of four digits is the mask of a test with these digits
-pub mask-by : (f : ℕ → Bool) (a b c d : ℕ) → a ≡ digit (f 0) → b ≡ digit (f 1) → c ≡ digit (f 2) → d ≡ digit (f 3)
-    → a + 2 * b + 4 * c + 8 * d ≡ maskOf f
-unfolding maskOf
-mask-by f a b c d p q r s = omega arith
+-- the bits of two numbers together, and those that both have
+or-digit : (x y : ℕ) → x < 2 → y < 2 → eqb (bitOr x y) 1 ≡ (eqb x 1 || eqb y 1)
+or-digit zero zero h k = refl
+or-digit zero (suc zero) h k = refl
+or-digit (suc zero) zero h k = refl
+or-digit (suc zero) (suc zero) h k = refl
+or-digit zero (suc (suc y)) h k = absurd (omega arith)
+or-digit (suc zero) (suc (suc y)) h k = absurd (omega arith)
+or-digit (suc (suc x)) y h k = absurd (omega arith)
+
+and-digit : (x y : ℕ) → x < 2 → y < 2 → eqb (bitAnd x y) 1 ≡ (eqb x 1 && eqb y 1)
+and-digit zero zero h k = refl
+and-digit zero (suc zero) h k = refl
+and-digit (suc zero) zero h k = refl
+and-digit (suc zero) (suc zero) h k = refl
+and-digit zero (suc (suc y)) h k = absurd (omega arith)
+and-digit (suc zero) (suc (suc y)) h k = absurd (omega arith)
+and-digit (suc (suc x)) y h k = absurd (omega arith)
+
+or-bit : (a b v : ℕ) → hasBit (bitOr a b) v ≡ (hasBit a v || hasBit b v)
+unfolding hasBit
+or-bit a b v = rw (or-shr a b v, or-mod (a / 2 ^ v) (b / 2 ^ v) 1) (or-digit (a / 2 ^ v % 2) (b / 2 ^ v % 2) (omega arith) (omega arith))
+
+and-bit : (a b v : ℕ) → hasBit (bitAnd a b) v ≡ (hasBit a v && hasBit b v)
+unfolding hasBit
+and-bit a b v = rw (and-shr a b v, and-mod (a / 2 ^ v) (b / 2 ^ v) 1) (and-digit (a / 2 ^ v % 2) (b / 2 ^ v % 2) (omega arith) (omega arith))
+
+pub mask-or : (a b : ℕ) → bitOr a b % 16 ≡ maskOf (λ v. hasBit a v || hasBit b v)
+mask-or a b = sym (mask-has (bitOr a b)) ∙ mask-same (hasBit (bitOr a b)) (λ v. hasBit a v || hasBit b v) (λ v h. or-bit a b v)
+
+-- the mask of the other variables
+mask-not : (f : ℕ → Bool) → 15 - maskOf f ≡ maskOf (λ v. not (f v))
+unfolding maskOf digit
+mask-not f = omega (arith, turned (f 0), turned (f 1), turned (f 2), turned (f 3))
+  where
+    turned : (b : Bool) → digit b + digit (not b) ≡ 1
+    turned true = refl
+    turned false = refl
+
+pub mask-and : (f : ℕ → Bool) (m s : ℕ) → s ≡ maskOf f → bitAnd m (15 - s) ≡ maskOf (λ v. not (f v) && hasBit m v)
+mask-and f m s e =
+    let low : bitAnd m (15 - s) ≡ bitAnd m (15 - s) % 16 = sym (mod-eq-of-lt (omega (arith, and-le-r m (15 - s)))) in
+    low ∙ (sym (mask-has (bitAnd m (15 - s))) ∙ mask-same (hasBit (bitAnd m (15 - s))) (λ v. not (f v) && hasBit m v)
+    (λ v h. and-bit m (15 - s) v ∙ rw (e, mask-not f, has-mask (λ v. not (f v)) v h) (and-comm (hasBit m v) (not (f v)))))
 
 -- two masks joined
 pub join-is : (f g : ℕ → Bool) {a b r : ℕ} → a ≡ maskOf f → b ≡ maskOf g → r ≡ maskOf (λ v. hasBit a v || hasBit b v) → r ≡ maskOf (λ v. f v || g v)

@@ -3,14 +3,17 @@ use Prim.Native.Nat.{ℕ, min, _+_, _*_, _≤_, _<_}
 use mathlib.Core.Path.{_≡_, refl, sym, _∙_}
 use mathlib.Core.Bool.{Bool, true, false, cond, not, _&&_, and-false}
 use mathlib.Core.List.{List}
+use mathlib.Core.Logic.{⊎-elim}
+use native.Mathlib.Omega.{arith}
 use lib.Dec.{eqb, ltb}
-use borrow.Author.Tests.{lt-ltb, le-leb, lt-leb}
+use borrow.Author.Tests as Tests
+use borrow.Author.Tests.{eq-eqb, ne-eqb, eqb-true, eqb-false, lt-ltb, le-leb, lt-leb}
 use Rattle.trees.specs.Kept.{allBelow}
-use Rattle.trees.proofs.Tests.{false-true, not-true}
+use Rattle.trees.proofs.Tests.{EqCase, equal, other, eq-case, lt-or-ge, false-true, not-true, and-true-l, and-true-r}
 use Rattle.trees.proofs.KeptLaws.{all-at, all-of}
 use Rattle.meaning.specs.Rows.{field, Use, useOf, fieldRight, pairsUsed, pairRight, rowRight, disagree}
 use Rattle.rule.specs.Table.{useCoded}
-use Rattle.rule.specs.Checking.{pairsRight, agreesBefore, otherCount}
+use Rattle.rule.specs.Checking.{pairsRight, agreesBefore, atomOf, otherCount}
 
 -- a pair whose mark and value were read
 pub pair-read : (raw : List ℕ) (i j : ℕ) (used : Bool) {m x : ℕ} {r : Bool} → m ≡ field raw i (3 + 2 * j) → x ≡ field raw i (4 + 2 * j)
@@ -44,25 +47,80 @@ pub row-parts : (raw : List ℕ) (i : ℕ) {k p q : ℕ} {a b : Bool} → k ≡ 
 unfolding rowRight pairsRight pairsUsed
 row-parts raw i {k} ek ep eq l h ea eb = rw (← ek, ← ep, ← eq, lt-ltb 0 k l, le-leb k 7 h, ← ea, ← eb)
 
--- two atoms of one predicate
-pub disagree-parts : (raw : List ℕ) (i j : ℕ) {k l p r q s : ℕ} → k ≡ field raw i 0 → l ≡ field raw j 0 → p ≡ field raw i 1 → r ≡ field raw j 1
-    → q ≡ field raw i 2 → s ≡ field raw j 2 → disagree raw i j ≡ ((eqb k 2 && eqb l 2) && (eqb p r && not (eqb q s)))
+-- two atoms of one predicate, with different counts
+record Differ (raw : List ℕ) (i j : ℕ) : Type 0 where
+  one : field raw i 0 ≡ 2
+  two : field raw j 0 ≡ 2
+  same : field raw i 1 ≡ field raw j 1
+  counts : field raw i 2 ≡ field raw j 2 → ⊥
+
+differ-of : (raw : List ℕ) (i j : ℕ) → disagree raw i j ≡ true → Differ raw i j
 unfolding disagree
-disagree-parts raw i j ek el ep er eq es = rw (ek, el, ep, er, eq, es)
+differ-of raw i j e =
+    let k = eqb (field raw i 0) 2 in
+    let l = eqb (field raw j 0) 2 in
+    let p = eqb (field raw i 1) (field raw j 1) in
+    let q = eqb (field raw i 2) (field raw j 2) in
+    let kinds = and-true-l (k && l) (p && not q) e in
+    let rest = and-true-r (k && l) (p && not q) e in
+    record {
+      one = eqb-true (field raw i 0) 2 (and-true-l k l kinds);
+      two = eqb-true (field raw j 0) 2 (and-true-r k l kinds);
+      same = eqb-true (field raw i 1) (field raw j 1) (and-true-l p (not q) rest);
+      counts = eqb-false (field raw i 2) (field raw j 2) (Tests.not-true q (and-true-r p (not q) rest));
+    }
+
+of-differ : (raw : List ℕ) (i j : ℕ) → Differ raw i j → disagree raw i j ≡ true
+unfolding disagree
+of-differ raw i j d = rw (eq-eqb (field raw i 0) 2 (d .one), eq-eqb (field raw j 0) 2 (d .two), eq-eqb (field raw i 1) (field raw j 1) (d .same), ne-eqb (field raw i 2) (field raw j 2) (d .counts))
 
 -- every earlier row agrees
-pub agrees-before : (raw : List ℕ) (i : ℕ) → ((j : ℕ) → j < i → disagree raw i j ≡ false) → true ≡ agreesBefore raw i
+agrees-before : (raw : List ℕ) (i : ℕ) → ((j : ℕ) → j < i → Differ raw i j → ⊥) → true ≡ agreesBefore raw i
 unfolding agreesBefore
-agrees-before raw i h = sym (all-of i (λ j. not (disagree raw i j)) (λ j l. rw (h j l)))
+agrees-before raw i h = sym (all-of i (λ j. not (disagree raw i j)) (λ j l. rw (not-true (disagree raw i j) (λ e. h j l (differ-of raw i j e)))))
 
 -- an earlier row that disagrees
-pub not-before : (raw : List ℕ) (i j : ℕ) → j < i → disagree raw i j ≡ true → false ≡ agreesBefore raw i
+not-before : (raw : List ℕ) (i j : ℕ) → j < i → Differ raw i j → false ≡ agreesBefore raw i
 unfolding agreesBefore
-not-before raw i j l h =
-    sym (not-true (allBelow i (λ j. not (disagree raw i j))) (λ e. false-true refl (rw h at (all-at i (λ j. not (disagree raw i j)) e j l))))
+not-before raw i j l d =
+    sym (not-true (allBelow i (λ j. not (disagree raw i j))) (λ e. false-true refl (rw (of-differ raw i j d) at (all-at i (λ j. not (disagree raw i j)) e j l))))
+
+-- a row that is no atom
+pub no-atom : (raw : List ℕ) (i : ℕ) {k : ℕ} → k ≡ field raw i 0 → (k ≡ 2 → ⊥) → true ≡ agreesBefore raw i
+no-atom raw i e h = agrees-before raw i (λ j l d. h (e ∙ d .one))
+
+-- the row at place i is an atom of the predicate p, and no row from j on, before it, is one
+module _ (raw : List ℕ) (i j p : ℕ) (is : p ≡ field raw i 1) (none : (k : ℕ) → j ≤ k → k < i → atomOf raw k p ≡ false) where
+  apart : (k : ℕ) → j ≤ k → k < i → Differ raw i k → ⊥
+  unfolding atomOf
+  apart k h l d = false-true (none k h l) (rw (eq-eqb (field raw k 0) 2 (d .two), eq-eqb p (field raw k 1) (is ∙ d .same)))
+
+  pub first-atom : j ≡ 0 → true ≡ agreesBefore raw i
+  first-atom z = agrees-before raw i (λ k l. apart k (omega arith) l)
+
+-- the nearest atom of its predicate before the row at place i decides, where that one agrees with all before it
+pub nearest-atom : (raw : List ℕ) (i j p : ℕ) {q s : ℕ} → field raw i 0 ≡ 2 → p ≡ field raw i 1 → j < i → ((k : ℕ) → j < k → k < i → atomOf raw k p ≡ false)
+    → atomOf raw j p ≡ true → agreesBefore raw j ≡ true → q ≡ field raw j 2 → s ≡ field raw i 2 → eqb q s ≡ agreesBefore raw i
+unfolding atomOf
+nearest-atom raw i j p two is l none here before eq es = rw (eq, es) (go (eqb (field raw j 2) (field raw i 2)) (eq-case (field raw j 2) (field raw i 2)))
+  where
+    kind : field raw j 0 ≡ 2
+    kind = eqb-true (field raw j 0) 2 (and-true-l (eqb (field raw j 0) 2) (eqb p (field raw j 1)) here)
+
+    same : p ≡ field raw j 1
+    same = eqb-true p (field raw j 1) (and-true-r (eqb (field raw j 0) 2) (eqb p (field raw j 1)) here)
+
+    go : (t : Bool) → EqCase (field raw j 2) (field raw i 2) t → t ≡ agreesBefore raw i
+    go false (other h) = not-before raw i j l (record { one = two; two = kind; same = sym is ∙ same; counts = λ e. h (sym e) })
+    go true (equal e) = agrees-before raw i (λ k h d. ⊎-elim
+        (λ q. false-true (sym (not-before raw j k q (record { one = kind; two = d .two; same = sym same ∙ (is ∙ d .same); counts = λ f. d .counts (sym e ∙ f) }))) before)
+        (λ q. ⊎-elim
+        (λ r. apart raw i (j + 1) p is (λ m u v. none m (omega arith) v) k (omega arith) h d)
+        (λ r. let z : k ≡ j = omega arith in d .counts (rw z (sym e)))
+        (lt-or-ge j k))
+        (lt-or-ge k j))
 
 -- an atom with another count
-pub other-parts : (raw : List ℕ) (i p n : ℕ) {k x q : ℕ} → k ≡ field raw i 0 → x ≡ field raw i 1 → q ≡ field raw i 2
-    → otherCount raw i p n ≡ (eqb k 2 && (eqb p x && not (eqb (min q 3) n)))
+pub other-parts : (raw : List ℕ) (i p n : ℕ) {t : Bool} {q : ℕ} → t ≡ atomOf raw i p → q ≡ field raw i 2 → otherCount raw i p n ≡ (t && not (eqb (min q 3) n))
 unfolding otherCount
-other-parts raw i p n ek ex eq = rw (ek, ex, eq)
+other-parts raw i p n e f = rw (e, f)

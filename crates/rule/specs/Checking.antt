@@ -23,9 +23,13 @@ pairsRight raw i n = allBelow 3 (λ j. pairRight (ltb j n) (field raw i (3 + 2 *
 unfoldable pub agreesBefore : List ℕ → ℕ → Bool
 agreesBefore raw i = allBelow i (λ j. not (disagree raw i j))
 
+-- the row at place i is an atom of the predicate p
+unfoldable pub atomOf : List ℕ → ℕ → ℕ → Bool
+atomOf raw i p = eqb (field raw i 0) 2 && eqb p (field raw i 1)
+
 -- the row at place i is an atom of the predicate p, and has not n arguments
 unfoldable pub otherCount : List ℕ → ℕ → ℕ → ℕ → Bool
-otherCount raw i p n = eqb (field raw i 0) 2 && (eqb p (field raw i 1) && not (eqb (min (field raw i 2) 3) n))
+otherCount raw i p n = atomOf raw i p && not (eqb (min (field raw i 2) 3) n)
 
 -- what the check found
 unfoldable pub foundOf : Checked → Found

@@ -1,15 +1,14 @@
-// Free variables as numbers: bit v of a mask says that the variable v is free. Masks are put together bit by bit.
+// Free variables as numbers: bit v of a mask says that the variable v is free.
 use crate::Argument;
 use crate::Row;
 ghost use mathlib.Core.Path.{_≡_};
 ghost use mathlib.Core.Bool.{not, _&&_, _||_};
 ghost use mathlib.Core.List.{[], _∷_};
-ghost use Prim.Native.Nat.{_%_, _<_};
 ghost use lib.Dec.{eqb};
 ghost use lib.ListN.{length, getD, take};
 ghost use Rattle.meaning.specs.Qtl.{freeArguments};
 ghost use Rattle.rule.specs.Decoded.{argumentOf, rowOf};
-ghost use Rattle.rule.specs.Masks.{digit, hasBit, maskOf, freeOfRow};
+ghost use Rattle.rule.specs.Masks.{hasBit, maskOf, freeOfRow};
 
 // The mask of one variable. A variable is 0 to 3: any other has no bit.
 fn single(v: u32) -> u32
@@ -24,38 +23,18 @@ fn single(v: u32) -> u32
     }
 }
 
-// The last bit of either number.
-fn either(a: u32, b: u32) -> u32
-    ensures { λ r. ⌜ (r < 2) × (r ≡ digit (eqb (a % 2) 1 || eqb (b % 2) 1)) ⌝ }
-{
-    if a % 2 == 1 {
-        return 1;
-    }
-    b % 2
-}
-
 // The variables of both masks together.
 fn join(a: u32, b: u32) -> u32
     ensures { λ r. ⌜ r ≡ maskOf (λ v. hasBit a v || hasBit b v) ⌝ }
 {
-    either(a, b) + 2 * either(a / 2, b / 2) + 4 * either(a / 4, b / 4) + 8 * either(a / 8, b / 8)
-}
-
-// The last bit of `m`, which is that of the variable `v`, unless `v` is `x`.
-fn unless(x: u32, v: u32, m: u32) -> u32
-    ensures { λ r. ⌜ (r < 2) × (r ≡ digit (not (eqb x v) && eqb (m % 2) 1)) ⌝ }
-{
-    if x == v {
-        return 0;
-    }
-    m % 2
+    (a | b) % 16
 }
 
 // The variables of the mask but `x`.
 fn without(x: u32, m: u32) -> u32
     ensures { λ r. ⌜ r ≡ maskOf (λ v. not (eqb x v) && hasBit m v) ⌝ }
 {
-    unless(x, 0, m) + 2 * unless(x, 1, m / 2) + 4 * unless(x, 2, m / 4) + 8 * unless(x, 3, m / 8)
+    m & (15 - single(x))
 }
 
 // The mask of the row at place `p`: four bits.

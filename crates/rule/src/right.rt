@@ -1,14 +1,12 @@
 // When a row is right: its fields by the table, its pairs, and its count beside those of earlier atoms.
 use super::field_of;
 ghost use mathlib.Core.Path.{_≡_};
-ghost use mathlib.Core.Bool.{not};
-ghost use Prim.Native.Nat.{_+_, _*_, _<_, _≤_};
-ghost use lib.Dec.{ltb};
+ghost use mathlib.Core.Bool.{true};
+ghost use Prim.Native.Nat.{ℕ, _+_, _*_, _<_, _≤_};
 ghost use lib.ListN.{length};
-ghost use Rattle.trees.specs.Kept.{allBelow};
-ghost use Rattle.meaning.specs.Rows.{field, useOf, fieldRight, pairRight, rowRight, disagree};
+ghost use Rattle.meaning.specs.Rows.{field, useOf, fieldRight, pairRight, rowRight};
 ghost use Rattle.rule.specs.Table.{useCoded};
-ghost use Rattle.rule.specs.Checking.{pairsRight, agreesBefore, otherCount};
+ghost use Rattle.rule.specs.Checking.{pairsRight, agreesBefore, atomOf, otherCount};
 
 // Which fields a kind uses: p and q of the kinds 1 to 7. 0 is not used, 1 a predicate, 2 a row, 3 a variable, 4 a count.
 pub const USES: [[u8; 2]; 7] = [[0, 0], [1, 4], [2, 2], [2, 0], [2, 2], [2, 0], [3, 2]];
@@ -90,34 +88,32 @@ pub fn row_right(rows: &[u32], i: usize) -> bool
     pairs_right(rows, i, 0)
 }
 
-// The rows at places `i` and `j` are atoms of one predicate, with different counts.
-fn differ(rows: &[u32], i: usize, j: usize) -> bool
-    requires { ⌜ (9 * i + 9 ≤ length (now rows)) × (9 * j + 9 ≤ length (now rows)) ⌝ }
-    ensures { λ r. ⌜ r ≡ disagree (now (rows .entry)) i j ⌝ }
+// The row at place `i` is an atom of this predicate.
+fn is_atom_of(rows: &[u32], i: usize, predicate: u32) -> bool
+    requires { ⌜ 9 * i + 9 ≤ length (now rows) ⌝ }
+    ensures { λ r. ⌜ r ≡ atomOf (now (rows .entry)) i predicate ⌝ }
 {
     if field_of(rows, i, 0) != 2 {
         return false;
     }
-    if field_of(rows, j, 0) != 2 {
-        return false;
-    }
-    if field_of(rows, i, 1) != field_of(rows, j, 1) {
-        return false;
-    }
-    field_of(rows, i, 2) != field_of(rows, j, 2)
+    predicate == field_of(rows, i, 1)
 }
 
-// The row at place `i` disagrees with no earlier row, from the row just before it back to the first.
+// The row at place `i` disagrees with no earlier row, where the earlier ones agree: the nearest atom of its predicate decides.
 pub fn counts_agree(rows: &[u32], i: usize) -> bool
-    requires { ⌜ 9 * i + 9 ≤ length (now rows) ⌝ }
+    requires { ⌜ (9 * i + 9 ≤ length (now rows)) × ((j : ℕ) → j < i → agreesBefore (now rows) j ≡ true) ⌝ }
     ensures { λ r. ⌜ r ≡ agreesBefore (now (rows .entry)) i ⌝ }
 {
-    let mut back: usize = 1;
-    while back <= i {
-        if differ(rows, i, i - back) {
-            return false;
+    if field_of(rows, i, 0) != 2 {
+        return true;
+    }
+    let p = field_of(rows, i, 1);
+    let mut j = i;
+    while 0 < j {
+        j -= 1;
+        if is_atom_of(rows, j, p) {
+            return field_of(rows, j, 2) == field_of(rows, i, 2);
         }
-        back += 1;
     }
     true
 }
@@ -127,10 +123,7 @@ pub fn other_count(rows: &[u32], i: usize, predicate: u32, count: u32) -> bool
     requires { ⌜ 9 * i + 9 ≤ length (now rows) ⌝ }
     ensures { λ r. ⌜ r ≡ otherCount (now (rows .entry)) i predicate count ⌝ }
 {
-    if field_of(rows, i, 0) != 2 {
-        return false;
-    }
-    if predicate != field_of(rows, i, 1) {
+    if !is_atom_of(rows, i, predicate) {
         return false;
     }
     let q = field_of(rows, i, 2);

@@ -5,7 +5,7 @@ use native.Mathlib.Omega.{arith}
 use lib.ListN.{length}
 use borrow.Author.Tests.{not-true, not-false}
 use Rattle.meaning.specs.Rows.{rowCount}
-use Rattle.rule.proofs.CheckingLaws.{shaped, Walked, walk-start, walk-more, walk-all, fault-row, fault-count, parts-left, no-rows, many-rows, found-fault, found-open, found-right}
+use Rattle.rule.proofs.CheckingLaws.{shaped, Walked, walk-start, walk-more, walk-all, agreed, fault-row, fault-count, parts-left, no-rows, many-rows, found-fault, found-open, found-right}
 use Rattle.rule.proofs.check.Statement.{statement}
 use Rattle.rule.proofs.check.Tie as tie
 
@@ -52,7 +52,7 @@ returns-4 c =
     (fault-row _ _ (sym (c .before .before .row-right .ensures) ∙ not-true _ (c .before .if4 .taken))))
 
 counts-agree-requires : tie.Need-counts-agree-requires Inv-loop μ-loop
-counts-agree-requires c κs = omega arith
+counts-agree-requires c κs = (omega arith, λ j h. agreed _ j (c .before .before .before .loop .inv .5 .none j h))
 
 refused-requires-5 : tie.Need-refused-requires-5 Inv-loop μ-loop
 refused-requires-5 c κs = omega arith

@@ -1,0 +1,3 @@
+-- What the functions of this crate promise, over the definitions of `meaning`.
+pub mod Slots
+pub mod Writing

@@ -1,0 +1,37 @@
+-- What it is to write an event's fresh values into the value slice. Assumes nothing: these are definitions.
+use Prim.Native.Nat.{ℕ, _+_, _-_, _*_, _/_, _%_, _≤_, _<_}
+use mathlib.Core.Path.{_≡_}
+use mathlib.Core.Bool.{cond}
+use mathlib.Core.List.{List, _++_}
+use lib.Dec.{ltb}
+use lib.ListN.{length, getD, take, drop, set}
+use Rattle.meaning.specs.Numbering.{Lists}
+use Rattle.meaning.specs.Tables.{most, listOf, layValues}
+use Rattle.numbers.specs.declared.Asked.{Asked}
+use Rattle.numbers.specs.Asking.{withCounts}
+
+-- the lists L with the fresh values behind them, as many as the counts grew by
+unfoldable pub withFresh : List ℕ → Asked → Lists → Lists
+withFresh before a L v = L v ++ take (getD (a .counts) v 0 - getD before v 0) (drop (3 * v) (a .fresh))
+
+-- what `write_fresh` may assume
+pub record Writable (k : ℕ) (before : List ℕ) (a : Asked) (values : List ℕ) : Type 0 where
+  pub bits : k ≤ 10
+  pub parts : length values ≡ 4 * most k
+  pub laid : layValues k (listOf k (withCounts before) values) ≡ values
+  pub grown : (v : ℕ) → v < 4 → getD before v 0 ≤ getD (a .counts) v 0
+  pub few : (v : ℕ) → v < 4 → getD (a .counts) v 0 ≤ getD before v 0 + 3
+  pub room : (v : ℕ) → v < 4 → getD (a .counts) v 0 ≤ most k
+
+-- the value slice after the place t of the twelve, where the parts have m numbers
+unfoldable pub written : ℕ → List ℕ → Asked → ℕ → List ℕ → List ℕ
+written m before a t values =
+    cond (ltb (getD before (t / 3) 0 + t % 3) (getD (a .counts) (t / 3) 0)) (set values (t / 3 * m + (getD before (t / 3) 0 + t % 3)) (getD (a .fresh) t 0)) values
+
+-- what is known where the place t is written
+pub record WritableAt (m : ℕ) (before : List ℕ) (a : Asked) (values : List ℕ) (t : ℕ) : Type 0 where
+  pub small : m ≤ 1023
+  pub place : t < 12
+  pub parts : length values ≡ 4 * m
+  pub grown : getD before (t / 3) 0 ≤ getD (a .counts) (t / 3) 0
+  pub room : getD (a .counts) (t / 3) 0 ≤ m

@@ -1,0 +1,52 @@
+// How an event's fresh values are written, where no variable is short. What each function promises is in specs/Writing.antt.
+use numbers::Asked;
+use numbers::most;
+ghost use mathlib.Core.Path.{_≡_};
+ghost use Prim.Native.Nat.{_≤_};
+ghost use lib.Dec.{ltb};
+ghost use lib.ListN.{getD};
+ghost use Rattle.meaning.specs.Rows.{firstBelow};
+ghost use Rattle.meaning.specs.Tables;
+ghost use Rattle.meaning.specs.Tables.{listOf, layValues};
+ghost use Rattle.numbers.specs.Asking.{withCounts};
+ghost use Rattle.lists.specs.Writing.{withFresh, Writable, WritableAt, written};
+
+// The lowest variable with more values than numbers, or 4.
+pub fn shortest(k: u32, counts: [u32; 4]) -> u32
+    requires { ⌜ k ≤ 10 ⌝ }
+    ensures { λ r. ⌜ r ≡ firstBelow 4 (λ v. ltb (Tables.most k) (getD counts v 0)) ⌝ }
+{
+    // There are 2^k numbers, and the last of them is reserved: as many values as numbers are too many.
+    let numbers = most(k) + 1;
+    for v in 0..4 {
+        if numbers <= counts[v] {
+            return v as u32;
+        }
+    }
+    4
+}
+
+// Writes the fresh value at place t of the twelve, if there is one.
+fn write_one(m: usize, before: [u32; 4], asked: Asked, values: &mut [u32], t: usize)
+    requires { ⌜ WritableAt m before asked (now values) t ⌝ }
+    ensures { λ _. ⌜ now (values .exit) ≡ written m before asked t (now (values .entry)) ⌝ }
+{
+    let v = t / 3;
+    let at = before[v] as usize + t % 3;
+    if asked.counts[v] as usize <= at {
+        return;
+    }
+    values[v * m + at] = asked.fresh[t];
+}
+
+// Writes the fresh values behind those of before. The caller has checked the lists (refusal 4), that no variable is short (refusal 6), and
+// got the fresh values from `ask`.
+pub fn write_fresh(k: u32, before: [u32; 4], asked: Asked, values: &mut [u32])
+    requires { ⌜ Writable k before asked (now values) ⌝ }
+    ensures { λ _. ⌜ now (values .exit) ≡ layValues k (withFresh before asked (listOf k (withCounts before) (now (values .entry)))) ⌝ }
+{
+    let m = most(k) as usize;
+    for t in 0..12 {
+        write_one(m, before, asked, values, t);
+    }
+}
