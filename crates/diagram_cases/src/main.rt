@@ -4,8 +4,8 @@ use diagram::Instruction;
 use diagram::Stepped;
 use diagram::Told;
 use libc::STDOUT_FILENO;
-use tables::Number;
-use tables::Place;
+use making::Number;
+use making::Place;
 
 // A space and a number.
 fn number(n: u32) {
