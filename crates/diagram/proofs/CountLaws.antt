@@ -14,11 +14,11 @@ use Rattle.trees.proofs.BitsLaws.{number-agree, asks-drop, asks-drops}
 use Rattle.trees.proofs.TreeLaws.{asks-eval, fine-off}
 use Rattle.trees.proofs.FunctionLaws.{fine-of, eval-of}
 use Rattle.trees.proofs.RoomLaws.{room-trees, room-same}
-use Rattle.tables.specs.declared.Place.{Place}
-use Rattle.tables.specs.declared.Place.the-variants.{Any, Is}
+use Rattle.making.specs.declared.Place.{Place}
+use Rattle.making.specs.declared.Place.the-variants.{Any, Is}
 use Rattle.diagram.specs.declared.Instruction.{Instruction}
 use Rattle.diagram.specs.declared.Instruction.the-variants.{Yes, No, Cube, And, Not, Since, Old, Drop}
-use Rattle.tables.specs.Cubes.{placeSays, cubeSays}
+use Rattle.making.specs.Cubes.{placeSays, cubeSays}
 use Rattle.diagram.specs.Steps.{says, instructionSays, dropStages, stagesOf, withRow, newTrees, stages}
 use Rattle.diagram.proofs.PlanLaws.{adds-append}
 

@@ -9,7 +9,7 @@ use borrow.Rule.Slice.PartMut.{putMid, mid-len, same-len-mid, drop-put}
 use Rattle.nodes.specs.Nodes.{Rest, Zeroed}
 use Rattle.nodes.specs.Chains.{Reaches, here, later, headOf, Chained}
 use Rattle.nodes.proofs.ChainLaws.{head-within}
-use Rattle.tables.proofs.WalkLaws.{rest-trans}
+use Rattle.making.proofs.WalkLaws.{rest-trans}
 use Rattle.walks.specs.Desks.{Desk}
 use Rattle.walks.proofs.CallLaws.{desk-none}
 use Rattle.diagram.specs.Works.{Fits, Ready}

@@ -24,7 +24,7 @@ use Rattle.walks.specs.Walks.{Within}
 use Rattle.walks.specs.Desks.{Desk}
 use Rattle.diagram.specs.Steps.{says, instructionSays, stagesOf, withRow, newTrees, stages}
 use Rattle.diagram.specs.Works.{Leads, led, Reached, Short, Are, Through}
-use Rattle.tables.proofs.WalkLaws.{front-trans}
+use Rattle.making.proofs.WalkLaws.{front-trans}
 use Rattle.walks.proofs.CallLaws.{within-all}
 use Rattle.diagram.proofs.RemovalLaws.{within-fine}
 use Rattle.diagram.proofs.RowLaws.{within-no}

@@ -18,7 +18,7 @@ use Rattle.walks.specs.Desks.{Desk}
 use Rattle.diagram.specs.Steps.{dropStages}
 use Rattle.diagram.specs.Works.{Reached, Short}
 use Rattle.nodes.proofs.ReadLaws.{grown-count, grown-ref}
-use Rattle.tables.proofs.WalkLaws.{front-trans}
+use Rattle.making.proofs.WalkLaws.{front-trans}
 use Rattle.walks.proofs.CallLaws.{within-all}
 
 -- a function that asks only the levels is what its tree says

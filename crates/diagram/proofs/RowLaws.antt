@@ -13,15 +13,15 @@ use Rattle.trees.specs.Table.{addTrees, at, treesOf}
 use Rattle.trees.proofs.Tests.{lt-or-ge}
 use Rattle.trees.proofs.TreeLaws.{asks-eval, fine-off, fine-on}
 use Rattle.trees.proofs.FunctionLaws.{tree-one}
-use Rattle.tables.specs.declared.Made.{Made}
-use Rattle.tables.specs.declared.Made.the-variants.{Full, At}
-use Rattle.tables.specs.declared.Place.{Place}
+use Rattle.making.specs.declared.Made.{Made}
+use Rattle.making.specs.declared.Made.the-variants.{Full, At}
+use Rattle.making.specs.declared.Place.{Place}
 use Rattle.diagram.specs.declared.Instruction.{Instruction}
 use Rattle.diagram.specs.declared.Instruction.the-variants.{Yes, No, Cube, And, Not, Since, Old, Drop}
-use Rattle.tables.specs.Tables.{Added}
+use Rattle.making.specs.Tables.{Added}
 use Rattle.walks.specs.Walks.{Within}
 use Rattle.walks.specs.Desks.{Desk}
-use Rattle.tables.specs.Cubes.{cubeSays}
+use Rattle.making.specs.Cubes.{cubeSays}
 use Rattle.diagram.specs.Steps.{instructionSays, dropStages, stagesOf}
 use Rattle.diagram.specs.Works.{Leads, led, Base, Reached, Short, Worked}
 use Rattle.nodes.proofs.ReadLaws.{grown-ref, stays}

@@ -16,7 +16,7 @@ use Rattle.diagram.specs.declared.Told.the-variants.{Unfit, Bad, Full, D
 use Rattle.diagram.specs.declared.Stepped.{Stepped}
 use Rattle.diagram.specs.declared.Formed.{Formed}
 use Rattle.diagram.specs.declared.Formed.the-variants as formed
-use Rattle.tables.specs.Cubes.{cubeSays}
+use Rattle.making.specs.Cubes.{cubeSays}
 use Rattle.keeping.specs.Checks.{freeBy}
 
 -- the function of row a of some diagrams: no where there is no row a

@@ -7,8 +7,8 @@ use lib.ListN.{length, getD}
 use Rattle.trees.specs.Bits.{Function}
 use Rattle.trees.specs.Tree.{Tree, off, eval, treeOf}
 use Rattle.trees.specs.Table.{addTrees, at, treesOf}
-use Rattle.tables.specs.declared.Made.{Made}
-use Rattle.tables.specs.declared.Made.the-variants.{Full, At}
+use Rattle.making.specs.declared.Made.{Made}
+use Rattle.making.specs.declared.Made.the-variants.{Full, At}
 use Rattle.diagram.specs.declared.Instruction.{Instruction}
 use Rattle.nodes.specs.Nodes.{Table, Front, To}
 use Rattle.walks.specs.Walks.{Within}

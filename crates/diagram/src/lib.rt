@@ -11,8 +11,8 @@ mod row;
 use crate::plan::fit;
 use crate::plan::worked;
 use keeping::check;
+use making::Place;
 use nodes::zero;
-use tables::Place;
 
 // What a row's new diagram is: yes; no; that the four variables show these numbers; of rows worked before it the and, the
 // complement, the since with its own old diagram; the old diagram of a row; or a row's diagram without the bits of a

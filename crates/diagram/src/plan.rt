@@ -16,9 +16,9 @@ use crate::Instruction;
 use crate::Stepped;
 use crate::Told;
 use crate::row::row;
+use making::Made;
 use nodes::zero;
 use sweeping::renew;
-use tables::Made;
 
 // Whether the numbers and lengths are ones that a step can work with.
 pub fn fit(k: u32, count: u32, nodes: usize, work: usize) -> bool

@@ -18,9 +18,9 @@ use Rattle.meaning.specs.Step.{argumentsSay}
 use Rattle.meaning.proofs.RowsLaws.{ArgumentsOk}
 use Rattle.meaning.proofs.AskingLaws.{has-place, Asked, InLists}
 use Rattle.meaning.proofs.Simulation.{Enough}
-use Rattle.tables.specs.declared.Place.{Place}
-use Rattle.tables.specs.declared.Place.the-variants.{Any, Is}
-use Rattle.tables.specs.Cubes.{placeSays, cubeSays}
+use Rattle.making.specs.declared.Place.{Place}
+use Rattle.making.specs.declared.Place.the-variants.{Any, Is}
+use Rattle.making.specs.Cubes.{placeSays, cubeSays}
 use Rattle.instructions.specs.Plan.{placeOf}
 
 -- a test of each of the four variables

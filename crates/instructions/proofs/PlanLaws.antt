@@ -19,10 +19,10 @@ use Rattle.meaning.proofs.RowsLaws.{ArgumentsOk, RowOk, RowsOk}
 use Rattle.meaning.proofs.AskingLaws.{DistinctL, Covered, AllCovered}
 use Rattle.meaning.proofs.Simulation.{Enough, fits-of, says-matches}
 use Rattle.meaning.proofs.VerdictLaws.{some-assignment}
-use Rattle.tables.specs.declared.Place.{Place}
+use Rattle.making.specs.declared.Place.{Place}
 use Rattle.diagram.specs.declared.Instruction.{Instruction}
 use Rattle.diagram.specs.declared.Instruction.the-variants.{Yes, No, Cube, And, Not, Since, Old, Drop}
-use Rattle.tables.specs.Cubes.{cubeSays}
+use Rattle.making.specs.Cubes.{cubeSays}
 use Rattle.diagram.specs.Steps.{says, instructionSays, withRow, newTrees}
 use Rattle.instructions.specs.Plan.{placeOf, instructionOf, planOf}
 use Rattle.instructions.proofs.CubeLaws.{arguments-four, cube-four}

@@ -15,9 +15,9 @@ use Rattle.meaning.proofs.AskingLaws.{Has, Asked, InLists, Covered}
 use Rattle.rule.specs.declared.Row.{Row}
 use Rattle.rule.specs.declared.Argument
 use Rattle.rule.specs.Decoded.{argumentOf, rowOf}
-use Rattle.tables.specs.declared.Number.{Number}
-use Rattle.tables.specs.declared.Place.{Place}
-use Rattle.tables.specs.declared.Place.the-variants.{Any, Is}
+use Rattle.making.specs.declared.Number.{Number}
+use Rattle.making.specs.declared.Place.{Place}
+use Rattle.making.specs.declared.Place.the-variants.{Any, Is}
 use Rattle.diagram.specs.declared.Instruction.{Instruction}
 use Rattle.diagram.specs.declared.Instruction.the-variants.{No, Cube}
 use Rattle.instructions.specs.Plan.{placeOf, instructionOf}

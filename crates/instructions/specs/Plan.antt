@@ -6,8 +6,8 @@ use lib.Dec.{eqb}
 use Rattle.meaning.specs.Qtl.{Argument, variable, constant, Fact}
 use Rattle.meaning.specs.Rows.{Row, truth, atom, both, neg, since, previous, exists}
 use Rattle.meaning.specs.Numbering.{Lists, place, fits}
-use Rattle.tables.specs.declared.Place.{Place}
-use Rattle.tables.specs.declared.Place.the-variants.{Any, Is}
+use Rattle.making.specs.declared.Place.{Place}
+use Rattle.making.specs.declared.Place.the-variants.{Any, Is}
 use Rattle.diagram.specs.declared.Instruction.{Instruction}
 use Rattle.diagram.specs.declared.Instruction.the-variants.{Yes, No, Cube, And, Not, Since, Old, Drop}
 

@@ -9,9 +9,9 @@ use Rattle.meaning.specs.Rows
 use Rattle.meaning.specs.Rows.{truth, atom, both, neg, since, previous, exists}
 use Rattle.rule.specs.declared.Row.{Row}
 use Rattle.rule.specs.Decoded.{rowOf}
-use Rattle.tables.specs.declared.Number.{Number}
-use Rattle.tables.specs.declared.Place.{Place}
-use Rattle.tables.specs.declared.Place.the-variants.{Any, Is}
+use Rattle.making.specs.declared.Number.{Number}
+use Rattle.making.specs.declared.Place.{Place}
+use Rattle.making.specs.declared.Place.the-variants.{Any, Is}
 use Rattle.diagram.specs.declared.Instruction.{Instruction}
 use Rattle.diagram.specs.declared.Instruction.the-variants.{Yes, No, Cube, And, Not, Since, Old, Drop}
 

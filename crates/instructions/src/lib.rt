@@ -1,11 +1,11 @@
 // What the rows of a rule ask of the diagrams in one event: each row is read as one instruction.
 use diagram::Instruction;
 use diagram::Told;
+use making::Number;
+use making::Place;
 use meaning::Event;
 use rule::Argument;
 use rule::Row;
-use tables::Number;
-use tables::Place;
 ghost use mathlib.Core.Path.{_≡_};
 ghost use mathlib.Core.List.{[], _∷_};
 ghost use Prim.Native.Nat.{_<_, _≤_};

@@ -8,7 +8,7 @@ use Rattle.trees.specs.Tree.{Fine}
 use Rattle.trees.specs.Table.{at, treesOf}
 use Rattle.walks.specs.Walks.{Within}
 use Rattle.walks.specs.Desks.{Desk}
-use Rattle.tables.specs.Tables.{Shelf}
+use Rattle.making.specs.Tables.{Shelf}
 
 -- a table with its chains, and zeros for the map and the memory
 pub desk-none : {ns : List ℕ} {n : ℕ} {w : List ℕ} {c : ℕ} (levels slots : ℕ) → Shelf ns n w c → 1 ≤ slots → slots ≤ 2 * c

@@ -7,14 +7,14 @@ use lib.ListN.{length, getD, set, length-set}
 use lib.Seq.{getD-set-other}
 use Rattle.trees.specs.Tree.{Tree, notT}
 use Rattle.trees.specs.Table.{at, treesOf, Ref}
-use Rattle.tables.specs.declared.Made.{Made}
-use Rattle.tables.specs.declared.Made.the-variants.{Full, At}
+use Rattle.making.specs.declared.Made.{Made}
+use Rattle.making.specs.declared.Made.the-variants.{Full, At}
 use Rattle.nodes.specs.Nodes.{Grown}
 use Rattle.nodes.proofs.ChainLaws.{chained-same}
 use Rattle.nodes.proofs.ReadLaws.{grown-count}
-use Rattle.tables.specs.Tables.{Added, Shelf, Shelved, Spot, noted}
+use Rattle.making.specs.Tables.{Added, Shelf, Shelved, Spot, noted}
 use Rattle.walks.specs.Desks.{recalled, Key, Desk}
-use Rattle.tables.proofs.WalkLaws.{kept}
+use Rattle.making.proofs.WalkLaws.{kept}
 use Rattle.walks.proofs.MemoryLaws.{key-later, recalled-kept, memory-same, memory-grown, noted-other, memory-note}
 use Rattle.walks.proofs.NotLaws.{map-same, map-grown, map-set}
 

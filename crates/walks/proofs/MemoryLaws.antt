@@ -12,10 +12,10 @@ use Rattle.trees.proofs.TableLaws.{goes-ref}
 use Rattle.nodes.specs.Nodes.{Table, Grown}
 use Rattle.walks.specs.Walks.{Within}
 use Rattle.walks.specs.Desks.{recalled, Key, Memory}
-use Rattle.tables.specs.Tables.{Spot, SlotIs, noted, Looked}
+use Rattle.making.specs.Tables.{Spot, SlotIs, noted, Looked}
 use Rattle.trees.proofs.ReadLaws.{length-trees}
 use Rattle.nodes.proofs.ReadLaws.{grown-goes, grown-count, grown-ref, stays}
-use Rattle.tables.proofs.WalkLaws.{kept}
+use Rattle.making.proofs.WalkLaws.{kept}
 
 -- the key of a since
 pub recalled-since : (levels : ℕ) (ts : List Tree) (a b c : ℕ) → 1 ≤ a → recalled levels ts a b c ≡ sinceT levels (at ts a) (at ts b) (at ts c)

@@ -17,7 +17,7 @@ use Rattle.nodes.specs.Nodes.{Table, Grown}
 use Rattle.walks.specs.Desks.{Complements}
 use Rattle.trees.proofs.ReadLaws.{length-trees}
 use Rattle.nodes.proofs.ReadLaws.{grown-goes, grown-count, grown-ref, stays}
-use Rattle.tables.proofs.WalkLaws.{kept}
+use Rattle.making.proofs.WalkLaws.{kept}
 use Rattle.walks.proofs.StepLaws.{Step}
 
 module _ (levels : ℕ) where

@@ -15,7 +15,7 @@ use Rattle.nodes.specs.Nodes.{Table, To, Grown}
 use Rattle.walks.specs.Walks.{Within, Among, none, sure, the-left, the-right, the-old, Alike, Forks}
 use Rattle.walks.proofs.FirstLaws.{first-lo, first-hi, fine-first}
 use Rattle.nodes.proofs.ReadLaws.{stays}
-use Rattle.tables.proofs.WalkLaws.{kept}
+use Rattle.making.proofs.WalkLaws.{kept}
 
 -- and, as since
 pub and-since : (n : ℕ) (p q : Tree) → sinceT n p off q ≡ treeOf n (λ s. eval p s && eval q s)

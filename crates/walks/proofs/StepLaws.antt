@@ -9,7 +9,7 @@ use Rattle.trees.specs.Table.{at, treesOf}
 use Rattle.trees.proofs.TreeLaws.{side, side-own, fine-lower, fine-node, node-fine}
 use Rattle.nodes.specs.Nodes.{Splits, Grown}
 use Rattle.nodes.proofs.ReadLaws.{grown-count}
-use Rattle.tables.proofs.WalkLaws.{kept}
+use Rattle.making.proofs.WalkLaws.{kept}
 use Rattle.walks.specs.Walks.{Within}
 
 -- a reference of before still asks the same levels

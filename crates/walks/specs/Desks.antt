@@ -7,7 +7,7 @@ use mathlib.Core.List.{List}
 use lib.ListN.{getD}
 use Rattle.trees.specs.Tree.{Tree, notT, sinceT, dropT}
 use Rattle.trees.specs.Table.{at, treesOf, Ref}
-use Rattle.tables.specs.Tables.{Shelf, Spot, SlotIs}
+use Rattle.making.specs.Tables.{Shelf, Spot, SlotIs}
 
 -- what a key of the memory stands for: 0, a level and a diagram for the diagram without its bit there; else the since of three diagrams
 unfoldable pub recalled : ℕ → List Tree → ℕ → ℕ → ℕ → Tree

@@ -8,18 +8,18 @@ ghost use Prim.Native.Nat.{_+_, _<_, _≤_, min, max};
 ghost use Rattle.trees.specs.Tree.{mk, notT, sinceT, dropT};
 ghost use Rattle.trees.specs.Table.{at, treesOf};
 ghost use Rattle.nodes.specs.Nodes.{Table};
-ghost use Rattle.tables.specs.Tables.{Added, Spot};
+ghost use Rattle.making.specs.Tables.{Added, Spot};
 ghost use Rattle.walks.specs.Walks.{Within, Eased, Forks};
 ghost use Rattle.walks.specs.Desks.{recalled, Key, Desk};
+use making::Made;
+use making::memory::note;
+use making::memory::recall;
+use making::memory::spot;
+use making::table::make;
+use making::table::sides;
+use making::table::top;
 use nodes::Node;
 use nodes::read;
-use tables::Made;
-use tables::memory::note;
-use tables::memory::recall;
-use tables::memory::spot;
-use tables::table::make;
-use tables::table::sides;
-use tables::table::top;
 
 // The three diagrams of a since: r, or l and o. Where l is no, the result is r.
 struct Three {

@@ -9,7 +9,7 @@ use Rattle.walks.proofs.DeskLaws.{spot-inside}
 use Rattle.walks.proofs.DropLaws.{drop-leaf, drop-stay, drop-here, drop-node, within-sure}
 use Rattle.walks.proofs.StepLaws.{within-grown, Step, steps}
 use Rattle.walks.proofs.MemoryLaws.{drop-key, recalled-drop, memory-hit, key-later, recalled-over}
-use Rattle.tables.proofs.WalkLaws.{kept, stuck-low, stuck-high, joined}
+use Rattle.making.proofs.WalkLaws.{kept, stuck-low, stuck-high, joined}
 use native.Mathlib.Omega.{arith}
 use borrow.Author.Needs.{needs}
 use Prim.Native.Nat.{ℕ, _<_}
@@ -19,8 +19,8 @@ use Rattle.walks.proofs.drop_walk.Reads as own
 use Rattle.walks.proofs.drop_walk.Kinds as kinds
 use Rattle.walks.proofs.+drop_walk.Lts-drop_walk as lts
 use Rattle.nodes.proofs.read.Reads as read-reads
-use Rattle.tables.proofs.memory.recall.Reads as recall-reads
-use Rattle.tables.proofs.memory.spot.Reads as spot-reads
+use Rattle.making.proofs.memory.recall.Reads as recall-reads
+use Rattle.making.proofs.memory.spot.Reads as spot-reads
 use Rattle.walks.proofs.keep.Reads as keep-reads
 use Rattle.walks.proofs.since_walk.Reads as since-walk-reads
 use Rattle.walks.proofs.+drop_walk.{statement}

@@ -6,7 +6,7 @@ use Rattle.nodes.proofs.ReadLaws.{grown-ref, grown-count}
 use Rattle.walks.specs.Desks.{Desk}
 use Rattle.walks.proofs.NotLaws.{not-leaf, not-node, not-over, map-hit}
 use Rattle.walks.proofs.StepLaws.{within-grown, Step, steps}
-use Rattle.tables.proofs.WalkLaws.{kept, stuck-low, stuck-high, joined}
+use Rattle.making.proofs.WalkLaws.{kept, stuck-low, stuck-high, joined}
 use native.Mathlib.Omega.{arith}
 use borrow.Author.Needs.{needs}
 use Prim.Native.Nat.{ℕ, _<_}

@@ -10,7 +10,7 @@ use Rattle.walks.proofs.DeskLaws.{spot-inside}
 use Rattle.walks.proofs.SinceLaws.{alike-within, alike-since, alike-stays, Down, down, since-kept}
 use Rattle.walks.proofs.MemoryLaws.{since-key, recalled-since, memory-hit, key-later, recalled-over}
 use Rattle.walks.proofs.StepLaws.{within-grown}
-use Rattle.tables.proofs.WalkLaws.{stuck-low, stuck-high, joined}
+use Rattle.making.proofs.WalkLaws.{stuck-low, stuck-high, joined}
 use native.Mathlib.Omega.{arith}
 use borrow.Author.Needs.{needs}
 use Prim.Native.Nat.{ℕ, _<_}
@@ -19,8 +19,8 @@ use borrow.Fn.PlainCycle.{Measures, is, falls, and}
 use Rattle.walks.proofs.since_walk.Reads as own
 use Rattle.walks.proofs.since_walk.Kinds as kinds
 use Rattle.walks.proofs.+since_walk.Lts-since_walk as lts
-use Rattle.tables.proofs.memory.recall.Reads as recall-reads
-use Rattle.tables.proofs.memory.spot.Reads as spot-reads
+use Rattle.making.proofs.memory.recall.Reads as recall-reads
+use Rattle.making.proofs.memory.spot.Reads as spot-reads
 use Rattle.walks.proofs.keep.Reads as keep-reads
 use Rattle.walks.proofs.part.Reads as part-reads
 use Rattle.walks.proofs.settle.Reads as settle-reads

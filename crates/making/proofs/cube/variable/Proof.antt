@@ -1,10 +1,10 @@
 -- `variable` meets its contract. Assumes nothing.
 use mathlib.Core.Path.{refl}
 use Rattle.nodes.proofs.ReadLaws.{stays}
-use Rattle.tables.proofs.NodesLaws.{shelved-same}
+use Rattle.making.proofs.NodesLaws.{shelved-same}
 use borrow.Author.Needs.{needs}
-use Rattle.tables.proofs.cube.variable.Statement.{statement}
-use Rattle.tables.proofs.cube.variable.Tie as tie
+use Rattle.making.proofs.cube.variable.Statement.{statement}
+use Rattle.making.proofs.cube.variable.Tie as tie
 
 enum-told : tie.Need-enum-told
 enum-told c = search needs

@@ -2,12 +2,12 @@
 use mathlib.Core.Path.{_∙_}
 use native.Mathlib.Omega.{arith}
 use Rattle.nodes.proofs.ReadLaws.{grown-ref}
-use Rattle.tables.specs.Tables.{Added, Shelved}
-use Rattle.tables.proofs.NodesLaws.{shelved-then}
-use Rattle.tables.proofs.CubeLaws.{last, later, early, last-made, later-made, early-made, cube-made, last-stuck, later-stuck, early-stuck}
+use Rattle.making.specs.Tables.{Added, Shelved}
+use Rattle.making.proofs.NodesLaws.{shelved-then}
+use Rattle.making.proofs.CubeLaws.{last, later, early, last-made, later-made, early-made, cube-made, last-stuck, later-stuck, early-stuck}
 use borrow.Author.Needs.{needs}
-use Rattle.tables.proofs.cube.cube.Statement.{statement}
-use Rattle.tables.proofs.cube.cube.Tie as tie
+use Rattle.making.proofs.cube.cube.Statement.{statement}
+use Rattle.making.proofs.cube.cube.Tie as tie
 
 -- the last variable, and then one more each time
 last-done : (c : tie.After-variable)

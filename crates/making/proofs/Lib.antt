@@ -1,4 +1,4 @@
--- The laws that the proofs of tables cite.
+-- The laws that the proofs of find-or-make and of cubes cite.
 pub mod NodesLaws
 pub mod SideLaws
 pub mod WalkLaws

@@ -18,14 +18,14 @@ use Rattle.trees.proofs.Tests.{EqCase, equal, other, eq-case}
 use Rattle.trees.proofs.TreeLaws.{eval-mk, eval-agree, fine-mk, fine-lower, fine-off, fine-on}
 use Rattle.trees.proofs.FunctionLaws.{tree-one}
 use Rattle.trees.proofs.TableLaws.{Closed, add-in, closed-add, has-add}
-use Rattle.tables.specs.declared.Made.{Made}
-use Rattle.tables.specs.declared.Place.{Place}
-use Rattle.tables.specs.declared.Place.the-variants.{Any, Is}
+use Rattle.making.specs.declared.Made.{Made}
+use Rattle.making.specs.declared.Place.{Place}
+use Rattle.making.specs.declared.Place.the-variants.{Any, Is}
 use Rattle.nodes.specs.Nodes.{Table, Grown, Stuck}
-use Rattle.tables.specs.Tables.{Added}
-use Rattle.tables.specs.Cubes.{placeSays, cubeSays, bitsOver, placeOver}
+use Rattle.making.specs.Tables.{Added}
+use Rattle.making.specs.Cubes.{placeSays, cubeSays, bitsOver, placeOver}
 use Rattle.trees.proofs.ReadLaws.{back-closed}
-use Rattle.tables.proofs.WalkLaws.{After, after-trans, low-after, high-after, stuck-first, first-then, stuck-low, stuck-high, joined}
+use Rattle.making.proofs.WalkLaws.{After, after-trans, low-after, high-after, stuck-first, first-then, stuck-low, stuck-high, joined}
 use Rattle.nodes.proofs.ReadLaws.{stays}
 
 -- one bit more, as the code counts

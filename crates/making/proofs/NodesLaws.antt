@@ -17,10 +17,10 @@ use Rattle.nodes.proofs.ReadLaws.{stored, stored-front, stored-rest, stored-tre
 use Rattle.nodes.proofs.ChainLaws.{joined-other, chained-walk, chained-missed, chained-found, chained-stored}
 use Rattle.nodes.specs.Nodes.{Front, Grown, Stuck}
 use Rattle.nodes.specs.Chains.{spread, Walkable, Sought, joined}
-use Rattle.tables.specs.declared.Made.{Made}
-use Rattle.tables.specs.declared.Made.the-variants.{Full, At}
-use Rattle.tables.specs.Tables.{Added, Shelf, Shelved}
-use Rattle.tables.proofs.WalkLaws.{front-trans}
+use Rattle.making.specs.declared.Made.{Made}
+use Rattle.making.specs.declared.Made.the-variants.{Full, At}
+use Rattle.making.specs.Tables.{Added, Shelf, Shelved}
+use Rattle.making.proofs.WalkLaws.{front-trans}
 
 -- a node over sides that are there
 add-node : (ts : List Tree) (l : ℕ) (x y : Tree) → Closed ts → Has ts x → Has ts y → addTree ts (node l x y) ≡ push ts (node l x y)

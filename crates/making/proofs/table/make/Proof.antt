@@ -2,10 +2,10 @@
 use native.Mathlib.Omega.{arith}
 use lib.ListN.{length-set}
 use Rattle.nodes.proofs.ReadLaws.{grown-ref}
-use Rattle.tables.proofs.NodesLaws.{make-side, make-walk, make-found, make-stuck, make-new}
+use Rattle.making.proofs.NodesLaws.{make-side, make-walk, make-found, make-stuck, make-new}
 use borrow.Author.Needs.{needs}
-use Rattle.tables.proofs.table.make.Statement.{statement}
-use Rattle.tables.proofs.table.make.Tie as tie
+use Rattle.making.proofs.table.make.Statement.{statement}
+use Rattle.making.proofs.table.make.Tie as tie
 
 returns : tie.Need-returns
 returns c =

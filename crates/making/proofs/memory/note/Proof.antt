@@ -2,8 +2,8 @@
 use native.Mathlib.Omega.{arith}
 use lib.ListN.{length-set}
 use borrow.Author.Needs.{needs}
-use Rattle.tables.proofs.memory.note.Statement.{statement}
-use Rattle.tables.proofs.memory.note.Tie as tie
+use Rattle.making.proofs.memory.note.Statement.{statement}
+use Rattle.making.proofs.memory.note.Tie as tie
 
 mul-work : tie.Need-mul-work
 mul-work c = search needs

@@ -5,7 +5,7 @@ ghost use Prim.Native.Nat.{_+_, _<_};
 ghost use Rattle.trees.specs.Tree.{mk};
 ghost use Rattle.trees.specs.Table.{at, treesOf};
 ghost use Rattle.nodes.specs.Nodes.{Table, Sides, firstLevel};
-ghost use Rattle.tables.specs.Tables.{Added, Shelf, Shelved};
+ghost use Rattle.making.specs.Tables.{Added, Shelf, Shelved};
 use crate::Made;
 use nodes::Node;
 use nodes::chain::join;

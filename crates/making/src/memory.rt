@@ -4,7 +4,7 @@
 ghost use mathlib.Core.Path.{_≡_};
 ghost use Prim.Native.Nat.{_+_, _*_, _<_, _≤_};
 ghost use lib.ListN.{length};
-ghost use Rattle.tables.specs.Tables.{Spot, Looked, noted};
+ghost use Rattle.making.specs.Tables.{Spot, Looked, noted};
 use nodes::chain::slot;
 
 // Where the slot of a key begins.

@@ -8,8 +8,8 @@ use lib.ListN.{length, getD, set}
 use Rattle.trees.specs.Tree.{Tree}
 use Rattle.nodes.specs.Nodes.{Front, Table, Grown, Stuck}
 use Rattle.nodes.specs.Chains.{Chained}
-use Rattle.tables.specs.declared.Made.{Made}
-use Rattle.tables.specs.declared.Made.the-variants.{Full, At}
+use Rattle.making.specs.declared.Made.{Made}
+use Rattle.making.specs.declared.Made.the-variants.{Full, At}
 
 -- a walk that is to add the diagram d to the first n nodes of ns, and keeps I true of the table, left ns′ and said m
 abbrev pub Added : (List ℕ → ℕ → Type 0) → List ℕ → List ℕ → ℕ → Tree → Made → Type 0

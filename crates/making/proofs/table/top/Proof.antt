@@ -1,8 +1,8 @@
 -- `top` meets its contract. Assumes nothing.
 use borrow.Author.Needs.{needs}
-use Rattle.tables.proofs.SideLaws.{top-leaf, top-node}
-use Rattle.tables.proofs.table.top.Statement.{statement}
-use Rattle.tables.proofs.table.top.Tie as tie
+use Rattle.making.proofs.SideLaws.{top-leaf, top-node}
+use Rattle.making.proofs.table.top.Statement.{statement}
+use Rattle.making.proofs.table.top.Tie as tie
 
 returns : tie.Need-returns
 returns c = top-leaf _ _ _ (c .if1 .taken)

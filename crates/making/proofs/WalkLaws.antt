@@ -8,10 +8,10 @@ use lib.Seq.{take-append-le}
 use Rattle.trees.specs.Tree.{Tree, mk}
 use Rattle.trees.specs.Table.{addTree, at, treesOf}
 use Rattle.trees.proofs.TableLaws.{Closed, Goes, goes-length, goes-at, add-goes, add-mk, add-in, closed-add, has-add}
-use Rattle.tables.specs.declared.Made.{Made}
-use Rattle.tables.specs.declared.Made.the-variants.{Full, At}
+use Rattle.making.specs.declared.Made.{Made}
+use Rattle.making.specs.declared.Made.the-variants.{Full, At}
 use Rattle.nodes.specs.Nodes.{Front, Rest, Table, Grown, Stuck}
-use Rattle.tables.specs.Tables.{Added}
+use Rattle.making.specs.Tables.{Added}
 use Rattle.trees.proofs.ReadLaws.{length-trees, back-closed}
 use Rattle.nodes.proofs.ReadLaws.{grown-goes, grown-count, grown-ref}
 

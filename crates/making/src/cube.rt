@@ -3,8 +3,8 @@
 ghost use Prim.Native.Nat.{_+_, _*_, _<_, _≤_};
 ghost use Rattle.trees.specs.Tree.{treeOf};
 ghost use Rattle.trees.specs.Table.{at, treesOf};
-ghost use Rattle.tables.specs.Tables.{Added, Shelf, Shelved};
-ghost use Rattle.tables.specs.Cubes.{bitsOver, placeOver, cubeSays};
+ghost use Rattle.making.specs.Tables.{Added, Shelf, Shelved};
+ghost use Rattle.making.specs.Cubes.{bitsOver, placeOver, cubeSays};
 use crate::Made;
 use crate::Place;
 use crate::table::make;

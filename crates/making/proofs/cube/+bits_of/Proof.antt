@@ -1,18 +1,18 @@
 -- `bits_of` meets its contract; the count falls. Assumes nothing.
 use Rattle.nodes.proofs.ReadLaws.{grown-ref}
-use Rattle.tables.proofs.NodesLaws.{shelved-same, shelved-then}
-use Rattle.tables.proofs.CubeLaws.{bits-end, bits-stuck, bits-even, bits-odd}
+use Rattle.making.proofs.NodesLaws.{shelved-same, shelved-then}
+use Rattle.making.proofs.CubeLaws.{bits-end, bits-stuck, bits-even, bits-odd}
 use native.Mathlib.Omega.{arith}
 use borrow.Author.Needs.{needs}
 use Prim.Native.Nat.{ℕ, _<_}
 use borrow.Fn.Kinds.{In}
 use borrow.Fn.PlainCycle.{Measures, is, falls, and}
-use Rattle.tables.proofs.cube.bits_of.Reads as own
-use Rattle.tables.proofs.cube.bits_of.Kinds as kinds
-use Rattle.tables.proofs.cube.+bits_of.Lts-bits_of as lts
-use Rattle.tables.proofs.table.make.Reads as make-reads
-use Rattle.tables.proofs.cube.+bits_of.{statement}
-use Rattle.tables.proofs.cube.+bits_of.Tie.{close}
+use Rattle.making.proofs.cube.bits_of.Reads as own
+use Rattle.making.proofs.cube.bits_of.Kinds as kinds
+use Rattle.making.proofs.cube.+bits_of.Lts-bits_of as lts
+use Rattle.making.proofs.table.make.Reads as make-reads
+use Rattle.making.proofs.cube.+bits_of.{statement}
+use Rattle.making.proofs.cube.+bits_of.Tie.{close}
 
 abbrev μ : Measures 2 kinds.ps ℕ
 μ κs a = a .1 .1 .1 .1 .1 .0

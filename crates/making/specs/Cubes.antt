@@ -6,8 +6,8 @@ use lib.Dec.{eqb}
 use lib.ListN.{getD}
 use Rattle.trees.specs.Bits.{Function, number}
 use Rattle.trees.specs.Tree.{Tree, off, mk}
-use Rattle.tables.specs.declared.Place.{Place}
-use Rattle.tables.specs.declared.Place.the-variants.{Any, Is}
+use Rattle.making.specs.declared.Place.{Place}
+use Rattle.making.specs.declared.Place.the-variants.{Any, Is}
 
 -- the k bits from the level base on show the number, modulo 2 ^ k, where one is given
 abbrev pub placeSays : ℕ → ℕ → Place → Function

@@ -1,8 +1,8 @@
 -- `sides` meets its contract. Assumes nothing.
 use borrow.Author.Needs.{needs}
-use Rattle.tables.proofs.SideLaws.{sides-leaf, sides-later, sides-own}
-use Rattle.tables.proofs.table.sides.Statement.{statement}
-use Rattle.tables.proofs.table.sides.Tie as tie
+use Rattle.making.proofs.SideLaws.{sides-leaf, sides-later, sides-own}
+use Rattle.making.proofs.table.sides.Statement.{statement}
+use Rattle.making.proofs.table.sides.Tie as tie
 
 returns : tie.Need-returns
 returns c = sides-leaf _ _ _ _ (c .if1 .taken)
