@@ -1,5 +1,2 @@
 -- What follows from the definitions. The proofs of the functions stand beside these files.
-pub mod PutLaws
-pub mod NumberLaws
-pub mod SessionLaws
-pub mod HeldLaws
+pub mod BlockLaws

@@ -1,3 +1,3 @@
--- What the contracts cite: the lines of the output, and what a line of the input leaves.
-pub mod Answers
-pub mod Sessions
+-- What the contracts cite: what a block leaves, and what is read.
+pub mod Blocks
+pub mod Reading

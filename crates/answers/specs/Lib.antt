@@ -1,0 +1,2 @@
+-- What the contracts cite: the lines of the output.
+pub mod Answers

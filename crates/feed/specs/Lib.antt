@@ -1,0 +1,2 @@
+-- What the contracts cite: what a block leaves.
+pub mod Feeds

@@ -1,0 +1,2 @@
+-- What follows from the definitions. The proofs of the functions stand beside these files.
+pub mod SessionLaws

@@ -1,0 +1,2 @@
+-- What the contracts cite: what a line of the input leaves.
+pub mod Sessions

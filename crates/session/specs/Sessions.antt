@@ -1,0 +1,63 @@
+-- What a session keeps from line to line. Assumes nothing: these are definitions.
+use Prim.Native.Nat.{ℕ, _+_, _-_, _*_, _^_, _≤_}
+use mathlib.Core.Path.{_≡_}
+use mathlib.Core.Bool.{cond}
+use mathlib.Core.List.{List}
+use lib.Dec.{ltb}
+use lib.ListN.{length, take}
+use Rattle.lines.specs.declared.Line.{Line}
+use Rattle.lines.specs.declared.Line.the-variants.{Sizes, Row, Event, Bad}
+use Rattle.meaning.specs.Outcome.{Machine}
+use Rattle.monitor.specs.Calls.{machine}
+use Rattle.session.specs.declared.Session.{Session}
+use Rattle.session.specs.declared.After.{After}
+use Rattle.session.specs.declared.Lent.{Lent}
+
+-- the sizes and the rule fit the tables: C is at most 512, and the rule has at most 65 rows
+pub record Sound (s : Session) : Type 0 where
+  pub nodes-few : s .c ≤ 512
+  pub rows-few : s .rows ≤ 585
+
+-- a line that reads has a C of at most 512
+abbrev pub Small : Line → Type 0
+Small (Sizes k c) = c ≤ 512
+Small (Row a b c d e f g h i) = Unit {0}
+Small (Event p n a b c d) = Unit {0}
+Small Bad = Unit {0}
+
+-- the tables have room for the largest sizes
+pub record Tables (rows nodes values work : List ℕ) : Type 0 where
+  pub rows-long : length rows ≡ 585
+  pub nodes-long : length nodes ≡ 1536
+  pub values-long : length values ≡ 4092
+  pub work-long : length work ≡ 9216
+
+-- the length of the value slice: "4 × (2^k − 1)"; a k past 10 is refused before the slice is looked at
+unfoldable pub listedOf : ℕ → ℕ
+listedOf k = cond (ltb 10 k) 0 (4 * (2 ^ k - 1))
+
+-- as much of each table as the sizes and the rule ask for: there is room for it
+pub record Sized (s : Session) (p : Lent) : Type 0 where
+  pub rows-are : p .rows ≡ s .rows
+  pub nodes-are : p .nodes ≡ 3 * s .c
+  pub values-are : p .values ≡ listedOf (s .k)
+  pub work-is : p .work ≡ 16 * s .c + 1024
+  pub rows-few : p .rows ≤ 585
+  pub nodes-few : p .nodes ≤ 1536
+  pub values-few : p .values ≤ 4092
+  pub work-few : p .work ≤ 9216
+
+-- a line that is no event leaves a sound session
+pub record Stays (s : Session) (r : After) : Type 0 where
+  pub sound : Sound (r .session)
+  pub same : r .session .ordinal ≡ s .ordinal
+
+-- a line leaves a sound session, and counts one event at most
+pub record Leaves (s : Session) (r : After) : Type 0 where
+  pub sound : Sound (r .session)
+  pub counted : r .session .ordinal ≤ s .ordinal + 1
+
+-- the parts of the tables that the sizes ask for, with the state
+unfoldable pub machineOf : Session → List ℕ → List ℕ → List ℕ → Machine
+machineOf s nodes values work =
+    machine (s .state) (take (3 * s .c) nodes) (take (listedOf (s .k)) values) (take (16 * s .c + 1024) work)
