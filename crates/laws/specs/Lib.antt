@@ -1,0 +1,2 @@
+-- What the laws of references speak of.
+pub mod Calls
