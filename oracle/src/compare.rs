@@ -87,35 +87,35 @@ fn both(
     let (mut one, mut two) = (handed.clone(), handed.clone());
     (one.state, one.answer) = call(oracle, &mut one);
     (two.state, two.answer) = call(subject, &mut two);
-    match difference(&one, &two) {
+    match difference(&one, &two, "by the oracle") {
         None => Ok(one),
         Some(differs) => Err(differs),
     }
 }
 
-/// The first thing that differs, in words.
-fn difference(oracle: &Left, subject: &Left) -> Option<String> {
-    if oracle.answer != subject.answer {
+/// The first thing that is not as wanted, in words; `whose` says who wants it.
+pub fn difference(wanted: &Left, found: &Left, whose: &str) -> Option<String> {
+    if wanted.answer != found.answer {
         return Some(format!(
-            "answer {:?} is {:?} by the oracle",
-            subject.answer, oracle.answer
+            "answer {:?} is {:?} {whose}",
+            found.answer, wanted.answer
         ));
     }
-    if oracle.state != subject.state {
+    if wanted.state != found.state {
         return Some(format!(
-            "state {:?} is {:?} by the oracle",
-            subject.state, oracle.state
+            "state {:?} is {:?} {whose}",
+            found.state, wanted.state
         ));
     }
     let slices = [
-        ("node", &oracle.nodes, &subject.nodes),
-        ("value", &oracle.values, &subject.values),
-        ("work", &oracle.work, &subject.work),
+        ("node", &wanted.nodes, &found.nodes),
+        ("value", &wanted.values, &found.values),
+        ("work", &wanted.work, &found.work),
     ];
     slices.iter().find_map(|(name, one, two)| {
         let place = (0..one.len()).find(|&place| one[place] != two[place])?;
         Some(format!(
-            "number {place} of the {name} slice is {} and {} by the oracle",
+            "number {place} of the {name} slice is {} and {} {whose}",
             two[place], one[place]
         ))
     })

@@ -7,6 +7,7 @@ pub mod enumerating;
 pub mod event;
 pub mod generate;
 pub mod layout;
+pub mod limits;
 pub mod lines;
 #[cfg(feature = "linked")]
 pub mod linked;

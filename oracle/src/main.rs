@@ -6,7 +6,8 @@ use std::process::ExitCode;
 use oracle::coverage::{Coverage, BY_INPUTS};
 use oracle::enumerating::Oracle;
 use oracle::generate::{calls, inputs};
-use oracle::{program, runs};
+use oracle::monitor::Monitor;
+use oracle::{limits, program, runs};
 
 #[cfg(feature = "linked")]
 use oracle::linked::Linked as Subject;
@@ -20,6 +21,8 @@ const USAGE: &str = "oracle < FILE
 oracle fixed
 oracle compare SEED COUNT
 oracle compare-program SEED COUNT --run COMMAND..
+oracle limits FILE..
+oracle lines FILE --run COMMAND..
 oracle input SEED INDEX
 oracle trial SEED INDEX";
 
@@ -48,6 +51,8 @@ fn command() -> Result<(), String> {
         ["compare-program", seed, count, "--run", ref run @ ..] if !run.is_empty() => {
             compare_program(number(seed)?, number(count)?, run)?
         }
+        ["lines", file, "--run", ref run @ ..] if !run.is_empty() => lines(file, run)?,
+        ["limits", ref files @ ..] if !files.is_empty() => written(files)?,
         ["input", seed, index] => {
             let input = inputs::input(number(seed)?, number(index)?);
             return stdout()
@@ -87,10 +92,46 @@ fn fixed() -> Result<String, String> {
 }
 
 fn compare_program(seed: u64, count: u64, run: &[&str]) -> Result<String, String> {
-    let run: Vec<String> = run.iter().map(ToString::to_string).collect();
     let mut coverage = Coverage::of(BY_INPUTS);
-    let mut subject = |input: &[u8]| runs::command_printed(&run, input);
-    runs::program_inputs(seed, count, &mut subject, &mut coverage)?;
+    runs::program_inputs(seed, count, &mut command_of(run), &mut coverage)?;
     coverage.print();
     Ok(format!("seed {seed}: {count} inputs, no difference"))
+}
+
+/// The program that a command is.
+fn command_of(run: &[&str]) -> impl FnMut(&[u8]) -> Result<Vec<u8>, String> {
+    let run: Vec<String> = run.iter().map(ToString::to_string).collect();
+    move |input| runs::command_printed(&run, input)
+}
+
+fn text_of(file: &str) -> Result<String, String> {
+    std::fs::read_to_string(file).map_err(|error| format!("{file}: {error}"))
+}
+
+/// The written lines, in inputs of a command.
+fn lines(file: &str, run: &[&str]) -> Result<String, String> {
+    let count = limits::run_lines(&text_of(file)?, &mut command_of(run));
+    let count = count.map_err(|wrong| format!("{file}:{wrong}"))?;
+    Ok(format!("{count} lines read as written"))
+}
+
+/// The written cases, on every monitor that is here.
+fn written(files: &[&str]) -> Result<String, String> {
+    let (mut cases, mut calls) = (0, 0);
+    for file in files {
+        let at = |wrong: String| format!("{file}:{wrong}");
+        let all = limits::read(&text_of(file)?).map_err(at)?;
+        cases += all.len();
+        for case in &all {
+            let mut oracle = Oracle::default();
+            let monitors: [&mut dyn Monitor; 2] = [&mut oracle, &mut Subject];
+            for monitor in monitors {
+                calls += limits::run(case, monitor).map_err(at)?;
+            }
+        }
+    }
+    Ok(format!(
+        "{cases} cases, {} calls, all as written",
+        calls / 2
+    ))
 }

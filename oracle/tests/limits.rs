@@ -1,187 +1,88 @@
-//! What document 01 says of both sides of each limit, where it speaks of slices and states.
+//! The written cases bite: another number anywhere in what is written to be left is told, and so is another reading of a line.
 
-use oracle::enumerating::Oracle;
-use oracle::event::{Answer, Event, State};
-use oracle::monitor::{Monitor, Stepping};
-use oracle::numbering::numbers;
+use oracle::limits::{read, run, run_lines};
+use oracle::monitor::Stepping;
+use oracle::runs::printed;
 
-/// Rule K: shelved(x) only after confirmed(x) with no questioned(x) since.
-const RULE_K: [[u32; 9]; 9] = [
-    [2, 3, 1, 0, 0, 0, 0, 0, 0],
-    [2, 2, 1, 0, 0, 0, 0, 0, 0],
-    [4, 1, 0, 0, 0, 0, 0, 0, 0],
-    [2, 1, 1, 0, 0, 0, 0, 0, 0],
-    [5, 2, 3, 0, 0, 0, 0, 0, 0],
-    [4, 4, 0, 0, 0, 0, 0, 0, 0],
-    [3, 0, 5, 0, 0, 0, 0, 0, 0],
-    [7, 0, 6, 0, 0, 0, 0, 0, 0],
-    [4, 7, 0, 0, 0, 0, 0, 0, 0],
-];
+const RULE_K: &str = include_str!("../limits/rule-k.txt");
+const ROWS: &str = include_str!("../limits/rows.txt");
+const LINES: &str = include_str!("../cases/lines.txt");
 
-struct Run {
-    monitor: Box<dyn Monitor>,
-    state: State,
-    rows: Vec<u32>,
-    nodes: Vec<u32>,
-    values: Vec<u32>,
-    work: Vec<u32>,
+/// What the first difference is, in a text of cases.
+fn told(text: &str) -> Result<(), String> {
+    for case in read(text)? {
+        run(&case, &mut Stepping)?;
+    }
+    Ok(())
 }
 
-impl Run {
-    fn of(monitor: Box<dyn Monitor>, k: u32, count: usize, rows: &[[u32; 9]]) -> Run {
-        let mut run = Run {
-            monitor,
-            state: State::ZERO,
-            rows: rows.concat(),
-            nodes: vec![9; 3 * count],
-            values: vec![9; 4 * numbers(k)],
-            work: vec![9; 16 * count + 1024],
-        };
-        let started = run
-            .monitor
-            .start(k, &run.rows, &mut run.nodes, &mut run.values);
-        assert_eq!(started.1, Answer::Started);
-        run.state = started.0;
-        run
-    }
+/// The text with a line of another content, where the line stands first.
+fn with(text: &str, line: &str, other: &str) -> String {
+    assert!(text.contains(line), "{line}");
+    text.replacen(line, other, 1)
+}
 
-    fn event(&mut self, predicate: u32, values: &[u32]) -> Answer {
-        let event = Event::new(predicate, values);
-        let (state, answer) = self.monitor.event(
-            self.state,
-            &self.rows,
-            &mut self.nodes,
-            &mut self.values,
-            &mut self.work,
-            &event,
-        );
-        self.state = state;
-        answer
-    }
+#[test]
+fn the_cases_are_as_written() {
+    assert_eq!(told(RULE_K), Ok(()));
+    assert_eq!(told(ROWS), Ok(()));
+}
 
-    fn says(&mut self, predicate: u32, values: &[u32]) -> bool {
-        match self.event(predicate, values) {
-            Answer::Verdict { yes, .. } => yes,
-            other => panic!("{other:?} is no verdict"),
-        }
+#[test]
+fn another_number_is_told() {
+    for (line, other) in [
+        ("answer yes, kept 4, room 4", "answer yes, kept 4, room 5"),
+        ("answer yes, kept 4, room 4", "answer no, kept 4, room 4"),
+        ("refs 0 0 1 3 3 5 0 0 1", "refs 0 0 1 3 3 5 0 0 1 1"),
+        ("counts 1, ", ""),
+        (
+            "nodes 1 1 0; 0 2 0; 1 0 1; 0 4 1",
+            "nodes 1 1 0; 0 2 0; 1 0 1",
+        ),
+        ("nodes 1 1 0; 0 2 0; 1 0 1; 0 4 1\n", "\n"),
+        ("values 7\n", "values ; 7\n"),
+        ("work 0*2048", "work 0*2047"),
+        ("work 0*2048", ""),
+    ] {
+        let wrong = told(&with(RULE_K, line, other));
+        let wrong = wrong.expect_err(other);
+        assert!(wrong.contains("rule K, k 2, C 64: "), "{wrong}");
+    }
+    // A refused call leaves all as it was: also a line that says 0 is told.
+    let refused = "event 9\n  answer refused 1, place 0\n";
+    for left in ["nodes 0", "work 0", "state 0"] {
+        let other = format!("{refused}{left}\n");
+        assert!(told(&with(ROWS, refused, &other)).is_err(), "{left}");
     }
 }
 
-/// The same run by enumeration and by steps.
-fn both(k: u32, count: usize, rows: &[[u32; 9]], check: impl Fn(Run)) {
-    check(Run::of(Box::new(Oracle::default()), k, count, rows));
-    check(Run::of(Box::new(Stepping), k, count, rows));
+#[test]
+fn what_is_no_case_is_told() {
+    let event = "event 1 7  # 1 confirmed 7\n";
+    for other in ["event\n", "event 1 7x\n", "given\n", "happen 1 7\n"] {
+        assert!(told(&with(RULE_K, event, other)).is_err(), "{other}");
+    }
+    let twice = "values 7\nvalues 7\n";
+    assert!(told(&with(RULE_K, "values 7\n", twice)).is_err());
+    assert!(told(&with(RULE_K, "lent rows 81", "lent rows 80")).is_err());
+    assert!(told("case nothing happens\n").is_err());
+    assert!(told("case no answer\nlent rows 0\nevent 1\n").is_err());
 }
 
 #[test]
-fn nodes_and_references_after_the_first_event_of_rule_k() {
-    both(2, 64, &RULE_K, |mut run| {
-        run.event(1, &[7]);
-        assert_eq!(run.nodes[..12], [1, 1, 0, 0, 2, 0, 1, 0, 1, 0, 4, 1]);
-        assert!(run.nodes[12..].iter().all(|&number| number == 0));
-        assert_eq!(run.state.refs[..9], [0, 0, 1, 3, 3, 5, 0, 0, 1]);
-        assert_eq!(run.values[..2], [7, 0]);
-    });
-}
-
-#[test]
-fn five_nodes_are_too_few_for_the_third_event_of_rule_k() {
-    both(2, 5, &RULE_K, |mut run| {
-        run.event(1, &[7]);
-        run.event(3, &[7]);
-        let before = (run.state, run.nodes.clone(), run.values.clone());
-        run.work.fill(9);
-        let refused = Answer::Refused {
-            number: 7,
-            place: 0,
-        };
-        assert_eq!(run.event(3, &[8]), refused);
-        assert_eq!((run.state, run.nodes, run.values.clone()), before);
-        assert!(!run.values.contains(&8));
-        assert!(run.work.iter().all(|&number| number == 0));
-    });
-}
-
-#[test]
-fn six_nodes_are_enough_for_the_third_event_of_rule_k() {
-    both(2, 6, &RULE_K, |mut run| {
-        run.event(1, &[7]);
-        run.event(3, &[7]);
-        let verdict = Answer::Verdict {
-            yes: false,
-            kept: 5,
-            room: 6,
-        };
-        assert_eq!(run.event(3, &[8]), verdict);
-        assert_eq!(run.values[..3], [7, 8, 0]);
-    });
-}
-
-#[test]
-fn a_fourth_value_has_no_number_left() {
-    both(2, 64, &RULE_K, |mut run| {
-        for value in 1..=3 {
-            assert!(run.says(1, &[value]));
-        }
-        let refused = Answer::Refused {
-            number: 6,
-            place: 0,
-        };
-        assert_eq!(run.event(1, &[4]), refused);
-        assert!(run.says(1, &[1]));
-        assert_eq!(run.values[..3], [1, 2, 3]);
-    });
-}
-
-#[test]
-fn a_pair_that_differs_numbers_nothing() {
-    let rule = [[2, 1, 2, 0, 0, 0, 0, 0, 0], [7, 0, 0, 0, 0, 0, 0, 0, 0]];
-    both(2, 64, &rule, |mut run| {
-        assert!(!run.says(1, &[3, 5]));
-        assert_eq!(run.state.counts, [0; 4]);
-        assert!(run.says(1, &[3, 3]));
-        assert_eq!(run.state.counts, [1, 0, 0, 0]);
-        assert!(!run.says(1, &[3, 5]));
-        assert_eq!(run.state.counts, [1, 0, 0, 0]);
-    });
-}
-
-#[test]
-fn the_last_number_stands_for_unseen_values() {
-    let rule = [
-        [1, 0, 0, 0, 0, 0, 0, 0, 0],
-        [2, 1, 1, 0, 0, 0, 0, 0, 0],
-        [5, 0, 1, 0, 0, 0, 0, 0, 0],
-        [4, 2, 0, 0, 0, 0, 0, 0, 0],
-        [7, 0, 3, 0, 0, 0, 0, 0, 0],
-    ];
-    both(1, 64, &rule, |mut run| {
-        assert!(run.says(1, &[3]));
-        assert_eq!(run.state.counts, [1, 0, 0, 0]);
-    });
-}
-
-#[test]
-fn one_event_asks_two_numbers_of_one_variable() {
-    let rule = [
-        [2, 1, 2, 0, 0, 0, 1, 0, 0],
-        [2, 1, 2, 0, 1, 0, 0, 0, 0],
-        [3, 0, 1, 0, 0, 0, 0, 0, 0],
-        [7, 1, 2, 0, 0, 0, 0, 0, 0],
-        [7, 0, 3, 0, 0, 0, 0, 0, 0],
-    ];
-    both(1, 64, &rule, |mut run| assert!(run.says(1, &[1, 1])));
-    both(1, 64, &rule, |mut run| {
-        let refused = Answer::Refused {
-            number: 6,
-            place: 0,
-        };
-        assert_eq!(run.event(1, &[1, 2]), refused);
-        assert_eq!(run.state.counts, [0; 4]);
-    });
-    both(2, 64, &rule, |mut run| {
-        assert!(!run.says(1, &[1, 2]));
-        assert_eq!(run.state.counts, [2, 2, 0, 0]);
-        assert_eq!(run.values[..6], [1, 2, 0, 2, 1, 0]);
-    });
+fn another_reading_of_a_line_is_told() {
+    let mut right = |input: &[u8]| Ok(printed(&mut Stepping, input));
+    assert_eq!(run_lines(LINES, &mut right), Ok(34));
+    for (line, other) in [
+        ("sizes 2 64 |2 64|", "sizes 2 65 |2 64|"),
+        ("event 1 7 |e 1 7|", "bad |e 1 7|"),
+        ("bad |2 513|", "sizes 2 513 |2 513|"),
+    ] {
+        assert!(run_lines(&with(LINES, line, other), &mut right).is_err());
+    }
+    let mut lenient = |input: &[u8]| {
+        let input = String::from_utf8_lossy(input).replace("\r\n", "\n");
+        Ok(printed(&mut Stepping, input.as_bytes()))
+    };
+    assert!(run_lines(LINES, &mut lenient).is_err());
 }
