@@ -2,4 +2,5 @@
 pub mod FunctionLaws
 pub mod CallLaws
 pub mod SideLaws
+pub mod FormLaws
 pub mod References

@@ -1,15 +1,17 @@
 -- A9: "On well-formed input with room enough, both sides come out as the same reference". Calls of the walks, one after the
 -- other on one table; what a call asks and promises is in specs/Calls. Stated for every number of levels. Assumes nothing.
 use Prim.Native.Nat.{ℕ}
-use mathlib.Core.Path.{_≡_, ap}
+use mathlib.Core.Path.{_≡_, sym, ap, _∙_}
 use mathlib.Core.List.{List}
-use Rattle.trees.specs.Bits.{Function, Same}
-use Rattle.trees.specs.Tree.{Tree, treeOf}
+use Rattle.trees.specs.Bits.{Same}
+use Rattle.trees.specs.Tree.{Tree}
 use Rattle.trees.specs.Table.{refOf}
 use Rattle.trees.proofs.FunctionLaws.{tree-same}
 use Rattle.laws.specs.Calls.{Held, AndCall, OrCall, NotCall, RemoveCall}
+use Rattle.laws.specs.Forms.{Form, worked, formSays, Formed}
 use Rattle.laws.proofs.CallLaws.{input-leads, drops-input}
 use Rattle.laws.proofs.SideLaws.{and-swapped, and-regrouped, and-itself, not-back, or-written, drops-exchanged, drops-shared}
+use Rattle.laws.proofs.FormLaws.{worked-is}
 
 module _ (levels : ℕ) where
   -- "and is commutative": p and q, then q and p
@@ -59,6 +61,8 @@ module _ (levels : ℕ) where
       → r ≡ s
   or-by-and a b c d e = or-written (input-leads (a .0)) (input-leads (b .0)) a b c d e
 
-  -- of plans: rows whose functions say the same have the same reference in the table that a step leaves
-  pub rows-alike : (ts : List Tree) (f g : Function) → Same f g → refOf ts (treeOf levels f) ≡ refOf ts (treeOf levels g)
-  rows-alike ts f g e = ap (refOf ts) (tree-same levels f g e)
+  -- of plans, whose rows end in one table: rows that work formulas that say the same, as the sides of these laws do, have the
+  -- same reference there
+  pub rows-alike : (ts : List Tree) (f g : Form) → Formed levels f → Formed levels g → Same (formSays f) (formSays g)
+      → refOf ts (worked levels f) ≡ refOf ts (worked levels g)
+  rows-alike ts f g v w e = ap (refOf ts) (worked-is levels f v ∙ tree-same levels _ _ e ∙ sym (worked-is levels g w))
