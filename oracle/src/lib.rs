@@ -6,6 +6,7 @@ pub mod coverage;
 pub mod enumerating;
 pub mod event;
 pub mod generate;
+pub mod laws;
 pub mod layout;
 pub mod limits;
 pub mod lines;

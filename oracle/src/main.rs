@@ -5,7 +5,7 @@ use std::process::ExitCode;
 
 use oracle::coverage::{Coverage, BY_INPUTS};
 use oracle::enumerating::Oracle;
-use oracle::generate::{calls, inputs};
+use oracle::generate::{calls, inputs, laws};
 use oracle::monitor::Monitor;
 use oracle::{limits, program, runs};
 
@@ -24,7 +24,8 @@ oracle compare-program SEED COUNT --run COMMAND..
 oracle limits FILE..
 oracle lines FILE --run COMMAND..
 oracle input SEED INDEX
-oracle trial SEED INDEX";
+oracle trial SEED INDEX
+oracle pair SEED INDEX";
 
 fn main() -> ExitCode {
     let work = std::thread::Builder::new().stack_size(STACK).spawn(command);
@@ -46,7 +47,7 @@ fn command() -> Result<(), String> {
         ["fixed"] => fixed()?,
         ["compare", seed, count] => {
             let (seed, count) = (number(seed)?, number(count)?);
-            runs::all(seed, count, count / 3, &mut Subject)?.said
+            runs::all(seed, count, count / 4, count / 3, &mut Subject)?.said
         }
         ["compare-program", seed, count, "--run", ref run @ ..] if !run.is_empty() => {
             compare_program(number(seed)?, number(count)?, run)?
@@ -60,6 +61,7 @@ fn command() -> Result<(), String> {
                 .map_err(|error| error.to_string());
         }
         ["trial", seed, index] => format!("{:#?}", calls::trial(number(seed)?, number(index)?)),
+        ["pair", seed, index] => format!("{:#?}", laws::pair(number(seed)?, number(index)?)),
         _ => return Err(USAGE.to_string()),
     };
     println!("{said}");
@@ -82,6 +84,7 @@ fn fixed() -> Result<String, String> {
     let summary = runs::all(
         runs::FIXED_SEED,
         runs::FIXED_TRIALS,
+        runs::FIXED_PAIRS,
         runs::FIXED_INPUTS,
         &mut Subject,
     )?;

@@ -5,7 +5,7 @@ use std::process::{Command, Stdio};
 
 use crate::coverage::{Coverage, BY_CALLS, BY_INPUTS};
 use crate::enumerating::Oracle;
-use crate::generate::{calls, inputs, small};
+use crate::generate::{calls, inputs, laws, small};
 use crate::monitor::Monitor;
 use crate::{compare, program};
 
@@ -16,6 +16,8 @@ pub type Program<'a> = dyn FnMut(&[u8]) -> Result<Vec<u8>, String> + 'a;
 pub const FIXED_SEED: u64 = 2026;
 /// How many trials the fixed set has.
 pub const FIXED_TRIALS: u64 = 12_000;
+/// How many rules with both sides of a law the fixed set has.
+pub const FIXED_PAIRS: u64 = 3_000;
 /// How many inputs of the program the fixed set has.
 pub const FIXED_INPUTS: u64 = 4_000;
 
@@ -30,6 +32,21 @@ pub fn trials(
         calls::trial(seed, index)
             .run(subject, coverage)
             .map_err(|difference| format!("seed {seed}, trial {index}: {difference}"))?;
+    }
+    Ok(())
+}
+
+/// Runs rules with both sides of a law, and gives the first difference with its seed and index.
+pub fn pairs(
+    seed: u64,
+    count: u64,
+    subject: &mut dyn Monitor,
+    coverage: &mut Coverage,
+) -> Result<(), String> {
+    for index in 0..count {
+        laws::pair(seed, index)
+            .run(subject, coverage)
+            .map_err(|difference| format!("seed {seed}, pair {index}: {difference}"))?;
     }
     Ok(())
 }
@@ -151,16 +168,18 @@ pub struct Summary {
     pub missing: Vec<&'static str>,
 }
 
-/// Runs trials, the small rules and program inputs, and prints how often each thing was reached.
+/// Runs trials, the small rules, pairs and program inputs, and prints how often each thing was reached.
 pub fn all(
     seed: u64,
     trial_count: u64,
+    pair_count: u64,
     input_count: u64,
     subject: &mut dyn Monitor,
 ) -> Result<Summary, String> {
     let mut by_calls = Coverage::of(BY_CALLS);
     let mut by_inputs = Coverage::of(BY_INPUTS);
     trials(seed, trial_count, subject, &mut by_calls)?;
+    pairs(seed, pair_count, subject, &mut by_calls)?;
     let small = all_small(subject, &mut by_calls)?;
     let mut program = |input: &[u8]| Ok(printed(subject, input));
     program_inputs(seed, input_count, &mut program, &mut by_inputs)?;
@@ -168,7 +187,7 @@ pub fn all(
     by_inputs.print();
     Ok(Summary {
         said: format!(
-            "seed {seed}: {trial_count} trials, {small} small cases and {input_count} inputs, no difference"
+            "seed {seed}: {trial_count} trials, {pair_count} pairs, {small} small cases and {input_count} inputs, no difference"
         ),
         missing: [by_calls.missing(), by_inputs.missing()].concat(),
     })

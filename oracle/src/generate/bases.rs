@@ -10,7 +10,7 @@ use crate::rows::{Row, Rule, FIELDS, MOST_ROWS};
 use crate::table::bits;
 
 /// A k, and rows whose tables are over not too many bits for it.
-fn setting(random: &mut Random) -> (u32, Vec<u32>) {
+pub fn setting(random: &mut Random) -> (u32, Vec<u32>) {
     if random.once_in(300) {
         let wish = Wish {
             variables: 2,
@@ -63,6 +63,11 @@ fn fill_up(rows: &mut Vec<u32>) {
 
 pub fn from_start(random: &mut Random) -> Case {
     let (k, rows) = setting(random);
+    start_of(random, k, rows)
+}
+
+/// A fresh start of a rule, and a log.
+pub fn start_of(random: &mut Random, k: u32, rows: Vec<u32>) -> Case {
     let rule = Rule::read(&rows).expect("made rules are right");
     let large = bits(k, &rows) > Some(12);
     let size = random.between(1, (1 << k.min(3)) + 2);
@@ -80,28 +85,33 @@ pub fn from_start(random: &mut Random) -> Case {
 pub fn from_state(random: &mut Random) -> Case {
     loop {
         let (k, rows) = setting(random);
-        let rule = Rule::read(&rows).expect("made rules are right");
-        let Some(made) = states::state(random, k, &rule, 4096) else {
-            continue;
-        };
-        let kept = made.nodes.len() / 3;
-        let count = (kept + random.below(kept + 20)).clamp(1, 4096);
-        let mut nodes = made.nodes;
-        nodes.resize(3 * count, 0);
-        // Values that have numbers come again more often than others.
-        let mut pool = pool(random, 4);
-        let listed = made.values.iter().take(2 << k);
-        pool.extend(listed.filter(|&&value| value != 0).take(8));
-        let length = random.between(1, 3);
-        return Case {
-            begin: Begin::Given(made.state),
-            work: vec![DIRT; work_used(&nodes) + random.below(3)],
-            nodes,
-            values: made.values,
-            events: log(random, &rule, &pool, length),
-            rows,
-        };
+        if let Some(case) = state_of(random, k, rows) {
+            return case;
+        }
     }
+}
+
+/// A state of a rule and a short log, where one of at most 4,096 nodes is found.
+pub fn state_of(random: &mut Random, k: u32, rows: Vec<u32>) -> Option<Case> {
+    let rule = Rule::read(&rows).expect("made rules are right");
+    let made = states::state(random, k, &rule, 4096)?;
+    let kept = made.nodes.len() / 3;
+    let count = (kept + random.below(kept + 20)).clamp(1, 4096);
+    let mut nodes = made.nodes;
+    nodes.resize(3 * count, 0);
+    // Values that have numbers come again more often than others.
+    let mut pool = pool(random, 4);
+    let listed = made.values.iter().take(2 << k);
+    pool.extend(listed.filter(|&&value| value != 0).take(8));
+    let length = random.between(1, 3);
+    Some(Case {
+        begin: Begin::Given(made.state),
+        work: vec![DIRT; work_used(&nodes) + random.below(3)],
+        nodes,
+        values: made.values,
+        events: log(random, &rule, &pool, length),
+        rows,
+    })
 }
 
 pub fn either(random: &mut Random) -> Case {

@@ -6,6 +6,7 @@ pub mod disguise;
 pub mod disturb;
 pub mod events;
 pub mod inputs;
+pub mod laws;
 pub mod refused;
 pub mod rules;
 pub mod small;

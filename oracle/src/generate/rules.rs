@@ -132,7 +132,7 @@ fn inner(random: &mut Random, place: usize) -> Row {
 }
 
 /// Adds exists rows until the last row has no free variable, sometimes with a not between.
-fn close(random: &mut Random, rows: &mut Vec<Row>) {
+pub fn close(random: &mut Random, rows: &mut Vec<Row>) {
     let free = free_in_last(rows);
     for variable in (0..VARIABLES).filter(|&variable| free[variable]) {
         rows.push(Row::Exists {

@@ -1,0 +1,3 @@
+-- What the laws of references speak of.
+pub mod Calls
+pub mod Forms
