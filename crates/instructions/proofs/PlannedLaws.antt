@@ -1,8 +1,8 @@
 -- How a plan grows row by row, and that a whole one is the event's. Assumes nothing.
-use Prim.Native.Nat.{ℕ, zero, suc, _+_, _*_, _<_, _≤_}
+use Prim.Native.Nat.{ℕ, suc, _+_, _*_, _<_, _≤_}
 use mathlib.Core.Path.{_≡_, refl, ap, sym, _∙_}
 use mathlib.Core.Bool.{Bool}
-use mathlib.Core.List.{List, [], _∷_}
+use mathlib.Core.List.{List}
 use mathlib.Core.Logic.{⊎-elim}
 use native.Mathlib.Omega.{arith}
 use lib.ListN.{length, getD, replicate, set, length-set, getD-replicate, length-replicate}
@@ -14,7 +14,6 @@ use Rattle.meaning.specs.Rows.{Row, truth, atom, both, neg, since, previous, ex
 use Rattle.meaning.specs.Numbering.{Lists, askRows}
 use Rattle.meaning.specs.Outcome.{factOf}
 use Rattle.meaning.proofs.RowsLaws.{rows-at, rows-length}
-use Rattle.meaning.proofs.AskingLaws.{Covered, AllCovered, askRows-covers}
 use Rattle.rule.specs.Decoded.{rowOf, rowReadAt}
 use Rattle.rule.proofs.DecodedLaws.{row-says}
 use Rattle.numbers.specs.Matching.{matchesRow}
@@ -56,19 +55,14 @@ matched-is e (since l r) = tt
 matched-is e (previous r) = tt
 matched-is e (exists x r) = tt
 
-covered-at : (e : Fact) (L : Lists) (rs : List Row) → AllCovered e L rs → (i : ℕ) → i < length rs → Covered e L (getD rs i truth)
-covered-at e L [] c i h = absurd (omega arith)
-covered-at e L (r ∷ rs) c zero h = c .0
-covered-at e L (r ∷ rs) c (suc i) h = covered-at e L rs (c .1) i (omega arith)
-
 -- a whole plan asks of each row what the event asks of it
-pub planned-is : (raw : List ℕ) (e : Event) (given : List ℕ) (L : Lists) (plan : List Instruction) → Planned raw e given plan → NumbersRight (askRows (factOf e) L (ruleOf raw)) (factOf e .values) given
+pub planned-is : (raw : List ℕ) (e : Event) (given : List ℕ) (L : Lists) (plan : List Instruction) → Planned raw e given plan
+    → ((i : ℕ) → i < rowCount raw → NumbersRight (factOf e) (askRows (factOf e) L (ruleOf raw)) (rowAt raw i) given)
     → (i : ℕ) → i < length (ruleOf raw) → getD plan i Yes ≡ instructionOf (askRows (factOf e) L (ruleOf raw)) (factOf e) (getD (ruleOf raw) i truth)
 unfolding ruleOf
 planned-is raw e given L plan p n i h =
     let l : i < rowCount raw = rw rows-length at h in
     let a : getD (ruleOf raw) i truth ≡ rowAt raw i = rows-at raw (rowCount raw) i l in
-    let c : Covered (factOf e) (askRows (factOf e) L (ruleOf raw)) (getD (ruleOf raw) i truth) = covered-at (factOf e) _ (ruleOf raw) (askRows-covers (factOf e) (ruleOf raw) L) i h in
     p .each i l
-    ∙ instruction-reads (askRows (factOf e) L (ruleOf raw)) (factOf e) (rowReadAt raw i) (matchesRow (factOf e) (rowAt raw i)) given n (rw (row-says raw i) (matched-is (factOf e) (rowAt raw i))) (rw (row-says raw i) (rw a at c))
+    ∙ instruction-reads (askRows (factOf e) L (ruleOf raw)) (factOf e) (rowReadAt raw i) (matchesRow (factOf e) (rowAt raw i)) given (rw (row-says raw i) (n i l)) (rw (row-says raw i) (matched-is (factOf e) (rowAt raw i)))
     ∙ rw (row-says raw i, a)

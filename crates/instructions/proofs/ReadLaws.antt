@@ -5,13 +5,14 @@ use mathlib.Core.Bool.{Bool, true, false, cond, _&&_}
 use mathlib.Core.List.{List, [], _∷_}
 use native.Mathlib.Omega.{arith}
 use lib.Dec.{eqb}
-use lib.ListN.{length, getD, take}
+use lib.ListN.{getD, take}
 use Rattle.trees.proofs.Tests.{EqCase, equal, eq-case, false-true, and-true-r}
 use Rattle.meaning.specs.Qtl.{Argument, variable, constant, Fact}
 use Rattle.meaning.specs.Rows
 use Rattle.meaning.specs.Rows.{truth, atom, both, neg, since, previous, exists}
 use Rattle.meaning.specs.Numbering.{Lists, place, repeats, fits}
-use Rattle.meaning.proofs.AskingLaws.{Has, Asked, InLists, Covered}
+use Rattle.numbers.specs.Matching.{matchesRow, argumentsIn}
+use Rattle.numbers.specs.Asking.{AsksFor}
 use Rattle.rule.specs.declared.Row.{Row}
 use Rattle.rule.specs.declared.Argument
 use Rattle.rule.specs.Decoded.{argumentOf, rowOf}
@@ -64,9 +65,9 @@ module _ (gs : List Argument) (matched : Bool) (numbers : List ℕ) where
   unfolding cubeRead
   cube-no m = rw m
 
--- the table has the number of each listed value of the event
-abbrev pub NumbersRight : Lists → List ℕ → List ℕ → Type 0
-NumbersRight L ys numbers = (v j : ℕ) → v < 4 → j < length ys → Has (L v) (getD ys j 0) → getD numbers (3 * v + j) 0 ≡ place (L v) (getD ys j 0)
+-- where the row matches the event, the table has the numbers of its variables' values
+abbrev pub NumbersRight : Fact → Lists → Rows.Row → List ℕ → Type 0
+NumbersRight e L r numbers = (v j : ℕ) → v < 4 → AsksFor e r v j → getD numbers (3 * v + j) 0 ≡ place (L v) (getD (e .values) j 0)
 
 -- an atom matches just where its predicate is the event's and its arguments fit
 abbrev pub matchedRight : Fact → Rows.Row → Bool → Type 0
@@ -79,63 +80,57 @@ matchedRight e (previous r) matched = Unit {0}
 matchedRight e (exists x r) matched = Unit {0}
 
 module _ (L : Lists) (numbers : List ℕ) where
-  -- from the place j on: the table has the numbers of the values that are left
-  abbrev From : ℕ → List ℕ → Type 0
-  From j ys = (v i : ℕ) → v < 4 → i < length ys → Has (L v) (getD ys i 0) → getD numbers (3 * v + (j + i)) 0 ≡ place (L v) (getD ys i 0)
+  -- from the place j on: the table has the numbers of the variables that are left
+  abbrev From : ℕ → List Argument → List ℕ → Type 0
+  From j gs ys = (v i : ℕ) → v < 4 → getD gs i (constant 0) ≡ variable v → getD numbers (3 * v + (j + i)) 0 ≡ place (L v) (getD ys i 0)
 
-  from-start : (ys : List ℕ) → NumbersRight L ys numbers → From 0 ys
-  from-start ys h v i lv li hv = rw (let z : 0 + i ≡ i = omega arith in z) (h v i lv li hv)
+  from-next : (j y : ℕ) (g : Argument) (gs : List Argument) (ys : List ℕ) → From j (g ∷ gs) (y ∷ ys) → From (suc j) gs ys
+  from-next j y g gs ys h v i lv e = rw (let z : j + suc i ≡ suc j + i = omega arith in z) at (h v (suc i) lv e)
 
-  from-next : (j y : ℕ) (ys : List ℕ) → From j (y ∷ ys) → From (suc j) ys
-  from-next j y ys h v i lv li hv = rw (let z : j + suc i ≡ suc j + i = omega arith in z) at (h v (suc i) lv (omega arith) hv)
-
-  from-here : (j y : ℕ) (ys : List ℕ) → From j (y ∷ ys) → (v : ℕ) → v < 4 → Has (L v) y → numberRead numbers v j ≡ record { 0 = place (L v) y }
+  from-here : (j y v : ℕ) (gs : List Argument) (ys : List ℕ) → From j (variable v ∷ gs) (y ∷ ys) → v < 4 → numberRead numbers v j ≡ record { 0 = place (L v) y }
   unfolding numberRead
-  from-here j y ys h v lv hv = ap (λ (n : ℕ). record { 0 = n }) (rw (let z : j + 0 ≡ j = omega arith in z) at (h v 0 lv (omega arith) hv))
+  from-here j y v gs ys h lv = ap (λ (n : ℕ). record { 0 = n }) (rw (let z : j + 0 ≡ j = omega arith in z) at (h v 0 lv refl))
 
-  place-reads : (gs : List Argument) (ys : List ℕ) (v j : ℕ) → v < 4 → From j ys → Asked (InLists L) gs ys → fits gs ys ≡ true
-      → placeRead v j gs numbers ≡ placeOf L v gs ys
+  place-reads : (gs : List Argument) (ys : List ℕ) (v j : ℕ) → v < 4 → From j gs ys → fits gs ys ≡ true → placeRead v j gs numbers ≡ placeOf L v gs ys
   unfolding placeRead placeOf names fits
-  place-reads [] ys v j lv n a f = refl
-  place-reads (g ∷ gs) [] v j lv n a f = absurd (false-true refl f)
-  place-reads (constant c ∷ gs) (y ∷ ys) v j lv n a f = place-reads gs ys v (suc j) lv (from-next j y ys n) a (and-true-r (eqb c y) (fits gs ys) f)
-  place-reads (variable w ∷ gs) (y ∷ ys) v j lv n a f =
-      go (eqb w v) (eq-case w v) (place-reads gs ys v (suc j) lv (from-next j y ys n) (a .1) (and-true-r (repeats w y gs ys) (fits gs ys) f))
+  place-reads [] ys v j lv n f = refl
+  place-reads (g ∷ gs) [] v j lv n f = absurd (false-true refl f)
+  place-reads (constant c ∷ gs) (y ∷ ys) v j lv n f = place-reads gs ys v (suc j) lv (from-next j y (constant c) gs ys n) (and-true-r (eqb c y) (fits gs ys) f)
+  place-reads (variable w ∷ gs) (y ∷ ys) v j lv n f =
+      go (eqb w v) (eq-case w v) (place-reads gs ys v (suc j) lv (from-next j y (variable w) gs ys n) (and-true-r (repeats w y gs ys) (fits gs ys) f))
     where
       go : (t : Bool) → EqCase w v t → placeRead v (suc j) gs numbers ≡ placeOf L v gs ys
           → cond t (Is (numberRead numbers v j)) (placeRead v (suc j) gs numbers) ≡ cond t (Is (record { 0 = place (L v) y })) (placeOf L v gs ys)
-      go true (equal q) later = ap (λ (x : Number). Is x) (from-here j y ys n v lv (rw q at (a .0)))
+      go true (equal q) later = ap (λ (x : Number). Is x) (from-here j y v gs ys (rw q at n) lv)
       go false q later = later
 
-  cube-reads : (e : Fact) (p : ℕ) (gs : List Argument) (matched : Bool) → NumbersRight L (e .values) numbers
-      → matched ≡ (eqb (e .predicate) p && fits gs (e .values)) → Covered e L (atom p gs)
-      → cubeRead matched gs numbers ≡ instructionOf L e (atom p gs)
-  unfolding cubeRead instructionOf
-  cube-reads e p gs matched n m c = rw m (go (eqb (e .predicate) p && fits gs (e .values)) refl)
+  cube-reads : (e : Fact) (p : ℕ) (gs : List Argument) (matched : Bool) → NumbersRight e L (atom p gs) numbers
+      → matched ≡ (eqb (e .predicate) p && fits gs (e .values)) → cubeRead matched gs numbers ≡ instructionOf L e (atom p gs)
+  unfolding cubeRead instructionOf matchesRow argumentsIn
+  cube-reads e p gs matched n m = rw m (go (eqb (e .predicate) p && fits gs (e .values)) refl)
     where
       go : (t : Bool) → (eqb (e .predicate) p && fits gs (e .values)) ≡ t
           → cond t (Cube (placeRead 0 0 gs numbers) (placeRead 1 0 gs numbers) (placeRead 2 0 gs numbers) (placeRead 3 0 gs numbers)) No
           ≡ cond t (Cube (placeOf L 0 gs (e .values)) (placeOf L 1 gs (e .values)) (placeOf L 2 gs (e .values)) (placeOf L 3 gs (e .values))) No
       go false h = refl
       go true h =
+          let start : From 0 gs (e .values) = λ v i lv q. rw (let z : 0 + i ≡ i = omega arith in z) (n v i lv (record { matches = h; names = q })) in
           let one : (v : ℕ) → v < 4 → placeRead v 0 gs numbers ≡ placeOf L v gs (e .values) =
-          λ v l. place-reads gs (e .values) v 0 l (from-start (e .values) n) (c h) (and-true-r (eqb (e .predicate) p) (fits gs (e .values)) h) in
+          λ v l. place-reads gs (e .values) v 0 l start (and-true-r (eqb (e .predicate) p) (fits gs (e .values)) h) in
           rw (one 0 (omega arith), one 1 (omega arith), one 2 (omega arith), one 3 (omega arith))
 
-  row-reads : (e : Fact) (r : Rows.Row) (matched : Bool) → NumbersRight L (e .values) numbers → matchedRight e r matched → Covered e L r
-      → rowAsks r matched numbers ≡ instructionOf L e r
+  row-reads : (e : Fact) (r : Rows.Row) (matched : Bool) → NumbersRight e L r numbers → matchedRight e r matched → rowAsks r matched numbers ≡ instructionOf L e r
   unfolding rowAsks instructionOf
-  row-reads e truth matched n m c = refl
-  row-reads e (atom p gs) matched n m c = cube-reads e p gs matched n m c
-  row-reads e (both l r) matched n m c = refl
-  row-reads e (neg r) matched n m c = refl
-  row-reads e (since l r) matched n m c = refl
-  row-reads e (previous r) matched n m c = refl
-  row-reads e (exists x r) matched n m c = refl
+  row-reads e truth matched n m = refl
+  row-reads e (atom p gs) matched n m = cube-reads e p gs matched n m
+  row-reads e (both l r) matched n m = refl
+  row-reads e (neg r) matched n m = refl
+  row-reads e (since l r) matched n m = refl
+  row-reads e (previous r) matched n m = refl
+  row-reads e (exists x r) matched n m = refl
 
 -- what the code reads from a row is what the row asks
-pub instruction-reads : (L : Lists) (e : Fact) (row : Row) (matched : Bool) (numbers : List ℕ) → NumbersRight L (e .values) numbers
-    → matchedRight e (rowOf row) matched → Covered e L (rowOf row)
-    → instructionRead row matched numbers ≡ instructionOf L e (rowOf row)
+pub instruction-reads : (L : Lists) (e : Fact) (row : Row) (matched : Bool) (numbers : List ℕ) → NumbersRight e L (rowOf row) numbers
+    → matchedRight e (rowOf row) matched → instructionRead row matched numbers ≡ instructionOf L e (rowOf row)
 unfolding instructionRead
-instruction-reads L e row matched numbers n m c = row-reads L numbers e (rowOf row) matched n m c
+instruction-reads L e row matched numbers n m = row-reads L numbers e (rowOf row) matched n m

@@ -17,7 +17,8 @@ use Rattle.meaning.specs.Tables.{most, padded, layValues}
 use Rattle.meaning.proofs.RowsLaws.{first-le, first-none, first-some}
 use Rattle.meaning.proofs.PartsLaws.{padded-length}
 use Rattle.numbers.specs.declared.Asked.{Asked}
-use Rattle.lists.specs.Writing.{withFresh, written}
+use Rattle.numbers.specs.Asking.{withFresh}
+use Rattle.lists.specs.Writing.{written}
 use Rattle.numbers.proofs.TallyLaws.{same-or-not}
 
 -- the least number of which a test holds is the one before which it fails

@@ -1,18 +1,13 @@
 -- What it is to write an event's fresh values into the value slice. Assumes nothing: these are definitions.
-use Prim.Native.Nat.{ℕ, _+_, _-_, _*_, _/_, _%_, _≤_, _<_}
+use Prim.Native.Nat.{ℕ, _+_, _*_, _/_, _%_, _≤_, _<_}
 use mathlib.Core.Path.{_≡_}
 use mathlib.Core.Bool.{cond}
-use mathlib.Core.List.{List, _++_}
+use mathlib.Core.List.{List}
 use lib.Dec.{ltb}
-use lib.ListN.{length, getD, take, drop, set}
-use Rattle.meaning.specs.Numbering.{Lists}
+use lib.ListN.{length, getD, set}
 use Rattle.meaning.specs.Tables.{most, listOf, layValues}
 use Rattle.numbers.specs.declared.Asked.{Asked}
 use Rattle.numbers.specs.Asking.{withCounts}
-
--- the lists L with the fresh values behind them, as many as the counts grew by
-unfoldable pub withFresh : List ℕ → Asked → Lists → Lists
-withFresh before a L v = L v ++ take (getD (a .counts) v 0 - getD before v 0) (drop (3 * v) (a .fresh))
 
 -- what `write_fresh` may assume
 pub record Writable (k : ℕ) (before : List ℕ) (a : Asked) (values : List ℕ) : Type 0 where

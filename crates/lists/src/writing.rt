@@ -8,8 +8,8 @@ ghost use lib.ListN.{getD};
 ghost use Rattle.meaning.specs.Rows.{firstBelow};
 ghost use Rattle.meaning.specs.Tables;
 ghost use Rattle.meaning.specs.Tables.{listOf, layValues};
-ghost use Rattle.numbers.specs.Asking.{withCounts};
-ghost use Rattle.lists.specs.Writing.{withFresh, Writable, WritableAt, written};
+ghost use Rattle.numbers.specs.Asking.{withCounts, withFresh};
+ghost use Rattle.lists.specs.Writing.{Writable, WritableAt, written};
 
 // The lowest variable with more values than numbers, or 4.
 pub fn shortest(k: u32, counts: [u32; 4]) -> u32

@@ -7,26 +7,26 @@ use mathlib.Core.Logic.{⊎-elim}
 use native.Mathlib.Omega.{arith}
 use lib.Dec.{eqb, ltb, leb}
 use lib.ListN.{length, getD}
-use borrow.Author.Tests.{eqb-true, leb-true, lt-ltb, le-ltb}
+use borrow.Author.Tests.{eqb-true, leb-true, le-ltb}
 use Rattle.trees.specs.Kept.{allBelow, wellKept}
 use Rattle.trees.proofs.Tests.{bool, and-true-l, and-true-r}
 use Rattle.trees.proofs.KeptLaws.{all-at}
 use Rattle.meaning.specs.declared.State.{State}
 use Rattle.meaning.specs.declared.Event.{Event}
 use Rattle.meaning.specs.declared.Turn.{Turn}
-use Rattle.meaning.specs.Rows.{truth, ruleOf, firstBelow, rowCount}
+use Rattle.meaning.specs.Rows.{truth, rowAt, rowCount, ruleOf, firstBelow}
 use Rattle.meaning.specs.Numbering.{Lists, place, listed, askRows}
 use Rattle.meaning.specs.Step.{Shown, step, roomOf}
 use Rattle.meaning.specs.Tables.{most, read, listOf, listRight, keptTable, layState, layNodes, layValues, freeLevel}
 use Rattle.meaning.specs.Outcome.{capacity, nodesRight, valuesRight, cleared, workSize, factOf, allAgree, countRight, taken, refused, judgeEvent, decideEvent, Machine, shows, EventOutcome, settleEvent, eventOutcome, verdictOf}
-use Rattle.meaning.proofs.AskingLaws.{Has, has-place}
 use Rattle.meaning.proofs.StepLaws.{trees-length}
 use Rattle.meaning.proofs.RunLaws.{few, Laid}
 use Rattle.meaning.proofs.AnyState.{laid-formed}
 use Rattle.numbers.specs.declared.Asked.{Asked}
-use Rattle.numbers.specs.Asking.{withCounts, numberIn, Asks, Askable}
+use Rattle.numbers.specs.Asking.{withFresh, withCounts, numberIn, Asks, Askable}
+use Rattle.numbers.proofs.PlaceLaws.{listed-of}
 use Rattle.numbers.proofs.AskedLaws.{lists-of}
-use Rattle.lists.specs.Writing.{withFresh, Writable}
+use Rattle.lists.specs.Writing.{Writable}
 use Rattle.lists.proofs.WrittenLaws.{shortest-is, writable, written-is}
 use Rattle.diagram.specs.declared.Instruction.{Instruction}
 use Rattle.diagram.specs.declared.Instruction.the-variants.{Yes}
@@ -54,10 +54,10 @@ pub lists-are : (rows : List ℕ) (m : Machine) → shows rows m .lists ≡ list
 unfolding shows read
 lists-are rows m = lists-of (m .state .k) (m .state) (m .values)
 
--- the number of a value that a list has is its place
-number-has : (xs : List ℕ) (y : ℕ) → Has xs y → numberIn xs y ≡ place xs y
-unfolding numberIn listed
-number-has xs y h = rw (lt-ltb _ _ (has-place xs y h)) refl
+-- a number is the value's place
+number-place : (xs : List ℕ) (y : ℕ) → (numberIn xs y ≡ 4294967295 → ⊥) → numberIn xs y ≡ place xs y
+unfolding numberIn
+number-place xs y h = rw (listed-of xs y h) refl
 
 -- an event that agrees has few values
 pub few-values : (rows : List ℕ) (e : Event) → countRight (ruleOf rows) e ≡ true → e .count ≤ 3
@@ -111,11 +111,12 @@ module _ (rows masks : List ℕ) (m : Machine) (e : Event) (a : Asked) (s : Aski
   abbrev C : ℕ
   C = capacity (m .nodes)
 
-  numbers-right : NumbersRight (askRows (factOf e) (shows rows m .lists) (ruleOf rows)) (factOf e .values) (a .numbers)
-  numbers-right v j lv lj has =
-      s .asks .numbers v j lv lj
-      ∙ ap (λ (L : Lists). numberIn (askRows (factOf e) L (ruleOf rows) v) (getD (factOf e .values) j 0)) (sym (lists-are rows m))
-      ∙ number-has (askRows (factOf e) (shows rows m .lists) (ruleOf rows) v) (getD (factOf e .values) j 0) has
+  numbers-right : (i : ℕ) → i < rowCount rows → NumbersRight (factOf e) (askRows (factOf e) (shows rows m .lists) (ruleOf rows)) (rowAt rows i) (a .numbers)
+  numbers-right i li v j lv q =
+      let g = s .asks .asked v j lv (i, li, q) in
+      let n : getD (a .numbers) (3 * v + j) 0 ≡ numberIn (askRows (factOf e) (shows rows m .lists) (ruleOf rows) v) (getD (factOf e .values) j 0) =
+      s .asks .tally .numbers v j lv (g .0) (g .1) ∙ ap (λ (L : Lists). numberIn (askRows (factOf e) L (ruleOf rows) v) (getD (factOf e .values) j 0)) (sym (lists-are rows m)) in
+      n ∙ number-place (askRows (factOf e) (shows rows m .lists) (ruleOf rows) v) (getD (factOf e .values) j 0) (λ z. g .1 (n ∙ z))
 
   same-rows : m .state .rows ≡ length (ruleOf rows)
   same-rows = rows-are rows m e masks (s .listed)
@@ -245,7 +246,7 @@ module _ (rows masks : List ℕ) (m : Machine) (e : Event) (a : Asked) (s : Aski
       room-left v h =
           let z = enough-left rows m e (s .enough) v h in
           let q : length (askRows (factOf e) (shows rows m .lists) (ruleOf rows) v) ≡ getD (a .counts) v 0 =
-          ap (λ (L : Lists). length (askRows (factOf e) L (ruleOf rows) v)) (lists-are rows m) ∙ s .asks .counts v h in
+          ap (λ (L : Lists). length (askRows (factOf e) L (ruleOf rows) v)) (lists-are rows m) ∙ s .asks .tally .counts v h in
           subst (λ (y : ℕ). y ≤ 2 ^ (m .state .k) - 1) q z
 
       -- the fresh values can be written
@@ -272,7 +273,7 @@ module _ (rows masks : List ℕ) (m : Machine) (e : Event) (a : Asked) (s : Aski
           (rw (finished .refs-are, finished .kept-is, finished .room-is)
           (sym (verdict-is (m .state .k) (m .state .rows) (ruleOf rows) (shows rows m) after (sym same-rows) (trees-count ∙ sym same-rows) (rows-few .0))))
           (rw (finished .refs-are, finished .kept-is)
-          (sym (state-is (m .state .k) (m .state .rows) after (a .counts) (trees-count ∙ sym same-rows) four (λ w q. ap (λ (L : Lists). length (L w)) lists-after ∙ s .asks .counts w q))))
+          (sym (state-is (m .state .k) (m .state .rows) after (a .counts) (trees-count ∙ sym same-rows) four (λ w q. ap (λ (L : Lists). length (L w)) lists-after ∙ s .asks .tally .counts w q))))
           (finished .nodes-are)
           (v ∙ written-is (m .state .k) (m .state .counts) (m .values) rows e a (s .asks) ∙ ap (layValues (m .state .k)) (sym lists-after))
           (finished .work-is))

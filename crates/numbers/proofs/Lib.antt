@@ -1,7 +1,7 @@
 -- What follows from the definitions of specs/, for the proofs of the functions.
 pub mod MatchingLaws
 pub mod PlaceLaws
-pub mod SettledLaws
+pub mod PartLaws
 pub mod TallyLaws
 pub mod WalkLaws
 pub mod StartLaws

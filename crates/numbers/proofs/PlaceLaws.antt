@@ -1,5 +1,5 @@
 -- Laws of a value's place and number in a list. Assumes nothing.
-use Prim.Native.Nat.{ℕ, zero, suc, _≤_, _<_}
+use Prim.Native.Nat.{ℕ, zero, suc, _+_, _-_, _≤_, _<_}
 use mathlib.Core.Path.{_≡_, refl, ap, sym, _∙_, fun-ext}
 use mathlib.Core.Bool.{Bool, true, false, cond}
 use mathlib.Core.List.{List, [], _∷_, _++_}
@@ -8,7 +8,7 @@ use native.Mathlib.Numerals.{add-one}
 use native.Mathlib.Omega.{arith}
 use lib.Dec.{eqb, ltb}
 use lib.ListN.{length, getD, length-append, List·getD-append}
-use lib.Seq.{getD-append-seam}
+use lib.Seq.{getD-append-seam, getD-append-add}
 use borrow.Author.Tests.{ltb-false, lt-ltb, le-ltb, eq-eqb, ne-eqb}
 use Rattle.trees.proofs.Tests.{EqCase, equal, other, eq-case, eqb-same, lt-or-ge, LtCase, below, lt-case}
 use Rattle.meaning.specs.Numbering.{Lists, place, listed, noted, ask, Unseen}
@@ -44,6 +44,15 @@ listed-of xs y h = go (listed xs y) h
     go : (t : Bool) → (cond t (place xs y) 4294967295 ≡ 4294967295 → ⊥) → t ≡ true
     go true h = refl
     go false h = absurd (h refl)
+
+-- a number is a place of the list
+pub number-low : (xs : List ℕ) (y : ℕ) → (numberIn xs y ≡ 4294967295 → ⊥) → numberIn xs y < length xs
+unfolding numberIn listed
+number-low xs y h = go (ltb (place xs y) (length xs)) (lt-case (place xs y) (length xs)) h
+  where
+    go : (t : Bool) → LtCase (place xs y) (length xs) t → (cond t (place xs y) 4294967295 ≡ 4294967295 → ⊥) → cond t (place xs y) 4294967295 < length xs
+    go true (below q) h = q
+    go false q h = absurd (h refl)
 
 pub unlisted-of : (xs : List ℕ) (y : ℕ) → length xs ≤ 4294967295 → numberIn xs y ≡ 4294967295 → listed xs y ≡ false
 unfolding numberIn listed
@@ -94,6 +103,48 @@ number-snoc xs y z h = go (eqb z y) (eq-case z y) (place xs z) refl (placed xs z
     go false (other q) n e (nowhere r u) =
         listed-never (xs ++ y ∷ []) z (λ k s g. ⊎-elim (λ i. u k i (sym (old k i) ∙ g)) (λ i. q (sym g ∙ new k (omega (arith, long)))) (lt-or-ge k (length xs)))
         ∙ sym (listed-never xs z u)
+
+-- the number of a value in a list with another behind it
+module _ (xs zs : List ℕ) (y : ℕ) where
+  left : (k : ℕ) → k < length xs → getD (xs ++ zs) k 0 ≡ getD xs k 0
+  left k h = List·getD-append xs zs 0 k h
+
+  right : (k : ℕ) → length xs ≤ k → getD (xs ++ zs) k 0 ≡ getD zs (k - length xs) 0
+  right k h = let z : length xs + (k - length xs) ≡ k = omega arith in rw z at (getD-append-add xs zs (k - length xs) 0)
+
+  pub number-left : (numberIn xs y ≡ 4294967295 → ⊥) → numberIn (xs ++ zs) y ≡ numberIn xs y
+  number-left h = go (place xs y) refl (placed xs y)
+    where
+      go : (n : ℕ) → place xs y ≡ n → Placed xs y n → numberIn (xs ++ zs) y ≡ numberIn xs y
+      go n e (here q f) =
+          listed-first (xs ++ zs) y n (rw length-append (omega arith)) (left n q ∙ f) (λ k r g. place-least xs y k (omega arith) (sym (left k (omega arith)) ∙ g))
+          ∙ sym (listed-first xs y n q f (λ k r g. place-least xs y k (omega arith) g))
+      go n e (nowhere q u) = absurd (h (listed-never xs y u))
+
+  module _ (short : length xs ≤ 4294967295) (none : numberIn xs y ≡ 4294967295) where
+    unseen : Unseen xs y
+    unseen = unseen-of xs y (unlisted-of xs y short none)
+
+    pub number-nowhere : length zs ≤ 4294967295 → numberIn zs y ≡ 4294967295 → numberIn (xs ++ zs) y ≡ 4294967295
+    number-nowhere few e =
+        listed-never (xs ++ zs) y (λ k h g. ⊎-elim
+        (λ q. unseen k q (sym (left k q) ∙ g))
+        (λ q. unseen-of zs y (unlisted-of zs y few e) (k - length xs) (omega (arith, length-append xs zs)) (sym (right k q) ∙ g))
+        (lt-or-ge k (length xs)))
+
+    pub number-right : (numberIn zs y ≡ 4294967295 → ⊥) → numberIn (xs ++ zs) y ≡ length xs + numberIn zs y
+    number-right h = go (place zs y) refl (placed zs y)
+      where
+        go : (n : ℕ) → place zs y ≡ n → Placed zs y n → numberIn (xs ++ zs) y ≡ length xs + numberIn zs y
+        go n e (nowhere q u) = absurd (h (listed-never zs y u))
+        go n e (here q f) =
+            let z : length xs + n - length xs ≡ n = omega arith in
+            rw (listed-first zs y n q f (λ k r g. place-least zs y k (omega arith) g))
+            (listed-first (xs ++ zs) y (length xs + n) (rw length-append (omega arith)) (right (length xs + n) (omega arith) ∙ rw z f)
+            (λ k r g. ⊎-elim
+            (λ p. unseen k p (sym (left k p) ∙ g))
+            (λ p. place-least zs y (k - length xs) (omega arith) (sym (right k p) ∙ g))
+            (lt-or-ge k (length xs))))
 
 -- a value that is listed is not noted anew
 pub ask-listed : (M : Lists) (v y : ℕ) → listed (M v) y ≡ true → ask M v y ≡ M

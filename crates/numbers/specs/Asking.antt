@@ -3,17 +3,18 @@ use Prim.Native.Nat.{ℕ, _+_, _-_, _*_, _/_, _≤_, _<_}
 use mathlib.Core.Path.{_≡_}
 use mathlib.Core.Bool.{true, false, cond}
 use mathlib.Core.List.{List, [], _++_}
+use mathlib.Core.Logic.{_⊎_}
 use lib.Dec.{eqb}
 use lib.ListN.{length, getD, take, drop}
 use Rattle.meaning.specs.declared.Event.{Event}
 use Rattle.meaning.specs.declared.State.{State}
-use Rattle.meaning.specs.Qtl.{Argument, variable, constant}
-use Rattle.meaning.specs.Rows.{rowAt, ruleOf, right, checkRows}
+use Rattle.meaning.specs.Qtl.{Argument, variable, constant, Fact}
+use Rattle.meaning.specs.Rows.{Row, argumentAt, rowAt, rowCount, ruleOf, right, checkRows}
 use Rattle.meaning.specs.Numbering.{Lists, place, listed, ask, askRows}
 use Rattle.meaning.specs.Tables.{most, listOf}
 use Rattle.meaning.specs.Outcome.{factOf}
 use Rattle.numbers.specs.declared.Asked.{Asked}
-use Rattle.numbers.specs.Matching.{matchesRow, Readable}
+use Rattle.numbers.specs.Matching.{matchesRow, argumentsIn, Readable}
 
 -- a state with these counts of values: the lists depend on nothing else of it
 abbrev pub withCounts : List ℕ → State
@@ -23,25 +24,42 @@ withCounts counts = record { k = 0; rows = 0; kept = 0; counts = counts; refs = 
 unfoldable pub numberIn : List ℕ → ℕ → ℕ
 numberIn xs y = cond (listed xs y) (place xs y) 4294967295
 
--- What was asked from the lists L on, by an event of the values ys, shows the lists M. Counts, fresh values and numbers are determined.
+-- the event's value j has a number of v's
+abbrev pub Given : Asked → ℕ → ℕ → Type 0
+Given a v j = getD (a .numbers) (3 * v + j) 0 ≡ 4294967295 → ⊥
+
+-- the lists L with the fresh values behind them, as many as the counts grew by
+unfoldable pub withFresh : List ℕ → Asked → Lists → Lists
+withFresh before a L v = L v ++ take (getD (a .counts) v 0 - getD before v 0) (drop (3 * v) (a .fresh))
+
+-- What was asked from the lists L on, by an event of the values ys, shows the lists M. Counts, fresh values and the numbers that are
+-- given are determined.
 pub record Tally (before : List ℕ) (L M : Lists) (ys : List ℕ) (a : Asked) : Type 0 where
   -- how many values have numbers: at the start, and now
   pub start : (v : ℕ) → v < 4 → length (L v) ≡ getD before v 0
   pub counts : (v : ℕ) → v < 4 → length (M v) ≡ getD (a .counts) v 0
-  -- the new values are behind those of the start, in order
-  pub lists : (v : ℕ) → v < 4 → M v ≡ L v ++ take (getD (a .counts) v 0 - getD before v 0) (drop (3 * v) (a .fresh))
+  pub lists : (v : ℕ) → v < 4 → M v ≡ withFresh before a L v
   -- "One event can ask up to three numbers for one variable"
   pub few : (v : ℕ) → v < 4 → getD (a .counts) v 0 ≤ getD before v 0 + 3
-  -- the numbers of the event's values
-  pub numbers : (v j : ℕ) → v < 4 → j < length ys → getD (a .numbers) (3 * v + j) 0 ≡ numberIn (M v) (getD ys j 0)
-  -- the places past the new values, and past the event's values
+  -- the places past the new values
   pub unused : (v j : ℕ) → v < 4 → j < 3 → getD (a .counts) v 0 ≤ getD before v 0 + j → getD (a .fresh) (3 * v + j) 0 ≡ 0
-  pub absent : (v j : ℕ) → v < 4 → j < 3 → length ys ≤ j → getD (a .numbers) (3 * v + j) 0 ≡ 4294967295
+  -- a number that is given is the value's
+  pub numbers : (v j : ℕ) → v < 4 → j < 3 → Given a v j → getD (a .numbers) (3 * v + j) 0 ≡ numberIn (M v) (getD ys j 0)
 
--- what `ask` promises: the lists are those of the walk over the rows
-abbrev pub Asks : ℕ → List ℕ → List ℕ → List ℕ → Event → Asked → Type 0
-Asks k before values rows e a =
-    Tally before (listOf k (withCounts before) values) (askRows (factOf e) (listOf k (withCounts before) values) (ruleOf rows)) (factOf e .values) a
+-- the row matches the event, and has the variable v at place j
+pub record AsksFor (e : Fact) (r : Row) (v j : ℕ) : Type 0 where
+  pub matches : matchesRow e r ≡ true
+  pub names : getD (argumentsIn r) j (constant 0) ≡ variable v
+
+-- one of the first n rows is such
+abbrev pub AskedBy : Fact → List ℕ → ℕ → ℕ → ℕ → Type 0
+AskedBy e raw n v j = (i : ℕ) × (i < n) × AsksFor e (rowAt raw i) v j
+
+-- what `ask` promises: the lists are those of the walk over the rows, and the numbers that matching atoms ask for are given, and no others
+pub record Asks (k : ℕ) (before values rows : List ℕ) (e : Event) (a : Asked) : Type 0 where
+  pub tally : Tally before (listOf k (withCounts before) values) (askRows (factOf e) (listOf k (withCounts before) values) (ruleOf rows)) (factOf e .values) a
+  pub asked : (v j : ℕ) → v < 4 → AskedBy (factOf e) rows (rowCount rows) v j → (j < 3) × Given a v j
+  pub only : (v j : ℕ) → v < 4 → j < 3 → Given a v j → AskedBy (factOf e) rows (rowCount rows) v j
 
 -- what `ask` may assume
 pub record Askable (k : ℕ) (before values rows : List ℕ) (e : Event) : Type 0 where
@@ -68,10 +86,23 @@ pub record Steady (before : List ℕ) (a : Asked) : Type 0 where
   pub grown : (v : ℕ) → v < 4 → getD before v 0 ≤ getD (a .counts) v 0
   pub room : (v : ℕ) → v < 4 → getD (a .counts) v 0 + vacancies (a .numbers) v ≤ getD before v 0 + 3
 
--- Between a and r the lists went from M to f M.
-pub record Carried (before ys : List ℕ) (f : Lists → Lists) (a r : Asked) : Type 0 where
+-- Between a and r the lists went from M to f M, and the pairs of a variable and a place that got numbers are those of P.
+pub record Carried (before : List ℕ) (L : Lists) (ys : List ℕ) (f : Lists → Lists) (P : ℕ → ℕ → Type 0) (a r : Asked) : Type 0 where
   pub steady : Steady before r
-  pub lists : (L M : Lists) → Tally before L M ys a → Tally before L (f M) ys r
+  pub lists : (M : Lists) → Tally before L M ys a → Tally before L (f M) ys r
+  pub kept : (v j : ℕ) → v < 4 → j < 3 → Given a v j → Given r v j
+  pub asked : (v j : ℕ) → v < 4 → j < 3 → P v j → Given r v j
+  pub only : (v j : ℕ) → v < 4 → j < 3 → Given r v j → Given a v j ⊎ P v j
+
+-- the pair of v and j; those of the argument at place j of row i, and of its first n arguments
+abbrev pub Pair : ℕ → ℕ → ℕ → ℕ → Type 0
+Pair v j w i = (w ≡ v) × (i ≡ j)
+
+abbrev pub AtPlace : List ℕ → ℕ → ℕ → ℕ → ℕ → Type 0
+AtPlace raw i j v k = (argumentAt raw i j ≡ variable v) × (k ≡ j)
+
+abbrev pub AtPlaces : List ℕ → ℕ → ℕ → ℕ → ℕ → Type 0
+AtPlaces raw i n v k = (argumentAt raw i k ≡ variable v) × (k < n)
 
 -- one argument asks
 unfoldable pub askOne : Argument → ℕ → Lists → Lists
@@ -99,21 +130,3 @@ pub record Parted (m : ℕ) (counts values : List ℕ) : Type 0 where
 -- the values of the part v
 unfoldable pub partOf : ℕ → List ℕ → List ℕ → Lists
 partOf m counts values v = take (getD counts v 0) (drop (v * m) values)
-
--- n is the number of the event's value j, of `count` that it has
-pub record NumberAt (xs ys : List ℕ) (count j n : ℕ) : Type 0 where
-  pub listed : j < count → n ≡ numberIn xs (getD ys j 0)
-  pub absent : count ≤ j → n ≡ 4294967295
-
--- the numbers of an event's values in the lists L
-pub record Numbered (L : Lists) (ys numbers : List ℕ) : Type 0 where
-  pub dozen : length numbers ≡ 12
-  pub listed : (v j : ℕ) → v < 4 → j < length ys → getD numbers (3 * v + j) 0 ≡ numberIn (L v) (getD ys j 0)
-  pub absent : (v j : ℕ) → v < 4 → j < 3 → length ys ≤ j → getD numbers (3 * v + j) 0 ≡ 4294967295
-
--- the number n went to each of the values ys that is y, for the variable v
-pub record Settled (v y n : ℕ) (ys old new : List ℕ) : Type 0 where
-  pub dozen : length new ≡ length old
-  pub given : (j : ℕ) → j < length ys → getD new (3 * v + j) 0 ≡ cond (eqb (getD ys j 0) y) n (getD old (3 * v + j) 0)
-  pub below : (t : ℕ) → t < 3 * v → getD new t 0 ≡ getD old t 0
-  pub above : (t : ℕ) → 3 * v + length ys ≤ t → getD new t 0 ≡ getD old t 0

@@ -20,6 +20,16 @@ matchesRow e (since l r) = false
 matchesRow e (previous r) = false
 matchesRow e (exists x r) = false
 
+-- the arguments of a row: only an atom has any
+unfoldable pub argumentsIn : Row → List Argument
+argumentsIn truth = []
+argumentsIn (atom p gs) = gs
+argumentsIn (both l r) = []
+argumentsIn (neg r) = []
+argumentsIn (since l r) = []
+argumentsIn (previous r) = []
+argumentsIn (exists x r) = []
+
 -- the first n arguments of the row at place i
 unfoldable pub argumentsOf : List ℕ → ℕ → ℕ → List Argument
 argumentsOf raw i n = take n (argumentAt raw i 0 ∷ argumentAt raw i 1 ∷ argumentAt raw i 2 ∷ [])

@@ -16,7 +16,8 @@ ghost use Rattle.meaning.specs.Tables;
 const MOST: [u32; 11] = [0, 1, 3, 7, 15, 31, 63, 127, 255, 511, 1023];
 
 // What an event asks: how many values of each variable have numbers after it; the new values of variable v, in order, at
-// 3 * v, 3 * v + 1 and 3 * v + 2; and at 3 * v + j the number that variable v has for the event's value j.
+// 3 * v, 3 * v + 1 and 3 * v + 2; and at 3 * v + j the number that variable v has for the event's value j, where a matching
+// atom has v at place j.
 pub struct Asked {
     pub counts: [u32; 4],
     pub fresh: [u32; 12],

@@ -9,7 +9,7 @@ use lib.Seq.{length-take-le}
 use borrow.Author.Count.{below-more}
 use borrow.Author.Tests.{not-true, not-false}
 use Rattle.lists.specs.Slots.{partRight}
-use Rattle.numbers.proofs.SettledLaws.{part-inside}
+use Rattle.numbers.proofs.PartLaws.{part-inside}
 use Rattle.lists.proofs.ListsLaws.{all-false, all-true}
 use borrow.Author.Needs.{needs}
 use Rattle.lists.proofs.checking.all_right.Statement.{statement}

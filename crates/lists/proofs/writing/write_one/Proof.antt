@@ -2,7 +2,7 @@
 use native.Mathlib.Omega.{arith}
 use Prim.Native.Nat.{_+_, _*_, _/_, _%_, _<_}
 use lib.ListN.{getD}
-use Rattle.numbers.proofs.SettledLaws.{part-inside}
+use Rattle.numbers.proofs.PartLaws.{part-inside}
 use Rattle.lists.proofs.WritingLaws.{written-none, written-some}
 use borrow.Author.Needs.{needs}
 use Rattle.lists.proofs.writing.write_one.Statement.{statement}

@@ -2,6 +2,7 @@
 use native.Mathlib.Omega.{arith}
 use lib.ListN.{getD}
 use Rattle.meaning.specs.Outcome.{factOf}
+use Rattle.numbers.specs.Asking.{partOf}
 use Rattle.numbers.proofs.WalkLaws.{one-constant, one-variable}
 use borrow.Author.Needs.{needs}
 use Rattle.numbers.proofs.asking.ask_argument.Statement.{statement}
@@ -27,9 +28,9 @@ shared-slice-read-if1 c = search needs
 
 returns : tie.Need-returns
 returns c =
-    let s = c .before .before .before in
+    let s = c .before .before .before .before in
     let a = s .args in
-    one-constant (a .before) (factOf (a .event) .values) (a .rows .now) (a .i) (a .j) (getD (factOf (a .event) .values) (a .j) 0) (a .a) (s .pre .0) (c .if1 .taken)
+    one-constant (a .before) (partOf (a .m) (a .before) (a .values .now)) (factOf (a .event) .values) (a .rows .now) (a .i) (a .j) (getD (factOf (a .event) .values) (a .j) 0) (a .a) (s .pre .0) (c .if1 .taken)
 
 mul-v : tie.Need-mul-v
 mul-v c = search needs
@@ -51,19 +52,19 @@ shared-slice-read-v c = search needs
 
 cast-v : tie.Need-cast-v
 cast-v c =
-    let s = c .before .before .before .before in
-    omega (arith, s .pre .1 .variables (s .args .j) (s .pre .2) (c .before .if1 .left))
+    let s = c .before .before .before .before .before in
+    omega (arith, s .pre .2 .variables (s .args .j) (s .pre .3) (c .before .if1 .left))
 
 note-requires : tie.Need-note-requires
 note-requires c κs =
-    let s = c .before .before .before .before in
-    (s .pre .0, s .pre .1 .readable .sized, s .pre .1 .variables (s .args .j) (s .pre .2) (c .before .if1 .left), s .pre .2)
+    let s = c .before .before .before .before .before in
+    (s .pre .0, s .pre .1, s .pre .2 .readable .sized, s .pre .2 .variables (s .args .j) (s .pre .3) (c .before .if1 .left), s .pre .3)
 
 returns-2 : tie.Need-returns-2
 returns-2 c =
-    let s = c .before .before .before .before .before in
+    let s = c .before .before .before .before .before .before in
     let a = s .args in
-    one-variable (a .before) (factOf (a .event) .values) (a .rows .now) (a .i) (a .j) (getD (factOf (a .event) .values) (a .j) 0) (a .a) (c .note .result) (c .before .before .if1 .left) (c .note .ensures)
+    one-variable (a .before) (partOf (a .m) (a .before) (a .values .now)) (factOf (a .event) .values) (a .rows .now) (a .i) (a .j) (getD (factOf (a .event) .values) (a .j) 0) (a .a) (c .note .result) (c .before .before .if1 .left) (c .note .ensures)
 
 pub ask-argument-spec : {M : Type 1} → statement M
 ask-argument-spec =
