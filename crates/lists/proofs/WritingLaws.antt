@@ -29,14 +29,13 @@ first-is n f r h none some = ⊎-elim
     (lt-or-ge (firstBelow n f) r)
 
 -- one place of the twelve
-pub written-none : (m : ℕ) (before : List ℕ) (a : Asked) (t : ℕ) (values : List ℕ) → getD (a .counts) (t / 3) 0 ≤ getD before (t / 3) 0 + t % 3 → values ≡ written m before a t values
+pub written-none : (m b n y t : ℕ) (values : List ℕ) → n ≤ b + t % 3 → values ≡ written m b n y t values
 unfolding written
-written-none m before a t values h = rw (le-ltb (getD before (t / 3) 0 + t % 3) (getD (a .counts) (t / 3) 0) h)
+written-none m b n y t values h = rw (le-ltb (b + t % 3) n h)
 
-pub written-some : (m : ℕ) (before : List ℕ) (a : Asked) (t : ℕ) (values : List ℕ) → getD before (t / 3) 0 + t % 3 < getD (a .counts) (t / 3) 0
-    → set values (t / 3 * m + (getD before (t / 3) 0 + t % 3)) (getD (a .fresh) t 0) ≡ written m before a t values
+pub written-some : (m b n y t : ℕ) (values : List ℕ) → b + t % 3 < n → set values (t / 3 * m + (b + t % 3)) y ≡ written m b n y t values
 unfolding written
-written-some m before a t values h = rw (lt-ltb (getD before (t / 3) 0 + t % 3) (getD (a .counts) (t / 3) 0) h)
+written-some m b n y t values h = rw (lt-ltb (b + t % 3) n h)
 
 -- a store behind a list
 set-right : (xs ys : List ℕ) (i a : ℕ) → set (xs ++ ys) (length xs + i) a ≡ xs ++ set ys i a
@@ -165,9 +164,9 @@ module _ (k : ℕ) (before : List ℕ) (a : Asked) (L : Lists) (twelve : length 
     length-here : length (firstFresh before a L t (t / 3)) ≡ getD before (t / 3) 0 + t % 3
     length-here = size t (t / 3) (omega arith) ∙ rw there
 
-    fresh-some : (values : List ℕ) → values ≡ layValues k (firstFresh before a L t) → written (most k) before a t values ≡ layValues k (firstFresh before a L (t + 1))
+    fresh-some : (values : List ℕ) → values ≡ layValues k (firstFresh before a L t) → written (most k) (getD before (t / 3) 0) (getD (a .counts) (t / 3) 0) (getD (a .fresh) t 0) t values ≡ layValues k (firstFresh before a L (t + 1))
     fresh-some values e =
-        sym (written-some (most k) before a t values p)
+        sym (written-some (most k) (getD before (t / 3) 0) (getD (a .counts) (t / 3) 0) (getD (a .fresh) t 0) t values p)
         ∙ rw (e, ← length-here)
         (lay-set k (firstFresh before a L t) (firstFresh before a L (t + 1)) (t / 3) (getD (a .fresh) t 0) fits (omega arith)
         (rw length-here (omega (arith, room (t / 3) (omega arith)))) next (λ w q n. same t w h q n))
@@ -176,10 +175,10 @@ module _ (k : ℕ) (before : List ℕ) (a : Asked) (L : Lists) (twelve : length 
         fits w q = rw (size t w q) (omega (arith, room w q, grown w q))
 
   fresh-none-here : (t : ℕ) (values : List ℕ) → t < 12 → getD (a .counts) (t / 3) 0 ≤ getD before (t / 3) 0 + t % 3 → values ≡ layValues k (firstFresh before a L t)
-      → written (most k) before a t values ≡ layValues k (firstFresh before a L (t + 1))
+      → written (most k) (getD before (t / 3) 0) (getD (a .counts) (t / 3) 0) (getD (a .fresh) t 0) t values ≡ layValues k (firstFresh before a L (t + 1))
   unfolding firstFresh
   fresh-none-here t values h p e =
-      sym (written-none (most k) before a t values p)
+      sym (written-none (most k) (getD before (t / 3) 0) (getD (a .counts) (t / 3) 0) (getD (a .fresh) t 0) t values p)
       ∙ (e ∙ lay-same k (firstFresh before a L t) (firstFresh before a L (t + 1)) (λ w q. ⊎-elim
       (λ n.
       let z : w ≡ t / 3 = n in
@@ -187,5 +186,5 @@ module _ (k : ℕ) (before : List ℕ) (a : Asked) (L : Lists) (twelve : length 
       (λ n. sym (same t w h q n))
       (same-or-not w (t / 3))))
 
-  pub fresh-more : (t : ℕ) (values : List ℕ) → t < 12 → values ≡ layValues k (firstFresh before a L t) → written (most k) before a t values ≡ layValues k (firstFresh before a L (t + 1))
+  pub fresh-more : (t : ℕ) (values : List ℕ) → t < 12 → values ≡ layValues k (firstFresh before a L t) → written (most k) (getD before (t / 3) 0) (getD (a .counts) (t / 3) 0) (getD (a .fresh) t 0) t values ≡ layValues k (firstFresh before a L (t + 1))
   fresh-more t values h e = ⊎-elim (λ p. fresh-some t h p values e) (λ p. fresh-none-here t values h p e) (lt-or-ge (getD before (t / 3) 0 + t % 3) (getD (a .counts) (t / 3) 0))

@@ -18,15 +18,15 @@ pub record Writable (k : ℕ) (before : List ℕ) (a : Asked) (values : List ℕ
   pub few : (v : ℕ) → v < 4 → getD (a .counts) v 0 ≤ getD before v 0 + 3
   pub room : (v : ℕ) → v < 4 → getD (a .counts) v 0 ≤ most k
 
--- the value slice after the place t of the twelve, where the parts have m numbers
-unfoldable pub written : ℕ → List ℕ → Asked → ℕ → List ℕ → List ℕ
-written m before a t values =
-    cond (ltb (getD before (t / 3) 0 + t % 3) (getD (a .counts) (t / 3) 0)) (set values (t / 3 * m + (getD before (t / 3) 0 + t % 3)) (getD (a .fresh) t 0)) values
+-- the value slice after the place t of the twelve, where the parts have m numbers: y stands there if the variable's list, of b values before and n after
+-- the event, goes so far
+unfoldable pub written : ℕ → ℕ → ℕ → ℕ → ℕ → List ℕ → List ℕ
+written m b n y t values = cond (ltb (b + t % 3) n) (set values (t / 3 * m + (b + t % 3)) y) values
 
 -- what is known where the place t is written
-pub record WritableAt (m : ℕ) (before : List ℕ) (a : Asked) (values : List ℕ) (t : ℕ) : Type 0 where
+pub record WritableAt (m b n : ℕ) (values : List ℕ) (t : ℕ) : Type 0 where
   pub small : m ≤ 1023
   pub place : t < 12
   pub parts : length values ≡ 4 * m
-  pub grown : getD before (t / 3) 0 ≤ getD (a .counts) (t / 3) 0
-  pub room : getD (a .counts) (t / 3) 0 ≤ m
+  pub grown : b ≤ n
+  pub room : n ≤ m

@@ -26,17 +26,16 @@ pub fn shortest(k: u32, counts: [u32; 4]) -> u32
     4
 }
 
-// Writes the fresh value at place t of the twelve, if there is one.
-fn write_one(m: usize, before: [u32; 4], asked: Asked, values: &mut [u32], t: usize)
-    requires { ⌜ WritableAt m before asked (now values) t ⌝ }
-    ensures { λ _. ⌜ now (values .exit) ≡ written m before asked t (now (values .entry)) ⌝ }
+// Writes y, the fresh value at place t of the twelve, if there is one: the variable had b values, and now has n.
+fn write_one(m: usize, b: u32, n: u32, y: u32, values: &mut [u32], t: usize)
+    requires { ⌜ WritableAt m b n (now values) t ⌝ }
+    ensures { λ _. ⌜ now (values .exit) ≡ written m b n y t (now (values .entry)) ⌝ }
 {
-    let v = t / 3;
-    let at = before[v] as usize + t % 3;
-    if asked.counts[v] as usize <= at {
+    let at = b as usize + t % 3;
+    if n as usize <= at {
         return;
     }
-    values[v * m + at] = asked.fresh[t];
+    values[t / 3 * m + at] = y;
 }
 
 // Writes the fresh values behind those of before. The caller has checked the lists (refusal 4), that no variable is short (refusal 6), and
@@ -47,6 +46,7 @@ pub fn write_fresh(k: u32, before: [u32; 4], asked: Asked, values: &mut [u32])
 {
     let m = most(k) as usize;
     for t in 0..12 {
-        write_one(m, before, asked, values, t);
+        let v = t / 3;
+        write_one(m, before[v], asked.counts[v], asked.fresh[t], values, t);
     }
 }
