@@ -10,7 +10,7 @@
  * Whatever numbers the slices hold, and whatever their counts are, the calls are defined: there is an answer for every input.
  *
  * Sizes, where numbers for values have k bits (1 to 10) and the node table has room for C nodes (1 to 4,096):
- *   rows    9 for each row of the rule, 1 to 64 rows; only read
+ *   rows    MOHEGUZARI_ROWS(n) for a rule of n rows, 1 to 64; only read
  *   nodes   MOHEGUZARI_NODES(C)
  *   values  MOHEGUZARI_VALUES(k)
  *   work    MOHEGUZARI_WORK(C) or more; 0 in its first MOHEGUZARI_WORK(C) numbers after every event but one refused with 1 to 3
@@ -38,8 +38,10 @@ extern "C" {
 
 #define MOHEGUZARI_STATE 71
 #define MOHEGUZARI_ANSWER 4
+#define MOHEGUZARI_ROWS(n) (9 * (size_t)(n))
 #define MOHEGUZARI_NODES(C) (3 * (size_t)(C))
-#define MOHEGUZARI_VALUES(k) (4 * (((size_t)1 << (k)) - 1))
+/* 0 where k is not from 1 to 10: no k beyond that is taken, and none is shifted by. */
+#define MOHEGUZARI_VALUES(k) ((k) >= 1 && (k) <= 10 ? 4 * (((size_t)1 << ((k) & 15)) - 1) : 0)
 #define MOHEGUZARI_WORK(C) (16 * (size_t)(C) + 1024)
 
 /* The refusals. Start gives 1 to 3. The place is 0 where none is named. */
@@ -47,10 +49,10 @@ enum {
     MOHEGUZARI_BAD_K = 1,      /* k is not from 1 to 10 */
     MOHEGUZARI_BAD_RULE = 2,   /* a row of the rule is wrong, or the rule is not a sentence; place: the row */
     MOHEGUZARI_BAD_LENGTH = 3, /* nodes, values or work has the wrong length */
-    MOHEGUZARI_BAD_STATE = 4,  /* state, nodes and values are not what the monitor left for this rule */
+    MOHEGUZARI_BAD_STATE = 4,  /* state, nodes and values are no state of this rule (one that was changed may still be one) */
     MOHEGUZARI_BAD_COUNT = 5,  /* the event has more than three values, or not as many as the rule's predicate */
     MOHEGUZARI_NO_NUMBER = 6,  /* a variable has no number left for one more value; place: the variable */
-    MOHEGUZARI_NO_ROOM = 7     /* the node table has no room to know the answer */
+    MOHEGUZARI_NO_ROOM = 7     /* the node table has no room to know the answer; it may be enlarged (docs/LINKING.md) */
 };
 
 /* Starts on a rule: checks k, the rule and the lengths, fills nodes and values with 0, and writes the state to begin with.
@@ -68,7 +70,8 @@ bool moheguzari_start(uint32_t k,
                       uint32_t *state, size_t state_len,
                       uint32_t *answer, size_t answer_len);
 
-/* Judges one event, with the state and the tables that the last call left.
+/* Judges one event, with the state and the tables that the last call left. nodes and work may be longer than at the last call:
+ * nodes then has zeros appended.
  * False, with nothing written, where state has not MOHEGUZARI_STATE numbers or answer not MOHEGUZARI_ANSWER. Else true.
  *   rows          the rule that was started on; only read
  *   nodes         the node table; read and written
