@@ -102,7 +102,7 @@ fn slots_for(c: usize, kept: u32) -> usize
     requires { ⌜ (1 ≤ c) × (c ≤ 4096) × (kept ≤ c) ⌝ }
     ensures { λ r. ⌜ (1 ≤ r) × (r ≤ 2 * c) ⌝ }
 {
-    let wanted = 2 * (kept as usize) + 64;
+    let wanted = 4 * (kept as usize) + 256;
     let most = 2 * c;
     if wanted < most { wanted } else { most }
 }
