@@ -8,7 +8,7 @@ use native.Mathlib.Omega.{arith}
 use lib.ListN.{length, getD, set, length-set}
 use lib.Seq.{getD-set-same, getD-set-other, ext-getD}
 use Rattle.trees.proofs.Tests.{lt-or-ge}
-use Rattle.nodes.specs.Nodes.{Rest, Zeroed}
+use Rattle.nodes.specs.Nodes.{Zeroed}
 
 -- nothing was zeroed yet
 pub zeroed-none : (from : ℕ) (xs : List ℕ) → Zeroed from from xs xs
@@ -35,15 +35,6 @@ zeroed-end from i to xs ys p q z top = ⊎-elim
     let e : i ≡ from = omega arith in
     record { size = z .size; zero = λ j a b. z .zero j a (omega arith); same = z .same; rest = record { eq = λ j a. ⊎-elim (λ k. z .same .eq j k) (λ k. z .rest .eq j (omega arith)) (lt-or-ge j from) } })
     (lt-or-ge from i)
-
--- numbers that had changed before are zeroed
-pub zeroed-after : {to : ℕ} {xs ys zs : List ℕ} → Rest to xs ys → length ys ≡ length xs → Zeroed 0 to ys zs → Zeroed 0 to xs zs
-zeroed-after r e z = record {
-  size = z .size ∙ e;
-  zero = z .zero;
-  same = record { eq = λ i h. absurd (omega arith) };
-  rest = record { eq = λ i h. z .rest .eq i h ∙ r .eq i h };
-}
 
 -- what is left is one list
 pub one-zeroed : {from to : ℕ} {xs ys zs : List ℕ} → Zeroed from to xs ys → Zeroed from to xs zs → ys ≡ zs

@@ -68,12 +68,6 @@ abbrev pub Holds : List ℕ → ℕ → ℕ → ℕ → ℕ → Bool → Type 0
 Holds ns j l a b true = NodeIs ns j l a b
 Holds ns j l a b false = NodeIs ns j l a b → ⊥
 
--- j is the first place of the node among the first n, or n where it is at no place
-pub record Found (ns : List ℕ) (n l a b j : ℕ) : Type 0 where
-  pub inside : j ≤ n
-  pub here : j < n → NodeIs ns j l a b
-  pub first : (k : ℕ) → k < j → NodeIs ns k l a b → ⊥
-
 -- the diagram d was added, and r is its reference: the table goes on from the one before, and nothing else has changed
 pub record Grown (ns ns′ : List ℕ) (n n′ r : ℕ) (d : Tree) : Type 0 where
   pub table : Table ns′ n′

@@ -37,7 +37,7 @@ module _ (t : ℕ) where
       let s = c .before .before .before in
       let x = c .before .read .ensures in
       let below = read-below (s .pre .1 .0) x (omega (arith, s .pre .1 .1 .1)) (s .pre .1 .1 .2) in
-      (omega (arith, s .pre .0, below .0), (s .pre .1 .0, (s .pre .1 .1 .0, c .if1 .taken, x .low)))
+      (omega (arith, s .pre .0, below .0, below .1), (s .pre .1 .0, (s .pre .1 .1 .0, c .if1 .taken, omega (arith, x .low, x .high))))
 
   -- the low side was followed
   low-side : (c : in-order-lts.Joined1 (read-reads.Asked, read-reads.Learnt, in-order-below t, in-order.Post) (in-order-at t) in-order.Post)
@@ -58,7 +58,7 @@ module _ (t : ℕ) where
       let s = j .before .before .before in
       let x = j .before .read .ensures in
       let below = read-below (s .pre .1 .0) x (omega (arith, s .pre .1 .1 .1)) (s .pre .1 .1 .2) in
-      (omega (arith, s .pre .0, below .1), (s .pre .1 .0, (omega (arith, c .if2 .taken, x .high), c .if2 .taken, x .high)))
+      (omega (arith, s .pre .0, below .0, below .1), (s .pre .1 .0, (omega (arith, c .if2 .taken, x .low, x .high), c .if2 .taken, omega (arith, x .low, x .high))))
 
   -- and the high side from there
   high-side : (c : in-order-lts.Joined2 (read-reads.Asked, read-reads.Learnt, in-order-below t, in-order.Post) (in-order-at t) in-order.Post)
