@@ -12,9 +12,9 @@ use Rattle.visits.proofs.VisitLaws.{walk-fits}
 use Rattle.visits.proofs.VisitSteps.{refines-leaf, refines-hit, apart-refines}
 use Rattle.making.specs.declared.Made.the-variants as made
 use Rattle.making.specs.Tables.{Shelved}
-use Rattle.making.proofs.WalkLaws.{joined}
-use Rattle.walks.specs.declared.Complement.{Complement}
-use Rattle.walks.specs.declared.Complement.the-variants.{Full, At}
+use Rattle.making.proofs.WalkLaws.{front-less, joined}
+use Rattle.walks.specs.declared.Counted.{Counted}
+use Rattle.walks.specs.declared.Counted.the-variants.{Full, At}
 use Rattle.walks.specs.Walks.{Within}
 use Rattle.walks.specs.Desks.{Desk}
 use Rattle.walks.specs.Complements.{mapOf, KeptNot, Complemented}
@@ -52,11 +52,11 @@ module _ {ns : List ℕ} {n levels : ℕ} {w : List ℕ} {c slots : ℕ} (k : De
       omega (arith, f .visits, t .fits, t .small)
 
 -- the map after the node is made, and noted for p
-pub map-kept : {ns : List ℕ} {n levels : ℕ} {w : List ℕ} {c slots : ℕ} → Desk ns n levels w c slots → (p : ℕ) → 2 ≤ p → p < n + 2 → {ms : List ℕ} {m : ℕ} {w′ : List ℕ} → Shelved w ms m w′ c → length w′ ≡ length w → (r : ℕ)
+pub map-kept : {ns : List ℕ} {n levels : ℕ} {w : List ℕ} {c slots : ℕ} → Desk ns n levels w c slots → (p : ℕ) → 2 ≤ p → p < n + 2 → {ms : List ℕ} {m : ℕ} {w′ : List ℕ} → Shelved w ms m w′ c → (r : ℕ)
     → mapOf c (set w′ (4 * c + (p - 2)) (r + 1)) ≡ set (mapOf c w) (p - 2) (r + 1)
-map-kept {w = w} {c} k p h l {w′ = w′} s size r =
+map-kept {w = w} {c} k p h l {w′ = w′} s r =
     map-write c w′ (p - 2) (r + 1) (s .shelf .long) (omega (arith, k .shelf .table .fits, k .shelf .size))
-    ∙ rw (map-is c w w′ (k .shelf .long) size (s .same .eq))
+    ∙ rw (map-is c w w′ (k .shelf .long) (s .shelf .long) (front-less (s .same) (omega arith)))
 
 -- a node taken apart: both sides walked, each on the table that it found, and the node made and noted
 module _ {ns : List ℕ} {n levels left p l a b : ℕ} {w : List ℕ} {c slots : ℕ} (k : Desk ns n levels w c slots) (s : Step ns n levels left p l a b) (sp : Splits ns n p l a b) (h : 2 ≤ p) (i : p < n + 2)
@@ -64,7 +64,7 @@ module _ {ns : List ℕ} {n levels left p l a b : ℕ} {w : List ℕ} {c slots :
   pub complement-apart : {ns₁ ns₂ : List ℕ} {n₁ n₂ r₁ r₂ v₁ v₂ : ℕ} {k₁ : List ℕ} (w₂ : List ℕ)
       → Grown ns ns₁ n n₁ r₁ (notT levels (at (treesOf ns n) a)) → Refines (complement ns (left - 1) (treesOf ns n) (mapOf c w) a) (treesOf ns₁ n₁) k₁ r₁ v₁
       → Grown ns₁ ns₂ n₁ n₂ r₂ (notT levels (at (treesOf ns n) b)) → Refines (complement ns₁ (left - 1) (treesOf ns₁ n₁) k₁ b) (treesOf ns₂ n₂) (mapOf c w₂) r₂ v₂
-      → (ns₃ w₃ : List ℕ) (m : Complement) → KeptNot ns₂ ns₃ n₂ levels (mk l (at (treesOf ns₂ n₂) r₁) (at (treesOf ns₂ n₂) r₂)) p (v₁ + v₂ + 1) w₂ w₃ c slots m
+      → (ns₃ w₃ : List ℕ) (m : Counted) → KeptNot ns₂ ns₃ n₂ levels (mk l (at (treesOf ns₂ n₂) r₁) (at (treesOf ns₂ n₂) r₂)) p (v₁ + v₂ + 1) w₂ w₃ c slots m
       → Complemented ns ns₃ n levels left p w w₃ c slots m
   unfolding complement
   complement-apart w₂ g₁ f₁ g₂ f₂ ns₃ w₃ Full q = rw (not-node levels s) (joined _ _ _ (k .shelf .table) g₁ g₂ (λ xs j. Desk xs j levels w₃ c slots) ns₃ made.Full q)

@@ -6,6 +6,7 @@ use native.Mathlib.Decide.{ℕ-discrete}
 use native.Mathlib.Omega.{arith}
 use lib.ListN.{length, getD, set, take, drop, length-set, length-drop}
 use lib.Seq.{ext-getD, getD-take, getD-drop, getD-set-same, getD-set-other, length-take-le}
+use Rattle.nodes.specs.Nodes.{Front}
 use Rattle.walks.specs.Complements.{mapOf}
 
 -- its numbers
@@ -16,12 +17,12 @@ map-at c w j h = getD-take c (drop (4 * c) w) j 0 h ∙ getD-drop (4 * c) w j 0
 pub map-length : (c : ℕ) (w : List ℕ) → 15 * c ≤ length w → length (mapOf c w) ≡ c
 map-length c w h = length-take-le c (drop (4 * c) w) (rw length-drop (omega arith))
 
-module _ (c : ℕ) (w w′ : List ℕ) (long : 15 * c ≤ length w) (size : length w′ ≡ length w) where
+module _ (c : ℕ) (w w′ : List ℕ) (long : 15 * c ≤ length w) (long′ : 15 * c ≤ length w′) where
   -- the same numbers are the same map
-  pub map-is : ((x : ℕ) → x < 13 * c → getD w′ x 0 ≡ getD w x 0) → mapOf c w′ ≡ mapOf c w
-  map-is e =
-      ext-getD 0 _ _ (map-length c w′ (rw size long) ∙ sym (map-length c w long))
-      (λ i h. let k : i < c = omega (arith, map-length c w′ (rw size long)) in map-at c w′ i k ∙ e (4 * c + i) (omega arith) ∙ sym (map-at c w i k))
+  pub map-is : Front (5 * c) w w′ → mapOf c w′ ≡ mapOf c w
+  map-is f =
+      ext-getD 0 _ _ (map-length c w′ long′ ∙ sym (map-length c w long))
+      (λ i h. let k : i < c = omega (arith, map-length c w′ long′) in map-at c w′ i k ∙ f .eq (4 * c + i) (omega arith) ∙ sym (map-at c w i k))
 
 -- one number written
 pub map-write : (c : ℕ) (w : List ℕ) (j x : ℕ) → 15 * c ≤ length w → j < c → mapOf c (set w (4 * c + j) x) ≡ set (mapOf c w) j x

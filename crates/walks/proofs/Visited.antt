@@ -5,7 +5,7 @@ use native.Mathlib.Omega.{arith}
 use Rattle.trees.specs.Table.{at, treesOf}
 use Rattle.visits.specs.Visits.{nodeCount}
 use Rattle.visits.proofs.Visited.{complement-visits}
-use Rattle.walks.specs.declared.Complement.the-variants.{At}
+use Rattle.walks.specs.declared.Counted.the-variants.{At}
 use Rattle.walks.specs.Walks.{Within}
 use Rattle.walks.specs.Desks.{Desk}
 use Rattle.walks.specs.Complements.{mapOf, Complemented}

@@ -10,7 +10,7 @@ ghost use Rattle.trees.specs.Table.{at, treesOf};
 ghost use Rattle.nodes.specs.Nodes.{Table};
 ghost use Rattle.making.specs.Tables.{Added, Spot};
 ghost use Rattle.walks.specs.Walks.{Within, Eased, Forks};
-ghost use Rattle.walks.specs.Desks.{recalled, Key, Desk};
+ghost use Rattle.walks.specs.Desks.{recalled, Key, Desk, Remembered};
 ghost use Rattle.walks.specs.Complements.{KeptNot, Complemented};
 use making::Made;
 use making::memory::note;
@@ -142,7 +142,7 @@ fn keep(
     requires { ⌜ Desk (now nodes) n levels (now work) c slots ⌝ }
     requires { ⌜ Spot c slots i × Key n a b d × (x .low < n + 2) × (x .high < n + 2) ⌝ }
     requires { ⌜ recalled levels (treesOf (now nodes) n) a b d ≡ mk (x .level) (at (treesOf (now nodes) n) (x .low)) (at (treesOf (now nodes) n) (x .high)) ⌝ }
-    ensures { λ m. ⌜ Added (λ ns j. Desk ns j levels (now (work .exit)) c slots) (now (nodes .entry)) (now (nodes .exit)) n (mk (x .level) (at (treesOf (now (nodes .entry)) n) (x .low)) (at (treesOf (now (nodes .entry)) n) (x .high))) m ⌝ }
+    ensures { λ m. ⌜ Added (λ ns j. Remembered (now (work .entry)) ns j levels (now (work .exit)) c slots) (now (nodes .entry)) (now (nodes .exit)) n (mk (x .level) (at (treesOf (now (nodes .entry)) n) (x .low)) (at (treesOf (now (nodes .entry)) n) (x .high))) m ⌝ }
 {
     let Made::At(k, r) = make(nodes, work, c, n, x.level, x.low, x.high) else {
         return Made::Full;
@@ -166,7 +166,7 @@ pub fn since_walk(
 ) -> Made
     requires { ⌜ Desk (now nodes) n levels (now work) c slots ⌝ }
     requires { ⌜ (left ≤ levels) × Within (now nodes) n levels left l × Within (now nodes) n levels left r × Within (now nodes) n levels left o ⌝ }
-    ensures { λ m. ⌜ Added (λ ns j. Desk ns j levels (now (work .exit)) c slots) (now (nodes .entry)) (now (nodes .exit)) n (sinceT levels (at (treesOf (now (nodes .entry)) n) l) (at (treesOf (now (nodes .entry)) n) r) (at (treesOf (now (nodes .entry)) n) o)) m ⌝ }
+    ensures { λ m. ⌜ Added (λ ns j. Remembered (now (work .entry)) ns j levels (now (work .exit)) c slots) (now (nodes .entry)) (now (nodes .exit)) n (sinceT levels (at (treesOf (now (nodes .entry)) n) l) (at (treesOf (now (nodes .entry)) n) r) (at (treesOf (now (nodes .entry)) n) o)) m ⌝ }
 {
     let s = settle(l, r, o);
     if s.l == 0 {
@@ -204,9 +204,9 @@ pub fn since_walk(
     keep(nodes, work, c, slots, n2, levels, i, s.l, s.r, s.o, made)
 }
 
-// What the walk for a complement answers: the count of nodes, the reference of the result and how many visits it made, or that
-// the slice is full. A visit is a node, or a leaf, looked at through one followed reference.
-pub enum Complement {
+// What a walk that counts answers: the count of nodes, the reference of the result and how many visits it made, or that the
+// slice is full. A visit is a node, or a leaf, looked at through one followed reference.
+pub enum Counted {
     Full,
     At(u32, u32, u32),
 }
@@ -222,18 +222,18 @@ fn keep_not(
     p: u32,
     x: Node,
     visits: u32,
-) -> Complement
+) -> Counted
     requires { ⌜ Desk (now nodes) n levels (now work) c slots ⌝ }
     requires { ⌜ (2 ≤ p) × (p < n + 2) × (x .low < n + 2) × (x .high < n + 2) ⌝ }
     requires { ⌜ notT levels (at (treesOf (now nodes) n) p) ≡ mk (x .level) (at (treesOf (now nodes) n) (x .low)) (at (treesOf (now nodes) n) (x .high)) ⌝ }
     ensures { λ m. ⌜ KeptNot (now (nodes .entry)) (now (nodes .exit)) n levels (mk (x .level) (at (treesOf (now (nodes .entry)) n) (x .low)) (at (treesOf (now (nodes .entry)) n) (x .high))) p visits (now (work .entry)) (now (work .exit)) c slots m ⌝ }
 {
     let Made::At(k, r) = make(nodes, work, c, n, x.level, x.low, x.high) else {
-        return Complement::Full;
+        return Counted::Full;
     };
     let j = 4 * c + (p as usize - 2);
     work[j] = r + 1;
-    Complement::At(k, r, visits)
+    Counted::At(k, r, visits)
 }
 
 // The complement of a diagram that asks at most the last `left` levels, remembered by place. Each call is one visit.
@@ -246,27 +246,26 @@ pub fn not_walk(
     levels: u32,
     left: u32,
     p: u32,
-) -> Complement
+) -> Counted
     requires { ⌜ Desk (now nodes) n levels (now work) c slots ⌝ }
     requires { ⌜ (left ≤ levels) × Within (now nodes) n levels left p ⌝ }
     ensures { λ m. ⌜ Complemented (now (nodes .entry)) (now (nodes .exit)) n levels left p (now (work .entry)) (now (work .exit)) c slots m ⌝ }
 {
     if p < 2 {
-        return Complement::At(n, 1 - p, 1);
+        return Counted::At(n, 1 - p, 1);
     }
     let j = 4 * c + (p as usize - 2);
     let seen = work[j];
     if 0 < seen {
-        return Complement::At(n, seen - 1, 1);
+        return Counted::At(n, seen - 1, 1);
     }
     let mut x = read(nodes, n, p);
-    let Complement::At(n1, a, v1) = not_walk(nodes, work, c, slots, n, levels, left - 1, x.low)
-    else {
-        return Complement::Full;
+    let Counted::At(n1, a, v1) = not_walk(nodes, work, c, slots, n, levels, left - 1, x.low) else {
+        return Counted::Full;
     };
-    let Complement::At(n2, b, v2) = not_walk(nodes, work, c, slots, n1, levels, left - 1, x.high)
+    let Counted::At(n2, b, v2) = not_walk(nodes, work, c, slots, n1, levels, left - 1, x.high)
     else {
-        return Complement::Full;
+        return Counted::Full;
     };
     x.low = a;
     x.high = b;
@@ -287,7 +286,7 @@ pub fn drop_walk(
 ) -> Made
     requires { ⌜ Desk (now nodes) n levels (now work) c slots ⌝ }
     requires { ⌜ (left ≤ levels) × Within (now nodes) n levels left p ⌝ }
-    ensures { λ m. ⌜ Added (λ ns j. Desk ns j levels (now (work .exit)) c slots) (now (nodes .entry)) (now (nodes .exit)) n (dropT levels v (at (treesOf (now (nodes .entry)) n) p)) m ⌝ }
+    ensures { λ m. ⌜ Added (λ ns j. Remembered (now (work .entry)) ns j levels (now (work .exit)) c slots) (now (nodes .entry)) (now (nodes .exit)) n (dropT levels v (at (treesOf (now (nodes .entry)) n) p)) m ⌝ }
 {
     if p < 2 {
         return Made::At(n, p);

@@ -3,7 +3,7 @@ use Rattle.trees.specs.Tree.{notT}
 use Rattle.trees.specs.Table.{at, treesOf}
 use Rattle.nodes.specs.Nodes.{Grown}
 use Rattle.nodes.proofs.ReadLaws.{grown-ref, grown-count}
-use Rattle.walks.specs.declared.Complement.the-variants.{At}
+use Rattle.walks.specs.declared.Counted.the-variants.{At}
 use Rattle.walks.specs.Complements.{Complemented}
 use Rattle.walks.proofs.ComplementLaws.{complement-leaf, complement-hit, complement-fits, complement-apart}
 use Rattle.walks.proofs.NotLaws.{not-node, not-over}

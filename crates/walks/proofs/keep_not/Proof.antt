@@ -58,7 +58,7 @@ returns-2 c =
     let s = c .before .before .before .before .before .before .before .before .before .before .before .before in
     let p = s .pre .1 .0 in
     let g = rw (c .before .k .given .1) at (after .ensures) in
-    (g .0, desk-keep-not (s .pre .0) _ (p .0) (p .1) (s .pre .1 .1) (g .0) (g .1), map-kept (s .pre .0) _ (p .0) (p .1) (g .1) (after .kept .1 .0) _, refl)
+    (g .0, desk-keep-not (s .pre .0) _ (p .0) (p .1) (s .pre .1 .1) (g .0) (g .1), map-kept (s .pre .0) _ (p .0) (p .1) (g .1) _, refl)
 
 pub keep-not-spec : {M : Type 1} → statement M
 keep-not-spec =

@@ -20,7 +20,7 @@ write-fresh-requires c κs =
     let told = c .before .before .before in
     let step = told .before .before .before .before .before .before .before in
     let plan = step .before .before .before .before in
-    writes _ _ _ _ _ (plan .before .before .before .before .before .before .pre) _ (plan .plan .ensures) _ _ _ (step .step .ensures) _ _ (told .told .given .1)
+    writes _ _ _ _ _ (plan .before .before .before .before .before .before .pre) _ (plan .plan .ensures) _ _ _ (step .step .ensures .0) _ _ (told .told .given .1)
 
 taken-requires : tie.Need-taken-requires
 taken-requires c κs = rows-few _ _ _ _ _ (c .before .before .before .before .before .before .before .before .before .before .before .before .before .before .before .before .before .before .before .before .before .before .before .before .pre)
@@ -59,7 +59,7 @@ returns c =
     let plan = step .before .before .before .before in
     let s = plan .before .before .before .before .before .before in
     let four : length (s .args .asked .counts) ≡ 4 = sym (length-map (s .args .asked .counts) _) ∙ s .good .1 .1 .1 .1 .1 .1 .1 .0 .1 .1 .0 .1 .0 .1 in
-    takes _ _ _ _ _ (s .pre) _ (plan .plan .ensures) _ _ _ (step .step .ensures) _ _ (told .told .given .1) four _ _ (c .taken .ensures) (c .before .before .before .before .write-fresh .ensures)
+    takes _ _ _ _ _ (s .pre) _ (plan .plan .ensures) _ _ _ (step .step .ensures .0) _ _ (told .told .given .1) four _ _ (c .taken .ensures) (c .before .before .before .before .write-fresh .ensures)
 
 same-length-4 : tie.Need-same-length-4
 same-length-4 c = search needs
@@ -71,7 +71,7 @@ returns-2 : tie.Need-returns-2
 returns-2 c =
     let step = c .before .before .before .before .before .before .before .before in
     let plan = step .before .before .before .before in
-    refuses-full _ _ _ _ _ (plan .before .before .before .before .before .before .pre) _ (plan .plan .ensures) _ _ _ (step .step .ensures) _ _ (c .before .enum-told .given .1) (c .refused .ensures) refl
+    refuses-full _ _ _ _ _ (plan .before .before .before .before .before .before .pre) _ (plan .plan .ensures) _ _ _ (step .step .ensures .0) _ _ (c .before .enum-told .given .1) (c .refused .ensures) refl
 
 same-length-6 : tie.Need-same-length-6
 same-length-6 c = search needs
@@ -83,7 +83,7 @@ returns-3 : tie.Need-returns-3
 returns-3 c =
     let step = c .before .before .before .before .before .before .before .before in
     let plan = step .before .before .before .before in
-    refuses-bad _ _ _ _ _ (plan .before .before .before .before .before .before .pre) _ (plan .plan .ensures) _ _ _ (step .step .ensures) _ _ (c .before .enum-told2 .given .1) (c .refused2 .ensures) refl
+    refuses-bad _ _ _ _ _ (plan .before .before .before .before .before .before .pre) _ (plan .plan .ensures) _ _ _ (step .step .ensures .0) _ _ (c .before .enum-told2 .given .1) (c .refused2 .ensures) refl
 
 same-length-8 : tie.Need-same-length-8
 same-length-8 c = search needs
@@ -95,7 +95,7 @@ returns-4 : tie.Need-returns-4
 returns-4 c =
     let step = c .before .before .before .before .before .before .before .before in
     let plan = step .before .before .before .before in
-    never-unfit _ _ _ _ _ (plan .before .before .before .before .before .before .pre) _ (plan .plan .ensures) _ _ _ (step .step .ensures) (c .before .enum-told3 .given .1)
+    never-unfit _ _ _ _ _ (plan .before .before .before .before .before .before .pre) _ (plan .plan .ensures) _ _ _ (step .step .ensures .0) (c .before .enum-told3 .given .1)
 
 pub work-on-spec : {M : Type 1} → statement M
 work-on-spec =
