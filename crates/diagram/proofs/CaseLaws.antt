@@ -36,15 +36,15 @@ module _ (k count : ℕ) (allowed refs : List ℕ) (kept : ℕ) (ns w : List ℕ
   module _ (plan : List Instruction) where
     -- unfit numbers or lengths
     pub unfit-leaves : (b : Bool) → Decides (Fits k count (length ns) (length w)) b → not b ≡ true
-        → Leaves (stepOutcome k count plan allowed refs kept ns w) (record { told = Unfit; refs = refs }) ns w
+        → Leaves (stepOutcome k count plan allowed refs kept ns w) (record { told = Unfit; refs = refs; complements = 0; swept = 0 }) ns w
     unfolding stepOutcome
-    unfit-leaves b d e = rw (fits-is k count (length ns) (length w) b d, not-false b e) (record { result = refl; nodes = refl; work = refl })
+    unfit-leaves b d e = rw (fits-is k count (length ns) (length w) b d, not-false b e) (record { told = refl; refs = refl; nodes = refl; work = refl })
 
     module _ (f : Fits k count (length ns) (length w)) where
       -- diagrams that are not well kept
-      pub bad-leaves : {w₂ : List ℕ} → good ≡ false → w₂ ≡ cleared (length ns / 3) w → Leaves (stepOutcome k count plan allowed refs kept ns w) (record { told = Bad; refs = refs }) ns w₂
+      pub bad-leaves : {w₂ : List ℕ} → good ≡ false → w₂ ≡ cleared (length ns / 3) w → Leaves (stepOutcome k count plan allowed refs kept ns w) (record { told = Bad; refs = refs; complements = 0; swept = 0 }) ns w₂
       unfolding stepOutcome
-      bad-leaves g e = rw (fits-of k count (length ns) (length w) f, g) (record { result = refl; nodes = refl; work = e })
+      bad-leaves g e = rw (fits-of k count (length ns) (length w) f, g) (record { told = refl; refs = refl; nodes = refl; work = e })
 
       -- well kept diagrams: what the work leaves
       pub good-leaves : {w₁ w₂ ns₂ : List ℕ} {x : Stepped} → good ≡ true → Rest (15 * (length ns / 3)) w w₁ → length w₁ ≡ length w

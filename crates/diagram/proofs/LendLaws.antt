@@ -1,10 +1,11 @@
 -- The part of the work slice that is lent to the rows' work: its first 15 * c numbers. Assumes nothing.
 use Prim.Native.Nat.{ℕ, suc, _+_, _*_, _-_, _/_, _≤_, _<_}
-use mathlib.Core.Path.{_≡_, refl, ap, _∙_}
+use mathlib.Core.Path.{_≡_, refl, sym, ap, _∙_}
 use mathlib.Core.List.{List}
 use native.Mathlib.Omega.{arith}
-use lib.ListN.{length, getD, take, drop}
-use lib.Seq.{getD-take, getD-drop}
+use lib.ListN.{length, getD, take, drop, length-replicate}
+use lib.Seq.{ext-getD, getD-take, getD-drop}
+use Rattle.trees.proofs.CanonicalLaws.{zeros-at}
 use borrow.Rule.Slice.PartMut.{putMid, mid-len, same-len-mid, drop-put}
 use Rattle.nodes.specs.Nodes.{Rest, Zeroed}
 use Rattle.nodes.specs.Chains.{Reaches, here, later, headOf, Chained}
@@ -12,7 +13,8 @@ use Rattle.nodes.proofs.ChainLaws.{head-within}
 use Rattle.making.proofs.WalkLaws.{rest-trans}
 use Rattle.walks.specs.Desks.{Desk}
 use Rattle.walks.proofs.CallLaws.{desk-none}
-use Rattle.diagram.specs.Works.{Fits, Ready}
+use Rattle.walks.proofs.MapLaws.{map-at, map-length}
+use Rattle.diagram.specs.Works.{Fits, Fresh, Ready}
 
 -- chains depend on the numbers from 13 * c on and before 15 * c
 chained-part : {ns : List ℕ} {n : ℕ} {w w′ : List ℕ} → 3 * n ≤ length ns → 1 ≤ length ns / 3 → ((x : ℕ) → 13 * (length ns / 3) ≤ x → x < 15 * (length ns / 3) → getD w′ x 0 ≡ getD w x 0)
@@ -68,6 +70,24 @@ desk-ready {k} {kept = kept} {ns} {w} f r ch slots some few {w₁} z =
       chains = chained-part (r .table .fits) (f .one) (λ x h l. same x l ∙ z .rest .eq x (omega arith)) ch;
     })
     some few (λ i h l. same i (omega arith) ∙ z .zero i h l)
+
+-- zeros behind the nodes, and an empty map
+pub fresh-ready : {k count : ℕ} {refs : List ℕ} {kept : ℕ} {ns w : List ℕ} → Fits k count (length ns) (length w) → Ready k count refs kept ns → (slots : ℕ)
+    → {w₁ : List ℕ} → Zeroed (4 * (length ns / 3)) (5 * (length ns / 3) + 4 * slots) w w₁ → Fresh ns kept (take (15 * (length ns / 3) - 0) (drop 0 w₁)) (length ns / 3)
+fresh-ready {ns = ns} f r slots {w₁} z =
+    let c = length ns / 3 in
+    let room = f .room in
+    let size = z .size in
+    let long : 15 * c ≤ length w₁ = omega arith in
+    let lent-long : 15 * c ≤ length (take (15 * c - 0) (drop 0 w₁)) = omega (arith, mid-len 0 (15 * c) w₁ long) in
+    record {
+      behind = r .rest;
+      map =
+          ext-getD 0 _ _ (map-length c (take (15 * c - 0) (drop 0 w₁)) lent-long ∙ sym (length-replicate c 0))
+          (λ i h.
+          let l : i < c = omega (arith, map-length c (take (15 * c - 0) (drop 0 w₁)) lent-long) in
+          map-at c (take (15 * c - 0) (drop 0 w₁)) i l ∙ lent (15 * c) w₁ long (4 * c + i) (omega arith) ∙ z .zero (4 * c + i) (omega arith) (omega arith) ∙ sym (zeros-at c i));
+    }
 
 -- the work slice with the lent part back in its place
 pub lent-back : (ns : List ℕ) {k count : ℕ} {w : List ℕ} → Fits k count (length ns) (length w) → (slots : ℕ) → slots ≤ 2 * (length ns / 3)

@@ -1,6 +1,7 @@
 -- The laws that the proofs of the diagram layer cite.
 pub mod RemovalLaws
 pub mod RowLaws
+pub mod TallyLaws
 pub mod PlanLaws
 pub mod FitLaws
 pub mod ClearLaws

@@ -13,10 +13,12 @@ use Rattle.trees.specs.Kept.{diagrams, WellKept, wellKept}
 use Rattle.trees.proofs.KeptLaws.{kept-of}
 use Rattle.diagram.specs.declared.Instruction.{Instruction}
 use Rattle.diagram.specs.declared.Stepped.{Stepped}
-use Rattle.diagram.specs.declared.Told.the-variants.{Full, Done}
+use Rattle.diagram.specs.declared.Told.{Told}
+use Rattle.diagram.specs.declared.Told.the-variants.{Unfit, Bad, Full, Done}
 use Rattle.diagram.specs.declared.Formed.{Formed}
 use Rattle.keeping.specs.Checks.{freeBy}
 use Rattle.diagram.specs.Steps.{workTable, counted, Outcome, fits, layout, workOutcome, judge, stepOutcome, Leaves, Checked, Tells}
+use Rattle.diagram.specs.Counts.{Visits}
 use Rattle.diagram.specs.Works.{Fits}
 use Rattle.diagram.proofs.RemovalLaws.{within-fine}
 use Rattle.diagram.proofs.PlanLaws.{old-are}
@@ -24,9 +26,23 @@ use Rattle.diagram.proofs.FitLaws.{of-fits}
 use Rattle.diagram.proofs.OutcomeLaws.{ready}
 use Rattle.diagram.proofs.CountLaws.{room-counted}
 
--- Two outcomes of a step that satisfy its promise are the same.
-pub one-outcome : (o : Outcome) (x y : Stepped) (ns ms w v : List ℕ) → Leaves o x ns w → Leaves o y ms v → (x ≡ y) × (ns ≡ ms) × (w ≡ v)
-one-outcome o x y ns ms w v a b = (a .result ∙ sym (b .result), a .nodes ∙ sym (b .nodes), a .work ∙ sym (b .work))
+-- two answers with the same parts
+stepped-eq : (a b : Stepped) → a .told ≡ b .told → a .refs ≡ b .refs → a .complements ≡ b .complements → a .swept ≡ b .swept → a ≡ b
+stepped-eq a b p q r s = λ i. record { told = p i; refs = q i; complements = r i; swept = s i }
+
+-- Two outcomes of a step that satisfy its promises are the same.
+pub one-outcome : (k count : ℕ) (plan : List Instruction) (refs : List ℕ) (kept : ℕ) (ns₀ : List ℕ) (o : Outcome) (x y : Stepped) (ns ms w v : List ℕ) → Leaves o x ns w → Leaves o y ms v
+    → Visits k count plan refs kept ns₀ (x .told) (x .complements) (x .swept) → Visits k count plan refs kept ns₀ (y .told) (y .complements) (y .swept) → (x ≡ y) × (ns ≡ ms) × (w ≡ v)
+one-outcome k count plan refs kept ns₀ o x y ns ms w v a b p q =
+    let e = a .told ∙ sym (b .told) in
+    let z = same (x .told) (x .complements) (x .swept) (y .complements) (y .swept) p (rw (← e) at q) in
+    (stepped-eq x y e (a .refs ∙ sym (b .refs)) (z .0) (z .1), a .nodes ∙ sym (b .nodes), a .work ∙ sym (b .work))
+  where
+    same : (t : Told) (c₁ s₁ c₂ s₂ : ℕ) → Visits k count plan refs kept ns₀ t c₁ s₁ → Visits k count plan refs kept ns₀ t c₂ s₂ → (c₁ ≡ c₂) × (s₁ ≡ s₂)
+    same Unfit c₁ s₁ c₂ s₂ p q = (omega (arith, p .0, q .0), omega (arith, p .1, q .1))
+    same Bad c₁ s₁ c₂ s₂ p q = (omega (arith, p .0, q .0), omega (arith, p .1, q .1))
+    same Full c₁ s₁ c₂ s₂ p q = (omega (arith, p .0, q .0), omega (arith, p .1, q .1))
+    same (Done n m) c₁ s₁ c₂ s₂ p q = (p .complements-are ∙ sym (q .complements-are), p .sweep-is ∙ sym (q .sweep-is))
 
 -- Two outcomes of a check that satisfy its promise are the same.
 pub one-answer : (o : Checked) (x y : Formed) (w v : List ℕ) → Tells o x w → Tells o y v → (x ≡ y) × (w ≡ v)
@@ -43,12 +59,12 @@ module _ (k count : ℕ) (plan : List Instruction) (allowed refs : List ℕ) (ke
       rw (← h .order) (room-counted k plan (diagrams ns kept refs count) count (λ a. rw (← are a) (within-fine (r .leads .each a))))
 
   -- Where a step tells a room, it is the room of the functions counted; where it is refused as full, that room is over C.
-  pub room-told : (n m : ℕ) → stepOutcome k count plan allowed refs kept ns w .gives .told ≡ Done n m → Room (4 * k) (counted k count plan refs kept ns) m
+  pub room-told : (n m : ℕ) → stepOutcome k count plan allowed refs kept ns w .told ≡ Done n m → Room (4 * k) (counted k count plan refs kept ns) m
   unfolding stepOutcome workOutcome layout
   room-told n m = go (fits k count (length ns) (length w)) refl (wellKept (freeBy k allowed) (length ns / 3) count refs kept ns) refl (leb (length (workTable k count plan refs kept ns)) (length ns / 3))
     where
       go : (b : Bool) → fits k count (length ns) (length w) ≡ b → (g : Bool) → wellKept (freeBy k allowed) (length ns / 3) count refs kept ns ≡ g → (t : Bool)
-          → judge b g refs ns w (workOutcome t k count plan refs kept ns w) .gives .told ≡ Done n m → Room (4 * k) (counted k count plan refs kept ns) m
+          → judge b g refs ns w (workOutcome t k count plan refs kept ns w) .told ≡ Done n m → Room (4 * k) (counted k count plan refs kept ns) m
       go false p g q t e = let z : _≡_ {A = ℕ} 0 1 = cc in absurd (omega arith)
       go true p false q t e = let z : _≡_ {A = ℕ} 0 1 = cc in absurd (omega arith)
       go true p true q false e = let z : _≡_ {A = ℕ} 0 1 = cc in absurd (omega arith)
@@ -56,13 +72,13 @@ module _ (k count : ℕ) (plan : List Instruction) (allowed refs : List ℕ) (ke
           let z : length (workTable k count plan refs kept ns) ≡ m = cc in
           rw z at (room-is (of-fits k count (length ns) (length w) p) (kept-of (freeBy k allowed) (length ns / 3) count refs kept ns q))
 
-  pub room-over : stepOutcome k count plan allowed refs kept ns w .gives .told ≡ Full → (m : ℕ) × Room (4 * k) (counted k count plan refs kept ns) m × (length ns / 3 < m)
+  pub room-over : stepOutcome k count plan allowed refs kept ns w .told ≡ Full → (m : ℕ) × Room (4 * k) (counted k count plan refs kept ns) m × (length ns / 3 < m)
   unfolding stepOutcome workOutcome layout
   room-over = go (fits k count (length ns) (length w)) refl (wellKept (freeBy k allowed) (length ns / 3) count refs kept ns) refl (leb (length (workTable k count plan refs kept ns)) (length ns / 3)) refl
     where
       go : (b : Bool) → fits k count (length ns) (length w) ≡ b → (g : Bool) → wellKept (freeBy k allowed) (length ns / 3) count refs kept ns ≡ g
           → (t : Bool) → leb (length (workTable k count plan refs kept ns)) (length ns / 3) ≡ t
-          → judge b g refs ns w (workOutcome t k count plan refs kept ns w) .gives .told ≡ Full → (m : ℕ) × Room (4 * k) (counted k count plan refs kept ns) m × (length ns / 3 < m)
+          → judge b g refs ns w (workOutcome t k count plan refs kept ns w) .told ≡ Full → (m : ℕ) × Room (4 * k) (counted k count plan refs kept ns) m × (length ns / 3 < m)
       go false p g q t r e = let z : _≡_ {A = ℕ} 0 1 = cc in absurd (omega arith)
       go true p false q t r e = let z : _≡_ {A = ℕ} 0 1 = cc in absurd (omega arith)
       go true p true q true r e = let z : _≡_ {A = ℕ} 0 1 = cc in absurd (omega arith)

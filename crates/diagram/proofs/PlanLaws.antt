@@ -1,5 +1,5 @@
 -- The rows worked one after the other. Assumes nothing.
-use Prim.Native.Nat.{ℕ, zero, suc, _+_, _*_, _≤_, _<_}
+use Prim.Native.Nat.{ℕ, zero, suc, _+_, _*_, _/_, _≤_, _<_}
 use mathlib.Core.Path.{_≡_, refl, sym, ap, _∙_, fun-ext}
 use mathlib.Core.List.{List, [], _∷_, _++_, map}
 use mathlib.Core.Logic.{⊎-elim}
@@ -11,23 +11,24 @@ use lib.ListN.{length, getD, set, take, replicate, length-append, length-set, le
 use lib.Seq.{getD-append-seam, getD-set-same, getD-set-other, getD-take, length-take-le}
 use Rattle.trees.specs.Bits.{Function}
 use Rattle.trees.specs.Tree.{Tree, off, eval, treeOf}
-use Rattle.trees.specs.Table.{addTree, addTrees, at, treesOf}
+use Rattle.trees.specs.Table.{addTree, addTrees, at, refOf, treesOf}
 use Rattle.trees.specs.Kept.{diagrams}
 use Rattle.trees.proofs.Tests.{lt-or-ge}
 use Rattle.trees.proofs.FunctionLaws.{fine-of}
 use Rattle.trees.proofs.TableLaws.{Goes, goes-refl, goes-trans, goes-at, goes-length, adds-goes}
-use Rattle.trees.proofs.ReadLaws.{length-trees}
+use Rattle.trees.proofs.ReadLaws.{length-trees, ref-is}
 use Rattle.trees.proofs.CanonicalLaws.{zeros-at}
 use Rattle.diagram.specs.declared.Instruction.{Instruction}
 use Rattle.diagram.specs.declared.Instruction.the-variants.{Yes}
 use Rattle.walks.specs.Walks.{Within}
 use Rattle.walks.specs.Desks.{Desk}
 use Rattle.diagram.specs.Steps.{says, instructionSays, stagesOf, withRow, newTrees, stages}
-use Rattle.diagram.specs.Works.{Leads, led, Reached, Short, Are, Through}
+use Rattle.diagram.specs.Works.{Leads, led, Reached, Short, Are, Tolled, Fresh, Through}
 use Rattle.making.proofs.WalkLaws.{front-trans}
 use Rattle.walks.proofs.CallLaws.{within-all}
 use Rattle.diagram.proofs.RemovalLaws.{within-fine}
 use Rattle.diagram.proofs.RowLaws.{within-no}
+use Rattle.diagram.proofs.TallyLaws.{holds, tally-none, tally-more}
 
 -- diagrams added one list after the other
 pub adds-append : (ts ds es : List Tree) → addTrees ts (ds ++ es) ≡ addTrees (addTrees ts ds) es
@@ -76,22 +77,24 @@ module _ (k : ℕ) (plan : List Instruction) (old : List Tree) where
 
   module _ (ns₀ : List ℕ) (kept : ℕ) where
     -- no row is worked yet
-    pub through-none : (w : List ℕ) (c slots : ℕ) (olds : List ℕ) → Desk ns₀ kept (4 * k) w c slots → Leads ns₀ kept (4 * k) olds → Are ns₀ kept olds old
-        → Through k plan old ns₀ kept ns₀ kept w c slots olds (replicate 64 0) 0
+    pub through-none : (w : List ℕ) (c slots : ℕ) (olds : List ℕ) → Desk ns₀ kept (4 * k) w c slots → Leads ns₀ kept (4 * k) olds → Are ns₀ kept olds old → Fresh ns₀ kept w c
+        → Through k plan old ns₀ kept ns₀ kept w c slots olds (replicate 64 0) 0 0
     unfolding stages newTrees addTrees at
-    through-none w c slots olds d l are = record {
+    through-none w c slots olds d l are z = record {
       desk = d;
       size = refl;
       same = record { eq = λ i h. refl };
+      behind = z .behind;
       trees = refl;
       old-lead = l;
       old-are = are;
       new-lead = record { wide = refl; each = λ a. rw (zeros-at 64 a) (within-no ns₀ kept (4 * k)) };
       new-are = λ a. rw (zeros-at 64 a);
       none = λ a h. zeros-at 64 a;
+      tally = let third : length ns₀ / 3 ≡ c = omega (arith, d .shelf .size) in rw (z .map) (rw third at (tally-none (length ns₀) k plan old (treesOf ns₀ kept)));
     }
 
-    module _ {ns : List ℕ} {n : ℕ} {w : List ℕ} {c slots : ℕ} {olds news : List ℕ} {i : ℕ} (t : Through k plan old ns₀ kept ns n w c slots olds news i) where
+    module _ {ns : List ℕ} {n : ℕ} {w : List ℕ} {c slots : ℕ} {olds news : List ℕ} {i v : ℕ} (t : Through k plan old ns₀ kept ns n w c slots olds news i v) where
       -- the functions that the references lead to
       old-says : led ns n olds ≡ says old
       unfolding led says
@@ -164,21 +167,31 @@ module _ (k : ℕ) (plan : List Instruction) (old : List Tree) where
                 (sym (List·getD-eq-default (newTrees k plan old i ++ _ ∷ []) off (omega (arith, length-append (newTrees k plan old i) (treeOf (4 * k) (instructionSays k (says old) (says (newTrees k plan old i)) i (getD plan i Yes)) ∷ []), length-new k plan old i))))
 
         -- one row more is worked
-        pub through-more : {w′ : List ℕ} → Desk ns′ n′ (4 * k) w′ c slots → Through k plan old ns₀ kept ns′ n′ w′ c slots olds (set news i r) (i + 1)
-        through-more d =
+        pub through-more : {w′ : List ℕ} (u : ℕ) → Desk ns′ n′ (4 * k) w′ c slots → Tolled (4 * k) ns ns′ n n′ r news w w′ c u (getD plan i Yes)
+            → Through k plan old ns₀ kept ns′ n′ w′ c slots olds (set news i r) (i + 1) (v + u)
+        through-more {w′} u d p =
             let m = grows in
+            let more : n ≤ n′ = omega (arith, goes-length goes, length-trees ns n, length-trees ns′ n′) in
             rw (add-one i) (record {
               desk = d;
               size = g .size ∙ t .size;
               same = front-trans (t .same) (g .same) (omega arith);
+              behind = λ j h. g .rest .eq j h ∙ t .behind j (omega arith);
               trees = g .trees ∙ met;
               old-lead = record { wide = t .old-lead .wide; each = λ a. lead-stay (getD olds a 0) (t .old-lead .each a) };
               old-are = λ a. stay (getD olds a 0) (t .old-lead .each a .below) ∙ t .old-are a;
               new-lead = record { wide = length-set news i r ∙ t .new-lead .wide; each = λ a. new-leads a };
               new-are = row-are;
               none = λ a h. getD-set-other news i a r 0 (λ e. omega arith) ∙ t .none a (omega arith);
+              tally = tally-more ns n c w (t .tally) ns′ n′ r news w′ u (sym (rw (old-says, new-says) at (g .trees))) (rw (t .size) at (holds (t .desk .shelf .table) (t .behind))) reads p;
             })
           where
+            -- the references of the rows so far are those of their diagrams
+            reads : (a : ℕ) → (getD news a 0 ≡ refOf (treesOf ns n) (getD (newTrees k plan old i) a off)) × (at (treesOf ns n) (getD news a 0) ≡ getD (newTrees k plan old i) a off)
+            reads a =
+                let b = t .new-lead .each a .below in
+                (ref-is ns n (getD news a 0) _ (t .desk .shelf .table .one) (record { below = omega (arith, length-trees ns n); is = t .new-are a }), t .new-are a)
+
             new-leads : (a : ℕ) → Within ns′ n′ (4 * k) (4 * k) (getD (set news i r) a 0)
             new-leads a = elim (ℕ-discrete a i) [
               | yes e ↦ rw (e, getD-set-same news i r 0 (omega (arith, t .new-lead .wide))) (within-all ns′ n′ (4 * k) r (g .ref .below) (rw (g .ref .is) (fine-of (4 * k) _)))

@@ -12,14 +12,15 @@ use Rattle.trees.proofs.BitsLaws.{put-other, asks-drop}
 use Rattle.trees.proofs.TreeLaws.{asks-eval}
 use Rattle.trees.proofs.FunctionLaws.{fine-of, eval-of, tree-one}
 use Rattle.trees.proofs.TableLaws.{adds-goes, goes-length}
-use Rattle.nodes.specs.Nodes.{Front, Grown, Stuck}
+use Rattle.nodes.specs.Nodes.{Front, Rest, Grown, Stuck}
 use Rattle.walks.specs.Walks.{Within}
-use Rattle.walks.specs.Desks.{Desk}
+use Rattle.walks.specs.Desks.{Desk, Remembered}
 use Rattle.diagram.specs.Steps.{dropStages}
 use Rattle.diagram.specs.Works.{Reached, Short}
 use Rattle.nodes.proofs.ReadLaws.{grown-count, grown-ref}
-use Rattle.making.proofs.WalkLaws.{front-trans}
+use Rattle.making.proofs.WalkLaws.{front-trans, rest-trans}
 use Rattle.walks.proofs.CallLaws.{within-all}
+use Rattle.walks.proofs.DeskLaws.{desk-stays}
 
 -- a function that asks only the levels is what its tree says
 pub eval-tree : (n : ℕ) (g : Function) → Asks 0 n g → eval (treeOf n g) ≡ g
@@ -56,10 +57,11 @@ drops-past n a b (suc k) g h p q =
     rw (drop-past n (a + k) g h (omega arith), drop-past n (b + k) g h (omega arith)) (drops-past n a b k g h p q)
 
 -- the first n nodes of ns₀ and the reference p are where the removal of k bits starts: b bits are left to remove from r, among the first m nodes of ns
-pub record Removing (levels base k : ℕ) (ns₀ : List ℕ) (n p : ℕ) (ns : List ℕ) (m r b : ℕ) (w : List ℕ) (c slots : ℕ) : Type 0 where
-  pub desk : Desk ns m levels w c slots
+pub record Removing (levels base k : ℕ) (ns₀ : List ℕ) (n p : ℕ) (ns : List ℕ) (m r b : ℕ) (w₀ w : List ℕ) (c slots : ℕ) : Type 0 where
+  pub kept : Remembered w₀ ns m levels w c slots
   pub size : length ns ≡ length ns₀
   pub same : Front (3 * n) ns₀ ns
+  pub rest : Rest (3 * m) ns₀ ns
   pub more : n ≤ m
   pub within : Within ns m levels levels r
   pub ends : drops base b (eval (at (treesOf ns m) r)) ≡ drops base k (eval (at (treesOf ns₀ n) p))
@@ -68,18 +70,19 @@ pub record Removing (levels base k : ℕ) (ns₀ : List ℕ) (n p : ℕ) (ns : L
 
 -- nothing is removed yet
 pub removing-none : {levels : ℕ} {ns : List ℕ} {n p : ℕ} {w : List ℕ} {c slots : ℕ} (base k : ℕ) → Desk ns n levels w c slots → Within ns n levels levels p
-    → Removing levels base k ns n p ns n p k w c slots
+    → Removing levels base k ns n p ns n p k w w c slots
 removing-none base k d h = record {
-  desk = d;
+  kept = desk-stays d;
   size = refl;
   same = record { eq = λ i l. refl };
+  rest = record { eq = λ i l. refl };
   more = omega arith;
   within = h;
   ends = refl;
   adds = refl;
 }
 
-module _ {levels base k : ℕ} {ns₀ : List ℕ} {n p : ℕ} {ns : List ℕ} {m r b : ℕ} {w : List ℕ} {c slots : ℕ} (v : Removing levels base k ns₀ n p ns m (r) (suc b) w c slots) where
+module _ {levels base k : ℕ} {ns₀ : List ℕ} {n p : ℕ} {ns : List ℕ} {m r b : ℕ} {w₀ w : List ℕ} {c slots : ℕ} (v : Removing levels base k ns₀ n p ns m r (suc b) w₀ w c slots) where
   -- the function with one bit more removed
   next : Function
   next = drop (base + b) (eval (at (treesOf ns m) r))
@@ -95,17 +98,18 @@ module _ {levels base k : ℕ} {ns₀ : List ℕ} {n p : ℕ} {ns : List ℕ} {m
   left = v .adds
 
   -- one bit more is removed
-  removed : {ns′ : List ℕ} {m′ r′ : ℕ} {w′ : List ℕ} → Grown ns ns′ m m′ r′ (dropT levels (base + b) (at (treesOf ns m) r)) → Desk ns′ m′ levels w′ c slots
-      → Removing levels base k ns₀ n p ns′ m′ r′ b w′ c slots
+  removed : {ns′ : List ℕ} {m′ r′ : ℕ} {w′ : List ℕ} → Grown ns ns′ m m′ r′ (dropT levels (base + b) (at (treesOf ns m) r)) → Remembered w ns′ m′ levels w′ c slots
+      → Removing levels base k ns₀ n p ns′ m′ r′ b w₀ w′ c slots
   unfolding dropT next drops
   removed {ns′} {m′} {r′} g d =
       let says : eval (at (treesOf ns′ m′) r′) ≡ next = ap eval (g .ref .is) ∙ eval-tree levels next asks in
       let more = v .more in
       let count = grown-count g in
       record {
-        desk = d;
+        kept = record { desk = d .desk; same = front-trans (v .kept .same) (d .same) (omega arith) };
         size = g .size ∙ v .size;
         same = front-trans (v .same) (g .same) (omega arith);
+        rest = rest-trans (v .rest) (g .rest) (omega arith);
         more = omega arith;
         within = within-all ns′ m′ levels r′ (grown-ref g) (rw (g .ref .is) (fine-of levels next));
         ends = rw says (v .ends);
@@ -125,19 +129,19 @@ module _ {levels base k : ℕ} {ns₀ : List ℕ} {n p : ℕ} {ns : List ℕ} {m
       }
 
 -- the same, with the code's count of bits
-module _ {levels base k : ℕ} {ns₀ : List ℕ} {n p : ℕ} {ns : List ℕ} {m r : ℕ} {w : List ℕ} {c slots : ℕ} where
-  pub removing-more : {b : ℕ} → 0 < b → Removing levels base k ns₀ n p ns m r b w c slots → {ns′ : List ℕ} {m′ r′ : ℕ} {w′ : List ℕ}
-      → Grown ns ns′ m m′ r′ (dropT levels (base + (b - 1)) (at (treesOf ns m) r)) → Desk ns′ m′ levels w′ c slots
-      → Removing levels base k ns₀ n p ns′ m′ r′ (b - 1) w′ c slots
+module _ {levels base k : ℕ} {ns₀ : List ℕ} {n p : ℕ} {ns : List ℕ} {m r : ℕ} {w₀ w : List ℕ} {c slots : ℕ} where
+  pub removing-more : {b : ℕ} → 0 < b → Removing levels base k ns₀ n p ns m r b w₀ w c slots → {ns′ : List ℕ} {m′ r′ : ℕ} {w′ : List ℕ}
+      → Grown ns ns′ m m′ r′ (dropT levels (base + (b - 1)) (at (treesOf ns m) r)) → Remembered w ns′ m′ levels w′ c slots
+      → Removing levels base k ns₀ n p ns′ m′ r′ (b - 1) w₀ w′ c slots
   removing-more {b} h v g d = let e : b ≡ suc (b - 1) = omega arith in removed (rw e at v) g d
 
-  pub removing-short : {b : ℕ} → 0 < b → Removing levels base k ns₀ n p ns m r b w c slots → {ns′ : List ℕ}
+  pub removing-short : {b : ℕ} → 0 < b → Removing levels base k ns₀ n p ns m r b w₀ w c slots → {ns′ : List ℕ}
       → Stuck ns ns′ m (dropT levels (base + (b - 1)) (at (treesOf ns m) r))
       → Short levels ns₀ ns′ n (dropStages base k (eval (at (treesOf ns₀ n) p)))
   removing-short {b} h v s = let e : b ≡ suc (b - 1) = omega arith in stopped (rw e at v) s
 
   -- all bits are removed
-  pub removing-all : {b : ℕ} → b ≡ 0 → Removing levels base k ns₀ n p ns m r b w c slots
+  pub removing-all : {b : ℕ} → b ≡ 0 → Removing levels base k ns₀ n p ns m r b w₀ w c slots
       → Reached levels ns₀ ns n m r (dropStages base k (eval (at (treesOf ns₀ n) p))) (drops base k (eval (at (treesOf ns₀ n) p)))
   unfolding drops dropStages addTrees
   removing-all e v =
@@ -147,4 +151,5 @@ module _ {levels base k : ℕ} {ns₀ : List ℕ} {n p : ℕ} {ns : List ℕ} {m
         trees = z .adds;
         ref = record { below = z .within .below; is = sym (tree-eval levels _ (within-fine (z .within))) ∙ ap (treeOf levels) (z .ends) };
         same = z .same;
+        rest = z .rest;
       }

@@ -12,6 +12,7 @@ use Rattle.trees.specs.Table.{addTrees, refOf, show, treesOf}
 use Rattle.trees.specs.Kept.{diagrams, wellKept}
 use Rattle.diagram.specs.declared.Instruction.{Instruction}
 use Rattle.diagram.specs.declared.Instruction.the-variants.{Yes, No, Cube, And, Not, Since, Old, Drop}
+use Rattle.diagram.specs.declared.Told.{Told}
 use Rattle.diagram.specs.declared.Told.the-variants.{Unfit, Bad, Full, Done}
 use Rattle.diagram.specs.declared.Stepped.{Stepped}
 use Rattle.diagram.specs.declared.Formed.{Formed}
@@ -72,9 +73,10 @@ workTable k count plan refs kept ns = addTrees (treesOf ns kept) (map (treeOf (4
 unfoldable pub counted : ℕ → ℕ → List Instruction → List ℕ → ℕ → List ℕ → List Function
 counted k count plan refs kept ns = map eval (diagrams ns kept refs count) ++ stages k plan (diagrams ns kept refs count) count
 
--- what a step leaves: what it gives back, the node slice and the work slice
+-- what a step leaves: what it tells, the references, the node slice and the work slice
 pub record Outcome : Type 0 where
-  pub gives : Stepped
+  pub told : Told
+  pub refs : List ℕ
   pub nodes : List ℕ
   pub work : List ℕ
 
@@ -94,22 +96,23 @@ cleared C w = replicate (16 * C + 1024) 0 ++ from (16 * C + 1024) w
 -- the layout of the rows' diagrams ds: the canonical table and the references into it, zeros behind both
 unfoldable pub layout : List Tree → ℕ → List Tree → ℕ → List ℕ → List ℕ → Outcome
 layout ds count T room ns w = record {
-  gives = record { told = Done (length T) room; refs = map (refOf T) ds ++ replicate (64 - count) 0 };
+  told = Done (length T) room;
+  refs = map (refOf T) ds ++ replicate (64 - count) 0;
   nodes = show T T ++ replicate (length ns - 3 * length T) 0;
   work = cleared (length ns / 3) w;
 }
 
 -- what is left of well kept diagrams: all as it was where the room is over C, and else the new diagrams' layout
 unfoldable pub workOutcome : Bool → ℕ → ℕ → List Instruction → List ℕ → ℕ → List ℕ → List ℕ → Outcome
-workOutcome false k count plan refs kept ns w = record { gives = record { told = Full; refs = refs }; nodes = ns; work = cleared (length ns / 3) w }
+workOutcome false k count plan refs kept ns w = record { told = Full; refs = refs; nodes = ns; work = cleared (length ns / 3) w }
 workOutcome true k count plan refs kept ns w =
     let ds = newTrees k plan (diagrams ns kept refs count) count in
     layout ds count (addTrees [] ds) (length (workTable k count plan refs kept ns)) ns w
 
 -- the cases in their order: are the numbers and lengths fit, are the diagrams well kept, and what follows then
 abbrev pub judge : Bool → Bool → List ℕ → List ℕ → List ℕ → Outcome → Outcome
-judge false good refs ns w then = record { gives = record { told = Unfit; refs = refs }; nodes = ns; work = w }
-judge true false refs ns w then = record { gives = record { told = Bad; refs = refs }; nodes = ns; work = cleared (length ns / 3) w }
+judge false good refs ns w then = record { told = Unfit; refs = refs; nodes = ns; work = w }
+judge true false refs ns w then = record { told = Bad; refs = refs; nodes = ns; work = cleared (length ns / 3) w }
 judge true true refs ns w then = then
 
 -- what a step gives back and leaves
@@ -120,7 +123,8 @@ stepOutcome k count plan allowed refs kept ns w =
 
 -- a step that gave this back and left these slices had this outcome
 pub record Leaves (o : Outcome) (gives : Stepped) (ns w : List ℕ) : Type 0 where
-  pub result : gives ≡ o .gives
+  pub told : gives .told ≡ o .told
+  pub refs : gives .refs ≡ o .refs
   pub nodes : ns ≡ o .nodes
   pub work : w ≡ o .work
 

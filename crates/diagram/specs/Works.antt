@@ -3,17 +3,23 @@ use Prim.Native.Nat.{ℕ, _+_, _*_, _-_, _/_, _≤_, _<_}
 use mathlib.Core.Path.{_≡_}
 use mathlib.Core.Bool.{Bool, true, false}
 use mathlib.Core.List.{List, map}
-use lib.ListN.{length, getD}
+use lib.ListN.{length, getD, replicate}
 use Rattle.trees.specs.Bits.{Function}
 use Rattle.trees.specs.Tree.{Tree, off, eval, treeOf}
 use Rattle.trees.specs.Table.{addTrees, at, treesOf}
 use Rattle.making.specs.declared.Made.{Made}
-use Rattle.making.specs.declared.Made.the-variants.{Full, At}
+use Rattle.making.specs.declared.Made.the-variants as made
+use Rattle.walks.specs.declared.Counted.{Counted}
+use Rattle.walks.specs.declared.Counted.the-variants.{Full, At}
 use Rattle.diagram.specs.declared.Instruction.{Instruction}
-use Rattle.nodes.specs.Nodes.{Table, Front, To}
+use Rattle.diagram.specs.declared.Instruction.the-variants.{Yes, No, Cube, And, Not, Since, Old, Drop}
+use Rattle.visits.specs.Visits.{nodeCount, complement, Refines}
+use Rattle.nodes.specs.Nodes.{Table, Front, Rest, To}
 use Rattle.walks.specs.Walks.{Within}
-use Rattle.walks.specs.Desks.{Desk}
-use Rattle.diagram.specs.Steps.{newTrees, stages}
+use Rattle.walks.specs.Desks.{Desk, Remembered}
+use Rattle.walks.specs.Complements.{mapOf}
+use Rattle.diagram.specs.Steps.{instructionSays, stagesOf, newTrees, stages}
+use Rattle.diagram.specs.Counts.{counting, ceiling}
 
 -- the numbers that a step can work with
 pub record Fits (k count nodes work : ℕ) : Type 0 where
@@ -54,6 +60,7 @@ pub record Reached (levels : ℕ) (ns ns′ : List ℕ) (n n′ r : ℕ) (gs : L
   pub trees : treesOf ns′ n′ ≡ addTrees (treesOf ns n) (map (treeOf levels) gs)
   pub ref : To ns′ n′ r (treeOf levels f)
   pub same : Front (3 * n) ns ns′
+  pub rest : Rest (3 * n′) ns ns′
 
 -- there is no room for them all
 pub record Short (levels : ℕ) (ns ns′ : List ℕ) (n : ℕ) (gs : List Function) : Type 0 where
@@ -61,28 +68,78 @@ pub record Short (levels : ℕ) (ns ns′ : List ℕ) (n : ℕ) (gs : List Funct
   pub size : length ns′ ≡ length ns
   pub same : Front (3 * n) ns ns′
 
--- the work on a row, which meets the functions gs and ends with f, left ns′ and w, and said m
-abbrev pub Worked : ℕ → List ℕ → List ℕ → ℕ → List Function → Function → List ℕ → ℕ → ℕ → Made → Type 0
-Worked levels ns ns′ n gs f w c slots Full = Short levels ns ns′ n gs
-Worked levels ns ns′ n gs f w c slots (At n′ r) = Reached levels ns ns′ n n′ r gs f × Desk ns′ n′ levels w c slots
+-- walks that meet the functions gs and end with f, and touch no map, left ns′ and w′ and said m
+abbrev pub Worked : ℕ → List ℕ → List ℕ → ℕ → List Function → Function → List ℕ → List ℕ → ℕ → ℕ → Made → Type 0
+Worked levels ns ns′ n gs f w w′ c slots made.Full = Short levels ns ns′ n gs
+Worked levels ns ns′ n gs f w w′ c slots (made.At n′ r) = Reached levels ns ns′ n n′ r gs f × Remembered w ns′ n′ levels w′ c slots
+
+-- an answer without visits
+abbrev pub plainly : Made → Counted
+plainly made.Full = Full
+plainly (made.At n r) = At n r 0
+
+-- no complement was walked
+pub record Plain (w w′ : List ℕ) (c v : ℕ) : Type 0 where
+  pub map : mapOf c w′ ≡ mapOf c w
+  pub none : v ≡ 0
+
+-- the complement of p's diagram was walked
+pub record Walked (levels : ℕ) (ns ns′ : List ℕ) (n n′ p r : ℕ) (w w′ : List ℕ) (c v : ℕ) : Type 0 where
+  pub refines : Refines (complement ns levels (treesOf ns n) (mapOf c w) p) (treesOf ns′ n′) (mapOf c w′) r v
+  pub most : v ≤ 2 * nodeCount (at (treesOf ns n) p) + 1
+  pub fits : v ≤ 8193
+
+-- what the work on a row with an instruction leaves of the map, and its visits
+abbrev pub Tolled : ℕ → List ℕ → List ℕ → ℕ → ℕ → ℕ → List ℕ → List ℕ → List ℕ → ℕ → ℕ → Instruction → Type 0
+Tolled levels ns ns′ n n′ r news w w′ c v Yes = Plain w w′ c v
+Tolled levels ns ns′ n n′ r news w w′ c v No = Plain w w′ c v
+Tolled levels ns ns′ n n′ r news w w′ c v (Cube x y z u) = Plain w w′ c v
+Tolled levels ns ns′ n n′ r news w w′ c v (And a b) = Plain w w′ c v
+Tolled levels ns ns′ n n′ r news w w′ c v (Not a) = Walked levels ns ns′ n n′ (getD news a 0) r w w′ c v
+Tolled levels ns ns′ n n′ r news w w′ c v (Since a b) = Plain w w′ c v
+Tolled levels ns ns′ n n′ r news w w′ c v (Old a) = Plain w w′ c v
+Tolled levels ns ns′ n n′ r news w w′ c v (Drop x a) = Plain w w′ c v
+
+-- the work on row i, whose instruction is x, left ns′ and w′ and said m
+abbrev pub RowDone : ℕ → List ℕ → List ℕ → ℕ → List ℕ → List ℕ → ℕ → Instruction → List ℕ → List ℕ → ℕ → ℕ → Counted → Type 0
+RowDone k ns ns′ n olds news i x w w′ c slots Full = Short (4 * k) ns ns′ n (stagesOf k (led ns n olds) (led ns n news) i x)
+RowDone k ns ns′ n olds news i x w w′ c slots (At n′ r v) =
+    Reached (4 * k) ns ns′ n n′ r (stagesOf k (led ns n olds) (led ns n news) i x) (instructionSays k (led ns n olds) (led ns n news) i x)
+    × Desk ns′ n′ (4 * k) w′ c slots
+    × Tolled (4 * k) ns ns′ n n′ r news w w′ c v x
 
 -- the references lead to these diagrams, and to no past them
 abbrev pub Are : List ℕ → ℕ → List ℕ → List Tree → Type 0
 Are ns n refs ds = (a : ℕ) → at (treesOf ns n) (getD refs a 0) ≡ getD ds a off
 
+-- before the first row: zeros behind the nodes, and an empty map
+pub record Fresh (ns : List ℕ) (n : ℕ) (w : List ℕ) (c : ℕ) : Type 0 where
+  pub behind : (j : ℕ) → 3 * n ≤ j → getD ns j 0 ≡ 0
+  pub map : mapOf c w ≡ replicate c 0
+
+-- the visits v of the first i rows are those of the definition, as are the table and the map that they leave
+pub record Tallied (size k : ℕ) (plan : List Instruction) (old ts : List Tree) (i : ℕ) (us : List Tree) (noted : List ℕ) (v : ℕ) : Type 0 where
+  pub table : counting size k plan old ts i .table ≡ us
+  pub notes : counting size k plan old ts i .notes ≡ noted
+  pub visits : counting size k plan old ts i .visits ≡ v
+  pub most : v ≤ ceiling k plan old i
+  pub small : v ≤ 8193 * i
+
 -- the first i rows are worked: the table has the diagrams of the functions met, and the references lead to the new diagrams
-pub record Through (k : ℕ) (plan : List Instruction) (old : List Tree) (ns₀ : List ℕ) (kept : ℕ) (ns : List ℕ) (n : ℕ) (w : List ℕ) (c slots : ℕ) (olds news : List ℕ) (i : ℕ) : Type 0 where
+pub record Through (k : ℕ) (plan : List Instruction) (old : List Tree) (ns₀ : List ℕ) (kept : ℕ) (ns : List ℕ) (n : ℕ) (w : List ℕ) (c slots : ℕ) (olds news : List ℕ) (i v : ℕ) : Type 0 where
   pub desk : Desk ns n (4 * k) w c slots
   pub size : length ns ≡ length ns₀
   pub same : Front (3 * kept) ns₀ ns
+  pub behind : (j : ℕ) → 3 * n ≤ j → getD ns j 0 ≡ 0
   pub trees : treesOf ns n ≡ addTrees (treesOf ns₀ kept) (map (treeOf (4 * k)) (stages k plan old i))
   pub old-lead : Leads ns n (4 * k) olds
   pub old-are : Are ns n olds old
   pub new-lead : Leads ns n (4 * k) news
   pub new-are : Are ns n news (newTrees k plan old i)
   pub none : (a : ℕ) → i ≤ a → getD news a 0 ≡ 0
+  pub tally : Tallied (length ns₀) k plan old (treesOf ns₀ kept) i (treesOf ns n) (mapOf c w) v
 
--- what the work on all rows says: no room, or all worked
-abbrev pub Ran : ℕ → List Instruction → List Tree → List ℕ → ℕ → List ℕ → List ℕ → ℕ → ℕ → List ℕ → ℕ → Bool → ℕ → List ℕ → Type 0
-Ran k plan old ns₀ kept ns w c slots olds count true n news = Short (4 * k) ns₀ ns kept (stages k plan old count)
-Ran k plan old ns₀ kept ns w c slots olds count false n news = Through k plan old ns₀ kept ns n w c slots olds news count
+-- what the work on all rows says: no room, or all worked with v visits
+abbrev pub Ran : ℕ → List Instruction → List Tree → List ℕ → ℕ → List ℕ → List ℕ → ℕ → ℕ → List ℕ → ℕ → Bool → ℕ → List ℕ → ℕ → Type 0
+Ran k plan old ns₀ kept ns w c slots olds count true n news v = Short (4 * k) ns₀ ns kept (stages k plan old count)
+Ran k plan old ns₀ kept ns w c slots olds count false n news v = Through k plan old ns₀ kept ns n w c slots olds news count v

@@ -4,6 +4,7 @@
 // `well_formed` only checks the diagrams. Both are total. Assumes nothing.
 
 ghost use Rattle.diagram.specs.Steps.{stepOutcome, formedOutcome, Leaves, Tells};
+ghost use Rattle.diagram.specs.Counts.{Visits};
 
 mod plan;
 mod row;
@@ -37,10 +38,13 @@ pub enum Told {
     Done(u32, u32),
 }
 
-// What a step gives back: what it tells, and the references.
+// What a step gives back: what it tells, the references, and the visits of all complements and of the sweep, none where it is
+// refused.
 pub struct Stepped {
     pub told: Told,
     pub refs: [u32; 64],
+    pub complements: u32,
+    pub swept: u32,
 }
 
 // What the check alone tells.
@@ -63,11 +67,14 @@ pub fn step(
     work: &mut [u32],
 ) -> Stepped
     ensures { λ x. ⌜ Leaves (stepOutcome k count plan allowed refs kept (now (nodes .entry)) (now (work .entry))) x (now (nodes .exit)) (now (work .exit)) ⌝ }
+    ensures { λ x. ⌜ Visits k count plan refs kept (now (nodes .entry)) (x .told) (x .complements) (x .swept) ⌝ }
 {
     if !fit(k, count, nodes.len(), work.len()) {
         return Stepped {
             told: Told::Unfit,
             refs,
+            complements: 0,
+            swept: 0,
         };
     }
     if !check(k, count, &allowed, &refs, kept, nodes, work) {
@@ -76,6 +83,8 @@ pub fn step(
         return Stepped {
             told: Told::Bad,
             refs,
+            complements: 0,
+            swept: 0,
         };
     }
     worked(k, count, plan, refs, kept, nodes, work)

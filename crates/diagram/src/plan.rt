@@ -11,14 +11,15 @@ ghost use Rattle.nodes.specs.Nodes.{Decides};
 ghost use Rattle.nodes.specs.Chains.{Chained};
 ghost use Rattle.walks.specs.Desks.{Desk};
 ghost use Rattle.diagram.specs.Steps.{workTable, workOutcome, Leaves};
-ghost use Rattle.diagram.specs.Works.{Fits, Leads, Ran, Ready};
+ghost use Rattle.diagram.specs.Counts.{Visits};
+ghost use Rattle.diagram.specs.Works.{Fits, Leads, Fresh, Ran, Ready};
 use crate::Instruction;
 use crate::Stepped;
 use crate::Told;
 use crate::row::row;
-use making::Made;
 use nodes::zero;
 use sweeping::renew;
+use walks::Counted;
 
 // Whether the numbers and lengths are ones that a step can work with.
 pub fn fit(k: u32, count: u32, nodes: usize, work: usize) -> bool
@@ -49,11 +50,13 @@ pub fn fit(k: u32, count: u32, nodes: usize, work: usize) -> bool
     16 * c + 1024 <= work
 }
 
-// What the work on all rows answers: that there is no room, or the count of nodes and the references of the new diagrams.
+// What the work on all rows answers: that there is no room, or the count of nodes, the references of the new diagrams, and the
+// visits of all complements.
 pub struct Run {
     pub full: bool,
     pub count: u32,
     pub refs: [u32; 64],
+    pub visits: u32,
 }
 
 // Works the first `count` instructions in order.
@@ -70,30 +73,34 @@ fn rows(
 ) -> Run
     requires { ⌜ (k ≤ 10) × (count ≤ 64) × Desk (now nodes) kept (4 * k) (now work) c slots ⌝ }
     requires { ⌜ Leads (now nodes) kept (4 * k) (now olds) ⌝ }
-    requires { ⌜ ((a : ℕ) → count ≤ a → getD (now olds) a 0 ≡ 0) ⌝ }
-    ensures { λ x. ⌜ Ran k plan (diagrams (now (nodes .entry)) kept (now (olds .entry)) count) (now (nodes .entry)) kept (now (nodes .exit)) (now (work .exit)) c slots (now (olds .entry)) count (x .full) (x .count) (x .refs) ⌝ }
+    requires { ⌜ ((a : ℕ) → count ≤ a → getD (now olds) a 0 ≡ 0) × Fresh (now nodes) kept (now work) c ⌝ }
+    ensures { λ x. ⌜ Ran k plan (diagrams (now (nodes .entry)) kept (now (olds .entry)) count) (now (nodes .entry)) kept (now (nodes .exit)) (now (work .exit)) c slots (now (olds .entry)) count (x .full) (x .count) (x .refs) (x .visits) ⌝ }
 {
     let mut news = [0; 64];
     let mut n = kept;
+    let mut visits = 0;
     let mut i = 0;
     while i < count {
         let j = i as usize;
         let x = plan[j];
-        let Made::At(m, r) = row(nodes, work, c, slots, n, k, i, x, olds, &news) else {
+        let Counted::At(m, r, v) = row(nodes, work, c, slots, n, k, i, x, olds, &news) else {
             return Run {
                 full: true,
                 count: 0,
                 refs: news,
+                visits: 0,
             };
         };
         news[j] = r;
         n = m;
+        visits += v;
         i += 1;
     }
     Run {
         full: false,
         count: n,
         refs: news,
+        visits,
     }
 }
 
@@ -120,6 +127,7 @@ pub fn worked(
     requires { ⌜ Fits k count (length (now nodes)) (length (now work)) ⌝ }
     requires { ⌜ Ready k count refs kept (now nodes) × Chained (now nodes) kept (now work) ⌝ }
     ensures { λ x. ⌜ Leaves (workOutcome (leb (length (workTable k count plan refs kept (now (nodes .entry)))) (length (now (nodes .entry)) / 3)) k count plan refs kept (now (nodes .entry)) (now (work .entry))) x (now (nodes .exit)) (now (work .exit)) ⌝ }
+    ensures { λ x. ⌜ Visits k count plan refs kept (now (nodes .entry)) (x .told) (x .complements) (x .swept) ⌝ }
 {
     let c = nodes.len() / 3;
     let slots = slots_for(c, kept);
@@ -142,6 +150,8 @@ pub fn worked(
         return Stepped {
             told: Told::Full,
             refs,
+            complements: 0,
+            swept: 0,
         };
     }
     let room = x.count;
@@ -152,5 +162,7 @@ pub fn worked(
     Stepped {
         told: Told::Done(y.kept, room),
         refs: out,
+        complements: x.visits,
+        swept: y.visits,
     }
 }

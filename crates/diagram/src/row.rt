@@ -8,11 +8,12 @@ ghost use Rattle.trees.specs.Tree.{eval};
 ghost use Rattle.trees.specs.Table.{at, treesOf};
 ghost use Rattle.walks.specs.Walks.{Within};
 ghost use Rattle.walks.specs.Desks.{Desk};
-ghost use Rattle.diagram.specs.Steps.{instructionSays, dropStages, stagesOf};
-ghost use Rattle.diagram.specs.Works.{Leads, led, Worked, Base};
+ghost use Rattle.diagram.specs.Steps.{dropStages};
+ghost use Rattle.diagram.specs.Works.{Leads, Worked, Base, plainly, RowDone};
 use crate::Instruction;
 use making::Made;
 use making::cube::cube;
+use walks::Counted;
 use walks::drop_walk;
 use walks::not_walk;
 use walks::since_walk;
@@ -53,7 +54,7 @@ fn drops_row(
 ) -> Made
     requires { ⌜ (k ≤ 10) × Desk (now nodes) n (4 * k) (now work) c slots ⌝ }
     requires { ⌜ Within (now nodes) n (4 * k) (4 * k) p ⌝ }
-    ensures { λ m. ⌜ Worked (4 * k) (now (nodes .entry)) (now (nodes .exit)) n (dropStages (v * k) k (eval (at (treesOf (now (nodes .entry)) n) p))) (drops (v * k) k (eval (at (treesOf (now (nodes .entry)) n) p))) (now (work .exit)) c slots m ⌝ }
+    ensures { λ m. ⌜ Worked (4 * k) (now (nodes .entry)) (now (nodes .exit)) n (dropStages (v * k) k (eval (at (treesOf (now (nodes .entry)) n) p))) (drops (v * k) k (eval (at (treesOf (now (nodes .entry)) n) p))) (now (work .entry)) (now (work .exit)) c slots m ⌝ }
 {
     let base = first_level(k, v);
     let mut m = n;
@@ -70,8 +71,18 @@ fn drops_row(
     Made::At(m, r)
 }
 
-// The new diagram of row i, whose instruction is x; `olds` are the references before the event, and `news` those of the
-// rows worked so far.
+// The answer of walks that count no visits.
+fn uncounted(m: Made) -> Counted
+    ensures { λ x. ⌜ x ≡ plainly m ⌝ }
+{
+    match m {
+        Made::Full => Counted::Full,
+        Made::At(n, r) => Counted::At(n, r, 0),
+    }
+}
+
+// The new diagram of row i, whose instruction is x, and the visits where it is a complement; `olds` are the references before
+// the event, and `news` those of the rows worked so far.
 pub fn row(
     nodes: &mut [u32],
     work: &mut [u32],
@@ -83,22 +94,22 @@ pub fn row(
     x: Instruction,
     olds: &[u32; 64],
     news: &[u32; 64],
-) -> Made
+) -> Counted
     requires { ⌜ (k ≤ 10) × Desk (now nodes) n (4 * k) (now work) c slots ⌝ }
     requires { ⌜ Leads (now nodes) n (4 * k) (now olds) × Leads (now nodes) n (4 * k) (now news) ⌝ }
-    ensures { λ m. ⌜ Worked (4 * k) (now (nodes .entry)) (now (nodes .exit)) n (stagesOf k (led (now (nodes .entry)) n (now (olds .entry))) (led (now (nodes .entry)) n (now (news .entry))) i x) (instructionSays k (led (now (nodes .entry)) n (now (olds .entry))) (led (now (nodes .entry)) n (now (news .entry))) i x) (now (work .exit)) c slots m ⌝ }
+    ensures { λ m. ⌜ RowDone k (now (nodes .entry)) (now (nodes .exit)) n (now (olds .entry)) (now (news .entry)) i x (now (work .entry)) (now (work .exit)) c slots m ⌝ }
 {
     match x {
-        Instruction::Yes => Made::At(n, 1),
-        Instruction::No => Made::At(n, 0),
+        Instruction::Yes => Counted::At(n, 1, 0),
+        Instruction::No => Counted::At(n, 0, 0),
         Instruction::Cube(p, q, r, s) => {
             let places = [p, q, r, s];
-            cube(nodes, work, c, n, k, places)
+            uncounted(cube(nodes, work, c, n, k, places))
         }
         Instruction::And(a, b) => {
             let l = pick(news, a);
             let o = pick(news, b);
-            since_walk(nodes, work, c, slots, n, 4 * k, 4 * k, l, 0, o)
+            uncounted(since_walk(nodes, work, c, slots, n, 4 * k, 4 * k, l, 0, o))
         }
         Instruction::Not(a) => {
             let p = pick(news, a);
@@ -108,15 +119,15 @@ pub fn row(
             let l = pick(news, a);
             let r = pick(news, b);
             let o = pick(olds, i);
-            since_walk(nodes, work, c, slots, n, 4 * k, 4 * k, l, r, o)
+            uncounted(since_walk(nodes, work, c, slots, n, 4 * k, 4 * k, l, r, o))
         }
         Instruction::Old(a) => {
             let p = pick(olds, a);
-            Made::At(n, p)
+            Counted::At(n, p, 0)
         }
         Instruction::Drop(v, a) => {
             let p = pick(news, a);
-            drops_row(nodes, work, c, slots, n, k, v, p)
+            uncounted(drops_row(nodes, work, c, slots, n, k, v, p))
         }
     }
 }

@@ -28,4 +28,6 @@ Planned raw e given plan = PlannedTo raw e given (rowCount raw) plan
 pub record Steps (k : ℕ) (raw : List ℕ) (e : Event) (given free refs : List ℕ) (kept : ℕ) (ns w : List ℕ) (t : Told) (refs′ ns′ w′ : List ℕ) : Type 0 where
   pub plan : List Instruction
   pub planned : Planned raw e given plan
-  pub leaves : Leaves (stepOutcome k (rowCount raw) plan free refs kept ns w) (record { told = t; refs = refs′ }) ns′ w′
+  pub complements : ℕ
+  pub swept : ℕ
+  pub leaves : Leaves (stepOutcome k (rowCount raw) plan free refs kept ns w) (record { told = t; refs = refs′; complements = complements; swept = swept }) ns′ w′

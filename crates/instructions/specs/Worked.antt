@@ -8,14 +8,14 @@ use Rattle.meaning.specs.Step.{Shown, roomOf}
 use Rattle.meaning.specs.Tables.{keptTable, layState, layNodes}
 use Rattle.meaning.specs.Outcome.{cleared}
 use Rattle.diagram.specs.declared.Told.the-variants.{Full, Done}
-use Rattle.diagram.specs.declared.Stepped.{Stepped}
 use Rattle.diagram.specs.Steps.{Outcome}
 
 -- where there is room: the layout of what is shown after the event; else all as it was
 unfoldable pub workedOutcome : Bool → ℕ → ℕ → List Row → Shown → Shown → List ℕ → List ℕ → List ℕ → Outcome
 workedOutcome true k C rule before after refs nodes work = record {
-  gives = record { told = Done (length (keptTable after)) (roomOf k rule (before .trees) (after .trees)); refs = layState k after .refs };
+  told = Done (length (keptTable after)) (roomOf k rule (before .trees) (after .trees));
+  refs = layState k after .refs;
   nodes = layNodes C after;
   work = cleared C work;
 }
-workedOutcome false k C rule before after refs nodes work = record { gives = record { told = Full; refs = refs }; nodes = nodes; work = cleared C work }
+workedOutcome false k C rule before after refs nodes work = record { told = Full; refs = refs; nodes = nodes; work = cleared C work }

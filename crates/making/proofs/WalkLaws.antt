@@ -23,6 +23,10 @@ kept {ns} {n = n} g q h = goes-at (grown-goes g) q (omega (arith, length-trees n
 pub front-trans : {j k : ℕ} {ns ms ls : List ℕ} → Front j ns ms → Front k ms ls → j ≤ k → Front j ns ls
 front-trans s t le = record { eq = λ i h. t .eq i (omega arith) ∙ s .eq i h }
 
+-- what is the same before k is the same before j
+pub front-less : {j k : ℕ} {ns ms : List ℕ} → Front k ns ms → j ≤ k → Front j ns ms
+front-less s le = record { eq = λ i h. s .eq i (omega arith) }
+
 -- what two walks leave behind
 pub rest-trans : {j k : ℕ} {ns ms ls : List ℕ} → Rest j ns ms → Rest k ms ls → j ≤ k → Rest k ns ls
 rest-trans s t le = record { eq = λ i h. t .eq i h ∙ s .eq i (omega arith) }

@@ -148,7 +148,7 @@ module _ (rows masks : List ℕ) (m : Machine) (e : Event) (a : Asked) (s : Aski
     ends-bad k =
         let l = s .listed in
         let o = ends-as _ (step-bad rows m e (l .k-right) (l .rule-right) (l .lengths) masks (l .free) plan k) in
-        bad (formed-kept rows m e masks l ∙ k) (ap (λ (y : Stepped). y .told) (o .result)) (ap (λ (y : Stepped). y .refs) (o .result)) (o .nodes) (clear-same (length (m .nodes) / 3) (m .work) ws (o .work))
+        bad (formed-kept rows m e masks l ∙ k) (o .told) (o .refs) (o .nodes) (clear-same (length (m .nodes) / 3) (m .work) ws (o .work))
 
     works : kept rows m e ≡ true → Leaves (workedOutcome (fitting rows m e) (m .state .k) C (ruleOf rows) (shows rows m) after (m .state .refs) (m .nodes) (m .work)) x ns ws
     works k =
@@ -158,13 +158,13 @@ module _ (rows masks : List ℕ) (m : Machine) (e : Event) (a : Asked) (s : Aski
 
     ends-full : kept rows m e ≡ true → fitting rows m e ≡ false → Ended x ns ws
     unfolding workedOutcome
-    ends-full k f = let o = rw f at (works k) in full (formed-kept rows m e masks (s .listed) ∙ k) f (ap (λ (y : Stepped). y .told) (o .result)) (ap (λ (y : Stepped). y .refs) (o .result)) (o .nodes) (o .work)
+    ends-full k f = let o = rw f at (works k) in full (formed-kept rows m e masks (s .listed) ∙ k) f (o .told) (o .refs) (o .nodes) (o .work)
 
     ends-done : kept rows m e ≡ true → fitting rows m e ≡ true → Ended x ns ws
     unfolding workedOutcome
     ends-done k f =
         let o = rw f at (works k) in
-        done (formed-kept rows m e masks (s .listed) ∙ k) f (ap (λ (y : Stepped). y .told) (o .result)) (ap (λ (y : Stepped). y .refs) (o .result)) (o .nodes) (o .work)
+        done (formed-kept rows m e masks (s .listed) ∙ k) f (o .told) (o .refs) (o .nodes) (o .work)
 
     ended : Ended x ns ws
     ended = ⊎-elim (λ k. ⊎-elim (ends-done k) (ends-full k) (bool (fitting rows m e))) ends-bad (bool (kept rows m e))

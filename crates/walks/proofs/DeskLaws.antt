@@ -1,6 +1,6 @@
 -- A walk that makes and remembers leaves the work slice right. Assumes nothing.
 use Prim.Native.Nat.{ℕ, _+_, _*_, _-_, _/_, _≤_, _<_}
-use mathlib.Core.Path.{_≡_}
+use mathlib.Core.Path.{_≡_, refl, _∙_}
 use mathlib.Core.List.{List}
 use native.Mathlib.Omega.{arith}
 use lib.ListN.{length, getD, set, length-set}
@@ -9,12 +9,12 @@ use Rattle.trees.specs.Tree.{Tree, notT}
 use Rattle.trees.specs.Table.{at, treesOf, Ref}
 use Rattle.making.specs.declared.Made.{Made}
 use Rattle.making.specs.declared.Made.the-variants.{Full, At}
-use Rattle.nodes.specs.Nodes.{Grown}
+use Rattle.nodes.specs.Nodes.{Front, Grown}
 use Rattle.nodes.proofs.ChainLaws.{chained-same}
 use Rattle.nodes.proofs.ReadLaws.{grown-count}
 use Rattle.making.specs.Tables.{Added, Shelf, Shelved, Spot, noted}
-use Rattle.walks.specs.Desks.{recalled, Key, Desk}
-use Rattle.making.proofs.WalkLaws.{kept}
+use Rattle.walks.specs.Desks.{recalled, Key, Desk, Remembered}
+use Rattle.making.proofs.WalkLaws.{kept, front-less, front-trans}
 use Rattle.walks.proofs.MemoryLaws.{key-later, recalled-kept, memory-same, memory-grown, noted-other, memory-note}
 use Rattle.walks.proofs.NotLaws.{map-same, map-grown, map-set}
 
@@ -43,9 +43,9 @@ module _ {ns : List ℕ} {n levels : ℕ} {w : List ℕ} {c slots : ℕ} (k : De
   }
 
   -- the same of a walk that only makes nodes
-  pub desk-added : (w′ ms : List ℕ) (t : Tree) (m : Made) → Added (λ xs j. Shelved w xs j w′ c) ns ms n t m → Added (λ xs j. Desk xs j levels w′ c slots) ns ms n t m
+  pub desk-added : (w′ ms : List ℕ) (t : Tree) (m : Made) → Added (λ xs j. Shelved w xs j w′ c) ns ms n t m → Added (λ xs j. Remembered w xs j levels w′ c slots) ns ms n t m
   desk-added w′ ms t Full g = g
-  desk-added w′ ms t (At m r) g = (g .0, desk-shelved (g .0) (g .1))
+  desk-added w′ ms t (At m r) g = (g .0, record { desk = desk-shelved (g .0) (g .1); same = front-less (g .1 .same) (omega arith) })
 
   -- a result is noted
   desk-noted : (i a b d r : ℕ) → Spot c slots i → Key n a b d → Ref (treesOf ns n) r (recalled levels (treesOf ns n) a b d) → Desk ns n levels (noted w i a b d r) c slots
@@ -78,9 +78,26 @@ module _ {ns : List ℕ} {n levels : ℕ} {w : List ℕ} {c slots : ℕ} (k : De
 
 -- the diagram that was made is what a key stands for, and is noted
 pub desk-keep : {ns : List ℕ} {n levels : ℕ} {w : List ℕ} {c slots : ℕ} → Desk ns n levels w c slots → (i a b d : ℕ) → Spot c slots i → Key n a b d
-    → {ms : List ℕ} {m r : ℕ} {t : Tree} {w′ : List ℕ} → recalled levels (treesOf ns n) a b d ≡ t → Grown ns ms n m r t → Shelved w ms m w′ c → Desk ms m levels (noted w′ i a b d r) c slots
-desk-keep {levels = levels} k i a b d p q {r = r} e g s =
-    desk-noted (desk-shelved k g s) i a b d r p (key-later (grown-count g) q) (rw (recalled-kept g levels a b d q, e) (g .ref))
+    → {ms : List ℕ} {m r : ℕ} {t : Tree} {w′ : List ℕ} → recalled levels (treesOf ns n) a b d ≡ t → Grown ns ms n m r t → Shelved w ms m w′ c → Remembered w ms m levels (noted w′ i a b d r) c slots
+desk-keep {levels = levels} {w} {c} k i a b d p q {r = r} {w′ = w′} e g s =
+    let k′ = desk-shelved k g s in
+    let long = work-long k′ in
+    let inside = spot-inside k′ p in
+    let first : 5 * c ≤ i = omega (arith, p .is) in
+    record {
+      desk = desk-noted k′ i a b d r p (key-later (grown-count g) q) (rw (recalled-kept g levels a b d q, e) (g .ref));
+      same = record { eq = λ x h. noted-other w′ i a b d r (omega arith) x (λ z. absurd (omega arith)) ∙ s .same .eq x (omega arith) };
+    }
+
+-- nothing is made
+pub desk-stays : {ns : List ℕ} {n levels : ℕ} {w : List ℕ} {c slots : ℕ} → Desk ns n levels w c slots → Remembered w ns n levels w c slots
+desk-stays k = record { desk = k; same = record { eq = λ i h. refl } }
+
+-- one walk after another, each of which only makes and remembers
+pub desk-then : (c : ℕ) {w₀ w₁ : List ℕ} → Front (5 * c) w₀ w₁ → (levels slots : ℕ) (w₂ ns ms : List ℕ) (n : ℕ) (t : Tree) (m : Made)
+    → Added (λ xs j. Remembered w₁ xs j levels w₂ c slots) ns ms n t m → Added (λ xs j. Remembered w₀ xs j levels w₂ c slots) ns ms n t m
+desk-then c e levels slots w₂ ns ms n t Full g = g
+desk-then c e levels slots w₂ ns ms n t (At m r) g = (g .0, record { desk = g .1 .desk; same = front-trans e (g .1 .same) (omega arith) })
 
 -- the same of a complement
 pub desk-keep-not : {ns : List ℕ} {n levels : ℕ} {w : List ℕ} {c slots : ℕ} → Desk ns n levels w c slots → (p : ℕ) → 2 ≤ p → p < n + 2

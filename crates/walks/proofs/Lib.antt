@@ -7,4 +7,7 @@ pub mod StepLaws
 pub mod NotLaws
 pub mod DropLaws
 pub mod DeskLaws
+pub mod MapLaws
+pub mod ComplementLaws
+pub mod Visited
 pub mod CallLaws

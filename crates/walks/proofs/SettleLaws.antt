@@ -98,8 +98,8 @@ module _ (r o : ℕ) where
   or-no p = is 1 r o the-old (λ e no yes′. rw (p, no, yes′))
 
   -- old is yes
-  pub or-yes : o ≡ 1 → Eased 1 r o 0 o 0
-  or-yes p = is 1 r o the-old (λ e no yes′. rw (p, yes′) (sym (or-true (e r))))
+  pub or-yes : o ≡ 1 → Eased 1 r o 0 1 0
+  or-yes p = is 1 r o sure (λ e no yes′. rw (p, yes′) (sym (or-true (e r))))
 
   -- both in the other order
   pub or-swapped : 1 ≤ o → o < r → Eased 1 r o 1 o r

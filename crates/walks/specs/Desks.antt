@@ -7,6 +7,7 @@ use mathlib.Core.List.{List}
 use lib.ListN.{getD}
 use Rattle.trees.specs.Tree.{Tree, notT, sinceT, dropT}
 use Rattle.trees.specs.Table.{at, treesOf, Ref}
+use Rattle.nodes.specs.Nodes.{Front}
 use Rattle.making.specs.Tables.{Shelf, Spot, SlotIs}
 
 -- what a key of the memory stands for: 0, a level and a diagram for the diagram without its bit there; else the since of three diagrams
@@ -35,3 +36,8 @@ pub record Desk (ns : List ℕ) (n levels : ℕ) (w : List ℕ) (c slots : ℕ) 
   pub fits : slots ≤ 2 * c
   pub complements : Complements ns n levels w c
   pub memory : Memory ns n levels w c slots
+
+-- the same, and before the memory the work slice is as w₀ was
+pub record Remembered (w₀ : List ℕ) (ns : List ℕ) (n levels : ℕ) (w : List ℕ) (c slots : ℕ) : Type 0 where
+  pub desk : Desk ns n levels w c slots
+  pub same : Front (5 * c) w₀ w

@@ -10,7 +10,8 @@ ghost use Rattle.trees.specs.Table.{at, treesOf};
 ghost use Rattle.nodes.specs.Nodes.{Table};
 ghost use Rattle.making.specs.Tables.{Added, Spot};
 ghost use Rattle.walks.specs.Walks.{Within, Eased, Forks};
-ghost use Rattle.walks.specs.Desks.{recalled, Key, Desk};
+ghost use Rattle.walks.specs.Desks.{recalled, Key, Desk, Remembered};
+ghost use Rattle.walks.specs.Complements.{KeptNot, Complemented};
 use making::Made;
 use making::memory::note;
 use making::memory::recall;
@@ -51,7 +52,7 @@ fn settle_or(r: u32, o: u32) -> Three
         return Three { l: 0, r: o, o: 0 };
     }
     if o == 1 {
-        return Three { l: 0, r: o, o: 0 };
+        return Three { l: 0, r: 1, o: 0 };
     }
     if o < r {
         return Three { l: 1, r: o, o: r };
@@ -141,7 +142,7 @@ fn keep(
     requires { ⌜ Desk (now nodes) n levels (now work) c slots ⌝ }
     requires { ⌜ Spot c slots i × Key n a b d × (x .low < n + 2) × (x .high < n + 2) ⌝ }
     requires { ⌜ recalled levels (treesOf (now nodes) n) a b d ≡ mk (x .level) (at (treesOf (now nodes) n) (x .low)) (at (treesOf (now nodes) n) (x .high)) ⌝ }
-    ensures { λ m. ⌜ Added (λ ns j. Desk ns j levels (now (work .exit)) c slots) (now (nodes .entry)) (now (nodes .exit)) n (mk (x .level) (at (treesOf (now (nodes .entry)) n) (x .low)) (at (treesOf (now (nodes .entry)) n) (x .high))) m ⌝ }
+    ensures { λ m. ⌜ Added (λ ns j. Remembered (now (work .entry)) ns j levels (now (work .exit)) c slots) (now (nodes .entry)) (now (nodes .exit)) n (mk (x .level) (at (treesOf (now (nodes .entry)) n) (x .low)) (at (treesOf (now (nodes .entry)) n) (x .high))) m ⌝ }
 {
     let Made::At(k, r) = make(nodes, work, c, n, x.level, x.low, x.high) else {
         return Made::Full;
@@ -165,7 +166,7 @@ pub fn since_walk(
 ) -> Made
     requires { ⌜ Desk (now nodes) n levels (now work) c slots ⌝ }
     requires { ⌜ (left ≤ levels) × Within (now nodes) n levels left l × Within (now nodes) n levels left r × Within (now nodes) n levels left o ⌝ }
-    ensures { λ m. ⌜ Added (λ ns j. Desk ns j levels (now (work .exit)) c slots) (now (nodes .entry)) (now (nodes .exit)) n (sinceT levels (at (treesOf (now (nodes .entry)) n) l) (at (treesOf (now (nodes .entry)) n) r) (at (treesOf (now (nodes .entry)) n) o)) m ⌝ }
+    ensures { λ m. ⌜ Added (λ ns j. Remembered (now (work .entry)) ns j levels (now (work .exit)) c slots) (now (nodes .entry)) (now (nodes .exit)) n (sinceT levels (at (treesOf (now (nodes .entry)) n) l) (at (treesOf (now (nodes .entry)) n) r) (at (treesOf (now (nodes .entry)) n) o)) m ⌝ }
 {
     let s = settle(l, r, o);
     if s.l == 0 {
@@ -203,7 +204,14 @@ pub fn since_walk(
     keep(nodes, work, c, slots, n2, levels, i, s.l, s.r, s.o, made)
 }
 
-// The node x, which is the complement of p, made and written down.
+// What a walk that counts answers: the count of nodes, the reference of the result and how many visits it made, or that the
+// slice is full. A visit is a node, or a leaf, looked at through one followed reference.
+pub enum Counted {
+    Full,
+    At(u32, u32, u32),
+}
+
+// The node x, which is the complement of p, made and written down after so many visits.
 fn keep_not(
     nodes: &mut [u32],
     work: &mut [u32],
@@ -213,21 +221,22 @@ fn keep_not(
     levels: u32,
     p: u32,
     x: Node,
-) -> Made
+    visits: u32,
+) -> Counted
     requires { ⌜ Desk (now nodes) n levels (now work) c slots ⌝ }
     requires { ⌜ (2 ≤ p) × (p < n + 2) × (x .low < n + 2) × (x .high < n + 2) ⌝ }
     requires { ⌜ notT levels (at (treesOf (now nodes) n) p) ≡ mk (x .level) (at (treesOf (now nodes) n) (x .low)) (at (treesOf (now nodes) n) (x .high)) ⌝ }
-    ensures { λ m. ⌜ Added (λ ns j. Desk ns j levels (now (work .exit)) c slots) (now (nodes .entry)) (now (nodes .exit)) n (mk (x .level) (at (treesOf (now (nodes .entry)) n) (x .low)) (at (treesOf (now (nodes .entry)) n) (x .high))) m ⌝ }
+    ensures { λ m. ⌜ KeptNot (now (nodes .entry)) (now (nodes .exit)) n levels (mk (x .level) (at (treesOf (now (nodes .entry)) n) (x .low)) (at (treesOf (now (nodes .entry)) n) (x .high))) p visits (now (work .entry)) (now (work .exit)) c slots m ⌝ }
 {
     let Made::At(k, r) = make(nodes, work, c, n, x.level, x.low, x.high) else {
-        return Made::Full;
+        return Counted::Full;
     };
     let j = 4 * c + (p as usize - 2);
     work[j] = r + 1;
-    Made::At(k, r)
+    Counted::At(k, r, visits)
 }
 
-// The complement of a diagram that asks at most the last `left` levels, remembered by place.
+// The complement of a diagram that asks at most the last `left` levels, remembered by place. Each call is one visit.
 pub fn not_walk(
     nodes: &mut [u32],
     work: &mut [u32],
@@ -237,29 +246,30 @@ pub fn not_walk(
     levels: u32,
     left: u32,
     p: u32,
-) -> Made
+) -> Counted
     requires { ⌜ Desk (now nodes) n levels (now work) c slots ⌝ }
     requires { ⌜ (left ≤ levels) × Within (now nodes) n levels left p ⌝ }
-    ensures { λ m. ⌜ Added (λ ns j. Desk ns j levels (now (work .exit)) c slots) (now (nodes .entry)) (now (nodes .exit)) n (notT levels (at (treesOf (now (nodes .entry)) n) p)) m ⌝ }
+    ensures { λ m. ⌜ Complemented (now (nodes .entry)) (now (nodes .exit)) n levels left p (now (work .entry)) (now (work .exit)) c slots m ⌝ }
 {
     if p < 2 {
-        return Made::At(n, 1 - p);
+        return Counted::At(n, 1 - p, 1);
     }
     let j = 4 * c + (p as usize - 2);
-    let hit = work[j];
-    if 0 < hit {
-        return Made::At(n, hit - 1);
+    let seen = work[j];
+    if 0 < seen {
+        return Counted::At(n, seen - 1, 1);
     }
     let mut x = read(nodes, n, p);
-    let Made::At(n1, a) = not_walk(nodes, work, c, slots, n, levels, left - 1, x.low) else {
-        return Made::Full;
+    let Counted::At(n1, a, v1) = not_walk(nodes, work, c, slots, n, levels, left - 1, x.low) else {
+        return Counted::Full;
     };
-    let Made::At(n2, b) = not_walk(nodes, work, c, slots, n1, levels, left - 1, x.high) else {
-        return Made::Full;
+    let Counted::At(n2, b, v2) = not_walk(nodes, work, c, slots, n1, levels, left - 1, x.high)
+    else {
+        return Counted::Full;
     };
     x.low = a;
     x.high = b;
-    keep_not(nodes, work, c, slots, n2, levels, p, x)
+    keep_not(nodes, work, c, slots, n2, levels, p, x, v1 + v2 + 1)
 }
 
 // A diagram that asks at most the last `left` levels, without its bit at the level v: it holds for some bit there.
@@ -276,7 +286,7 @@ pub fn drop_walk(
 ) -> Made
     requires { ⌜ Desk (now nodes) n levels (now work) c slots ⌝ }
     requires { ⌜ (left ≤ levels) × Within (now nodes) n levels left p ⌝ }
-    ensures { λ m. ⌜ Added (λ ns j. Desk ns j levels (now (work .exit)) c slots) (now (nodes .entry)) (now (nodes .exit)) n (dropT levels v (at (treesOf (now (nodes .entry)) n) p)) m ⌝ }
+    ensures { λ m. ⌜ Added (λ ns j. Remembered (now (work .entry)) ns j levels (now (work .exit)) c slots) (now (nodes .entry)) (now (nodes .exit)) n (dropT levels v (at (treesOf (now (nodes .entry)) n) p)) m ⌝ }
 {
     if p < 2 {
         return Made::At(n, p);

@@ -1,6 +1,6 @@
 -- `step` meets its contract: one law for each case. Assumes nothing.
 use Prim.Native.Nat.{_/_}
-use mathlib.Core.Path.{sym, _∙_}
+use mathlib.Core.Path.{refl, sym, _∙_}
 use native.Mathlib.Omega.{arith}
 use lib.ListN.{length}
 use Rattle.trees.proofs.KeptLaws.{kept-of, not-false}
@@ -21,7 +21,7 @@ returns : tie.Need-returns
 returns c =
     let first = c .before in
     let s = first .before .before .before in
-    unfit-leaves (s .args .k) (s .args .count) (s .args .t4) (s .args .t5) (s .args .kept) (s .args .nodes .now) (s .args .work .now) (s .args .plan) (first .fit .result) (first .fit .ensures) (c .if1 .taken)
+    (unfit-leaves (s .args .k) (s .args .count) (s .args .t4) (s .args .t5) (s .args .kept) (s .args .nodes .now) (s .args .work .now) (s .args .plan) (first .fit .result) (first .fit .ensures) (c .if1 .taken), (refl, refl))
 
 check-requires : tie.Need-check-requires
 check-requires c κs =
@@ -57,9 +57,11 @@ returns-2 c =
     let test = c .before .before .before .before .before .before .before .before .before .before .before .before in
     let first = test .before in
     let s = first .before .before .before in
-    let f = says-yes (Fits (s .args .k) (s .args .count) (length (s .args .nodes .now)) (length (s .args .work .now))) (first .fit .result) (first .fit .ensures) (test .if1 .left) in
-    bad-leaves (s .args .k) (s .args .count) (s .args .t4) (s .args .t5) (s .args .kept) (s .args .nodes .now) (s .args .work .now) (s .args .plan) f (sym (checked .ensures .0) ∙ not-false (checked .result) (c .before .before .before .before .if2 .taken))
-    (cleared-after (s .args .k) (s .args .count) (s .args .t4) (s .args .t5) (s .args .kept) (s .args .nodes .now) (s .args .work .now) f (checked .ensures .1 .rest) (checked .kept .1 .1 .1 .1 .1 .1 .0) (c .before .before .zero .ensures))
+    let f = says-yes (Fits (s .args .k) (s .args .count) (length (s .args .nodes .now)) (length (s .args .work .now))) (first .fit .result) (first .fit .ensures) (test .if1 .left) in (
+      bad-leaves (s .args .k) (s .args .count) (s .args .t4) (s .args .t5) (s .args .kept) (s .args .nodes .now) (s .args .work .now) (s .args .plan) f (sym (checked .ensures .0) ∙ not-false (checked .result) (c .before .before .before .before .if2 .taken))
+          (cleared-after (s .args .k) (s .args .count) (s .args .t4) (s .args .t5) (s .args .kept) (s .args .nodes .now) (s .args .work .now) f (checked .ensures .1 .rest) (checked .kept .1 .1 .1 .1 .1 .1 .0) (c .before .before .zero .ensures)),
+      (refl, refl),
+    )
 
 worked-requires : tie.Need-worked-requires
 worked-requires c κs =
@@ -89,8 +91,10 @@ returns-3 c =
     let test = c .before .before .before .before .before .before .before .before .before .before .before .before .before .before .before in
     let first = test .before in
     let s = first .before .before .before in
-    let f = says-yes (Fits (s .args .k) (s .args .count) (length (s .args .nodes .now)) (length (s .args .work .now))) (first .fit .result) (first .fit .ensures) (test .if1 .left) in
-    good-leaves (s .args .k) (s .args .count) (s .args .t4) (s .args .t5) (s .args .kept) (s .args .nodes .now) (s .args .work .now) (s .args .plan) f (sym (checked .ensures .0) ∙ turned-false (checked .result) (c .before .before .before .before .before .before .before .if2 .left)) (checked .ensures .1 .rest) (checked .kept .1 .1 .1 .1 .1 .1 .0) (c .before .before .before .before .worked .ensures)
+    let f = says-yes (Fits (s .args .k) (s .args .count) (length (s .args .nodes .now)) (length (s .args .work .now))) (first .fit .result) (first .fit .ensures) (test .if1 .left) in (
+      good-leaves (s .args .k) (s .args .count) (s .args .t4) (s .args .t5) (s .args .kept) (s .args .nodes .now) (s .args .work .now) (s .args .plan) f (sym (checked .ensures .0) ∙ turned-false (checked .result) (c .before .before .before .before .before .before .before .if2 .left)) (checked .ensures .1 .rest) (checked .kept .1 .1 .1 .1 .1 .1 .0) (c .before .before .before .before .worked .ensures .0),
+      c .before .before .before .before .worked .ensures .1,
+    )
 
 pub step-spec : {M : Type 1} → statement M
 step-spec =

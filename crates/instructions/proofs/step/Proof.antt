@@ -35,7 +35,7 @@ unfolding rowCount
 returns c =
     let stepped = c .before .before .before .before .before in
     let planned = stepped .before .before .before .before .before in
-    record { plan = planned .plan .result; planned = planned .plan .ensures; leaves = stepped .step .ensures }
+    record { plan = planned .plan .result; planned = planned .plan .ensures; complements = stepped .step .result .complements; swept = stepped .step .result .swept; leaves = stepped .step .ensures .0 }
 
 pub step-spec : {M : Type 1} → statement M
 step-spec = tie.close (tie.spec plan-requires cast-step step-requires same-length same-length-2 returns)

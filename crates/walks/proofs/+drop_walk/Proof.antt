@@ -4,12 +4,12 @@ use Rattle.trees.specs.Tree.{mk, dropT}
 use Rattle.trees.specs.Table.{at, treesOf}
 use Rattle.nodes.specs.Nodes.{Grown}
 use Rattle.nodes.proofs.ReadLaws.{grown-ref, grown-count, stays}
-use Rattle.walks.specs.Desks.{Desk}
-use Rattle.walks.proofs.DeskLaws.{spot-inside}
+use Rattle.walks.specs.Desks.{Remembered}
+use Rattle.walks.proofs.DeskLaws.{spot-inside, desk-stays, desk-then}
 use Rattle.walks.proofs.DropLaws.{drop-leaf, drop-stay, drop-here, drop-node, within-sure}
 use Rattle.walks.proofs.StepLaws.{within-grown, Step, steps}
 use Rattle.walks.proofs.MemoryLaws.{drop-key, recalled-drop, memory-hit, key-later, recalled-over}
-use Rattle.making.proofs.WalkLaws.{kept, stuck-low, stuck-high, joined}
+use Rattle.making.proofs.WalkLaws.{kept, front-trans, stuck-low, stuck-high, joined}
 use native.Mathlib.Omega.{arith}
 use borrow.Author.Needs.{needs}
 use Prim.Native.Nat.{ℕ, _<_}
@@ -69,7 +69,7 @@ module _ (t : ℕ) where
       let x = at-split .read .result in
       let v = c .n1 .given .0 in
       Grown (a .nodes .now) (after .drop-walk .last .0) (a .n) (v .0) (v .1 .0) (dropT (a .levels) (a .v) (at (treesOf (a .nodes .now) (a .n)) (x .low)))
-      × Desk (after .drop-walk .last .0) (v .0) (a .levels) (after .drop-walk .last .1 .0) (a .c) (a .slots)
+      × Remembered (a .work .now) (after .drop-walk .last .0) (v .0) (a .levels) (after .drop-walk .last .1 .0) (a .c) (a .slots)
   low-done c = rw (c .n1 .given .1) at (c .before .before .before .before .before .before .drop-walk .ensures)
 
   high-done : (c : lts.After-n2 calls (now-at t) own.Post)
@@ -81,7 +81,7 @@ module _ (t : ℕ) where
       let x = at-split .read .result in
       let v = c .n2 .given .0 in
       Grown (after .drop-walk .last .0) (after2 .drop-walk2 .last .0) (at-n1 .n1 .given .0 .0) (v .0) (v .1 .0) (dropT (a .levels) (a .v) (at (treesOf (a .nodes .now) (a .n)) (x .high)))
-      × Desk (after2 .drop-walk2 .last .0) (v .0) (a .levels) (after2 .drop-walk2 .last .1 .0) (a .c) (a .slots)
+      × Remembered (after .drop-walk .last .1 .0) (after2 .drop-walk2 .last .0) (v .0) (a .levels) (after2 .drop-walk2 .last .1 .0) (a .c) (a .slots)
   high-done c =
       let after2 = c .before .before .before .before .before .before in
       let at-n1 = after2 .before .before .before .before in
@@ -90,7 +90,7 @@ module _ (t : ℕ) where
   returns : lts.Need-returns calls (now-at t) own.Post
   returns c =
       let s = c .before .before .before in
-      (stays _ _ _ _ (s .pre .1 .0 .shelf .table) (s .pre .1 .1 .1 .below) (drop-leaf (s .args .levels) (s .args .v) _ _ _ (c .if1 .taken)), s .pre .1 .0)
+      (stays _ _ _ _ (s .pre .1 .0 .shelf .table) (s .pre .1 .1 .1 .below) (drop-leaf (s .args .levels) (s .args .v) _ _ _ (c .if1 .taken)), desk-stays (s .pre .1 .0))
 
   read-requires : lts.Need-read-requires calls (now-at t) own.Post
   read-requires c κs =
@@ -104,7 +104,7 @@ module _ (t : ℕ) where
   returns-2 c =
       let at-split = c .before .before in
       let s = start at-split in
-      (stays _ _ _ _ (s .pre .1 .0 .shelf .table) (s .pre .1 .1 .1 .below) (drop-stay (s .args .levels) (s .args .v) (stepped at-split) (c .if2 .taken)), s .pre .1 .0)
+      (stays _ _ _ _ (s .pre .1 .0 .shelf .table) (s .pre .1 .1 .1 .below) (drop-stay (s .args .levels) (s .args .v) (stepped at-split) (c .if2 .taken)), desk-stays (s .pre .1 .0))
 
   sub-since-walk : lts.Need-sub-since-walk calls (now-at t) own.Post
   sub-since-walk c = stepped (c .before .before .before .before .before .before) .some
@@ -150,7 +150,7 @@ module _ (t : ℕ) where
   returns-4 c =
       let s = c .before .before .before .before .before .before .before .before .before .before .before .before .before in
       let k = s .pre .1 .0 in
-      (rw (← recalled-drop (s .args .levels) _ (s .args .v) _) (memory-hit (k .shelf .table) (k .memory) (c .before .before .before .spot .ensures) _ _ _ _ (c .before .recall .ensures) (c .if4 .taken)), k)
+      (rw (← recalled-drop (s .args .levels) _ (s .args .v) _) (memory-hit (k .shelf .table) (k .memory) (c .before .before .before .spot .ensures) _ _ _ _ (c .before .recall .ensures) (c .if4 .taken)), desk-stays k)
 
   sub-drop-walk : lts.Need-sub-drop-walk calls (now-at t) own.Post
   sub-drop-walk c = stepped (c .before .before .before .before .before .before .before .before .before .before) .some
@@ -188,7 +188,7 @@ module _ (t : ℕ) where
       let d = stepped (at-n1 .before .before .before .before .before .before .before .before .before .before .before .before .before .before .before .before .before) in
       let s = start (at-n1 .before .before .before .before .before .before .before .before .before .before .before .before .before .before .before .before .before) in
       let g = low-done at-n1 in
-      (omega (arith, s .pre .0, d .some), (g .1, (omega (arith, s .pre .1 .1 .0), within-grown (g .0) (d .high))))
+      (omega (arith, s .pre .0, d .some), (g .1 .desk, (omega (arith, s .pre .1 .1 .0), within-grown (g .0) (d .high))))
 
   enum-known-n2 : lts.Need-enum-known-n2 calls (now-at t) own.Post
   enum-known-n2 c = search needs
@@ -224,7 +224,7 @@ module _ (t : ℕ) where
       let gc = grown-count g in
       let hc = grown-count (h .0) in
       let is = recalled-drop (s .args .levels) _ (s .args .v) _ ∙ early past in
-      (h .1, ((at-n1 .before .before .before .before .before .before .before .before .before .before .before .before .spot .ensures, key-later (omega arith) key, omega (arith, grown-ref g), grown-ref (h .0)), recalled-over (s .args .levels) _ _ _ _ is g (h .0) key))
+      (h .1 .desk, ((at-n1 .before .before .before .before .before .before .before .before .before .before .before .before .spot .ensures, key-later (omega arith) key, omega (arith, grown-ref g), grown-ref (h .0)), recalled-over (s .args .levels) _ _ _ _ is g (h .0) key))
 
   same-length-10 : lts.Need-same-length-10 calls (now-at t) own.Post
   same-length-10 c = search needs
@@ -239,8 +239,11 @@ module _ (t : ℕ) where
       let at-n1 = at-n2 .before .before .before .before .before .before .before .before .before .before in
       let past = at-n1 .before .before .before .before .before .before .before .before .before .before .before .before .before in
       let s = start (past .before .before .before .before) in
+      let g = low-done at-n1 in
+      let h = high-done at-n2 in
       rw (early past)
-      (joined _ _ _ (s .pre .1 .0 .shelf .table) (low-done at-n1 .0) (high-done at-n2 .0) _ (made .keep .last .0) (made .keep .result) (made .keep .ensures))
+      (desk-then (s .args .c) (front-trans (g .1 .same) (h .1 .same) (omega arith)) (s .args .levels) (s .args .slots) (made .keep .last .1 .0) _ (made .keep .last .0) _ _ (made .keep .result)
+      (joined _ _ _ (s .pre .1 .0 .shelf .table) (g .0) (h .0) _ (made .keep .last .0) (made .keep .result) (made .keep .ensures)))
 
 pub +drop-walk-spec : {M : Type 1} → statement M
 +drop-walk-spec = close μ λ t. lts.spec (calls t) (now-at t) own.Post

@@ -3,13 +3,15 @@ use Rattle.trees.specs.Tree.{notT}
 use Rattle.trees.specs.Table.{at, treesOf}
 use Rattle.nodes.specs.Nodes.{Grown}
 use Rattle.nodes.proofs.ReadLaws.{grown-ref, grown-count}
-use Rattle.walks.specs.Desks.{Desk}
-use Rattle.walks.proofs.NotLaws.{not-leaf, not-node, not-over, map-hit}
+use Rattle.walks.specs.declared.Counted.the-variants.{At}
+use Rattle.walks.specs.Complements.{Complemented}
+use Rattle.walks.proofs.ComplementLaws.{complement-leaf, complement-hit, complement-fits, complement-apart}
+use Rattle.walks.proofs.NotLaws.{not-node, not-over}
 use Rattle.walks.proofs.StepLaws.{within-grown, Step, steps}
-use Rattle.making.proofs.WalkLaws.{kept, stuck-low, stuck-high, joined}
+use Rattle.making.proofs.WalkLaws.{kept, stuck-low, stuck-high}
 use native.Mathlib.Omega.{arith}
 use borrow.Author.Needs.{needs}
-use Prim.Native.Nat.{ℕ, _<_}
+use Prim.Native.Nat.{ℕ, _-_, _<_}
 use borrow.Fn.Kinds.{In}
 use borrow.Fn.PlainCycle.{Measures, is, falls, and}
 use Rattle.walks.proofs.not_walk.Reads as own
@@ -50,8 +52,7 @@ module _ (t : ℕ) where
       let a = start (after .before .before .before) .args in
       let x = after .before .before .before .read .result in
       let v = c .n1 .given .0 in
-      Grown (a .nodes .now) (after .not-walk .last .0) (a .n) (v .0) (v .1 .0) (notT (a .levels) (at (treesOf (a .nodes .now) (a .n)) (x .low)))
-      × Desk (after .not-walk .last .0) (v .0) (a .levels) (after .not-walk .last .1 .0) (a .c) (a .slots)
+      Complemented (a .nodes .now) (after .not-walk .last .0) (a .n) (a .levels) (a .left - 1) (x .low) (a .work .now) (after .not-walk .last .1 .0) (a .c) (a .slots) (At (v .0) (v .1 .0) (v .1 .1 .0))
   low-done c = rw (c .n1 .given .1) at (c .before .before .before .before .before .before .not-walk .ensures)
 
   high-done : (c : lts.After-n2 calls (now-at t) own.Post)
@@ -61,52 +62,54 @@ module _ (t : ℕ) where
       let a = start (after .before .before .before) .args in
       let x = after .before .before .before .read .result in
       let v = c .n2 .given .0 in
-      Grown (after .not-walk .last .0) (after2 .not-walk2 .last .0) (at-n1 .n1 .given .0 .0) (v .0) (v .1 .0) (notT (a .levels) (at (treesOf (a .nodes .now) (a .n)) (x .high)))
-      × Desk (after2 .not-walk2 .last .0) (v .0) (a .levels) (after2 .not-walk2 .last .1 .0) (a .c) (a .slots)
-  high-done c =
-      let after2 = c .before .before .before .before .before .before in
-      let at-n1 = after2 .before .before .before .before in
-      rw (c .n2 .given .1, kept (low-done at-n1 .0) _ (stepped (at-n1 .before .before .before .before .before .before .before .before .before) .high .below)) at (after2 .not-walk2 .ensures)
+      Complemented (after .not-walk .last .0) (after2 .not-walk2 .last .0) (at-n1 .n1 .given .0 .0) (a .levels) (a .left - 1) (x .high) (after .not-walk .last .1 .0) (after2 .not-walk2 .last .1 .0) (a .c) (a .slots) (At (v .0) (v .1 .0) (v .1 .1 .0))
+  high-done c = rw (c .n2 .given .1) at (c .before .before .before .before .before .before .not-walk2 .ensures)
 
-  sub-t17 : lts.Need-sub-t17 calls (now-at t) own.Post
-  sub-t17 c = search needs
+  -- the high side's complement, as it stands in the table of before
+  high-grown : (c : lts.After-n2 calls (now-at t) own.Post)
+      → let after2 = c .before .before .before .before .before .before in
+      let at-n1 = after2 .before .before .before .before in
+      let after = at-n1 .before .before .before .before .before .before in
+      let a = start (after .before .before .before) .args in
+      let x = after .before .before .before .read .result in
+      let v = c .n2 .given .0 in
+      Grown (after .not-walk .last .0) (after2 .not-walk2 .last .0) (at-n1 .n1 .given .0 .0) (v .0) (v .1 .0) (notT (a .levels) (at (treesOf (a .nodes .now) (a .n)) (x .high)))
+  high-grown c = rw (kept (low-done (c .before .before .before .before .before .before .before .before .before .before) .0) _ (stepped (c .before .before .before .before .before .before .before .before .before .before .before .before .before .before .before .before .before .before .before) .high .below)) at (high-done c .0)
+
+  sub-t19 : lts.Need-sub-t19 calls (now-at t) own.Post
+  sub-t19 c = search needs
 
   returns : lts.Need-returns calls (now-at t) own.Post
-  returns c =
-      let s = c .before .before .before in
-      (not-leaf (s .args .levels) _ _ _ (s .pre .1 .0 .shelf .table) (c .if1 .taken), s .pre .1 .0)
+  returns c = complement-leaf (c .before .before .before .pre .1 .0) _ _ (c .if1 .taken)
 
   mul-j : lts.Need-mul-j calls (now-at t) own.Post
   mul-j c =
-      let s = c .before .before .before in
-      omega (arith, s .pre .1 .0 .shelf .table .fits, s .pre .1 .0 .shelf .table .small, s .pre .1 .0 .shelf .size, s .pre .1 .0 .shelf .long, s .pre .1 .1 .1 .below)
+      let k = c .before .before .before .pre .1 .0 .shelf in
+      omega (arith, k .table .fits, k .table .small, k .size, k .long, c .before .before .before .pre .1 .1 .1 .below)
 
   sub-j : lts.Need-sub-j calls (now-at t) own.Post
   sub-j c = search needs
 
   add-j : lts.Need-add-j calls (now-at t) own.Post
   add-j c =
-      let s = c .before .before .before in
-      omega (arith, s .pre .1 .0 .shelf .table .fits, s .pre .1 .0 .shelf .table .small, s .pre .1 .0 .shelf .size, s .pre .1 .0 .shelf .long, s .pre .1 .1 .1 .below)
+      let k = c .before .before .before .pre .1 .0 .shelf in
+      omega (arith, k .table .fits, k .table .small, k .size, k .long, c .before .before .before .pre .1 .1 .1 .below)
 
-  mul-hit : lts.Need-mul-hit calls (now-at t) own.Post
-  mul-hit c =
-      let s = c .before .before .before in
-      omega (arith, s .pre .1 .0 .shelf .table .fits, s .pre .1 .0 .shelf .table .small, s .pre .1 .0 .shelf .size, s .pre .1 .0 .shelf .long, s .pre .1 .1 .1 .below)
+  mul-seen : lts.Need-mul-seen calls (now-at t) own.Post
+  mul-seen c =
+      let k = c .before .before .before .pre .1 .0 .shelf in
+      omega (arith, k .table .fits, k .table .small, k .size, k .long, c .before .before .before .pre .1 .1 .1 .below)
 
-  slice-read-hit : lts.Need-slice-read-hit calls (now-at t) own.Post
-  slice-read-hit c =
-      let s = c .before .before .before .before in
-      omega (arith, s .pre .1 .0 .shelf .table .fits, s .pre .1 .0 .shelf .table .small, s .pre .1 .0 .shelf .size, s .pre .1 .0 .shelf .long, s .pre .1 .1 .1 .below)
+  slice-read-seen : lts.Need-slice-read-seen calls (now-at t) own.Post
+  slice-read-seen c =
+      let k = c .before .before .before .before .pre .1 .0 .shelf in
+      omega (arith, k .table .fits, k .table .small, k .size, k .long, c .before .before .before .before .pre .1 .1 .1 .below)
 
-  sub-t23 : lts.Need-sub-t23 calls (now-at t) own.Post
-  sub-t23 c = search needs
+  sub-t25 : lts.Need-sub-t25 calls (now-at t) own.Post
+  sub-t25 c = search needs
 
   returns-2 : lts.Need-returns-2 calls (now-at t) own.Post
-  returns-2 c =
-      let s = c .before .before .before .before .before in
-      let k = s .pre .1 .0 in
-      (map-hit (k .shelf .table) (k .complements) _ (omega arith) (omega (arith, k .shelf .table .fits, k .shelf .size, s .pre .1 .1 .1 .below)) (c .if2 .taken), k)
+  returns-2 c = complement-hit (c .before .before .before .before .before .pre .1 .0) _ _ (omega arith) (c .before .before .before .before .before .pre .1 .1 .1 .below) (c .if2 .taken)
 
   read-requires : lts.Need-read-requires calls (now-at t) own.Post
   read-requires c κs =
@@ -165,12 +168,33 @@ module _ (t : ℕ) where
 
   returns-4 : lts.Need-returns-4 calls (now-at t) own.Post
   returns-4 c =
-      let after2 = c .before .before .before .before .before .before in
-      let at-n1 = after2 .before .before .before .before in
+      let at-n1 = c .before .before .before .before .before .before .before .before .before .before in
       let d = stepped (at-n1 .before .before .before .before .before .before .before .before .before) in
       let s = start (at-n1 .before .before .before .before .before .before .before .before .before) in
       let g = low-done at-n1 .0 in
-      rw (not-node (s .args .levels) d) (stuck-high _ _ _ (s .pre .1 .0 .shelf .table) g (rw (c .enum-told2 .given .1, kept g _ (d .high .below)) at (after2 .not-walk2 .ensures)))
+      rw (not-node (s .args .levels) d) (stuck-high _ _ _ (s .pre .1 .0 .shelf .table) g (rw (c .enum-told2 .given .1, kept g _ (d .high .below)) at (c .before .before .before .before .before .before .not-walk2 .ensures)))
+
+  add-keep-not : lts.Need-add-keep-not calls (now-at t) own.Post
+  add-keep-not c =
+      let at-n2 = c .before .before .before in
+      let at-n1 = at-n2 .before .before .before .before .before .before .before .before .before .before in
+      let d = stepped (at-n1 .before .before .before .before .before .before .before .before .before) in
+      let s = start (at-n1 .before .before .before .before .before .before .before .before .before) in
+      let left = s .pre .1 .1 .0 in
+      let g = low-done at-n1 in
+      let h = high-done at-n2 in
+      omega (arith, complement-fits (s .pre .1 .0) _ _ (omega arith) (d .low) (g .2), complement-fits (g .1) _ _ (omega arith) (within-grown (g .0) (d .high)) (h .2))
+
+  add-keep-not-2 : lts.Need-add-keep-not-2 calls (now-at t) own.Post
+  add-keep-not-2 c =
+      let at-n2 = c .before .before .before in
+      let at-n1 = at-n2 .before .before .before .before .before .before .before .before .before .before in
+      let d = stepped (at-n1 .before .before .before .before .before .before .before .before .before) in
+      let s = start (at-n1 .before .before .before .before .before .before .before .before .before) in
+      let left = s .pre .1 .1 .0 in
+      let g = low-done at-n1 in
+      let h = high-done at-n2 in
+      omega (arith, complement-fits (s .pre .1 .0) _ _ (omega arith) (d .low) (g .2), complement-fits (g .1) _ _ (omega arith) (within-grown (g .0) (d .high)) (h .2))
 
   keep-not-requires : lts.Need-keep-not-requires calls (now-at t) own.Post
   keep-not-requires c κs =
@@ -179,14 +203,14 @@ module _ (t : ℕ) where
       let at-split = at-n1 .before .before .before .before .before .before .before .before .before in
       let s = start at-split in
       let g = low-done at-n1 .0 in
-      let h = high-done at-n2 in
+      let h = high-grown at-n2 in
       let gc = grown-count g in
-      let hc = grown-count (h .0) in
+      let hc = grown-count h in
       let inside = s .pre .1 .1 .1 .below in (
-        h .1,
+        high-done at-n2 .1,
         (
-          (omega (arith, at-split .before .before .before .before .if1 .left), omega arith, omega (arith, grown-ref g), grown-ref (h .0)),
-          not-over (s .args .levels) _ _ (not-node (s .args .levels) (stepped at-split)) g (h .0) inside,
+          (omega (arith, at-split .before .before .before .before .if1 .left), omega arith, omega (arith, grown-ref g), grown-ref h),
+          not-over (s .args .levels) _ _ (not-node (s .args .levels) (stepped at-split)) g h inside,
         ),
       )
 
@@ -198,13 +222,15 @@ module _ (t : ℕ) where
 
   returns-5 : lts.Need-returns-5 calls (now-at t) own.Post
   returns-5 c =
-      let made = c .before .before .before .before in
-      let at-n2 = made .before .before .before .before in
+      let made = c .before .before .before .before .keep-not in
+      let at-n2 = c .before .before .before .before .before .before .before .before in
       let at-n1 = at-n2 .before .before .before .before .before .before .before .before .before .before in
-      let s = start (at-n1 .before .before .before .before .before .before .before .before .before) in
-      rw (not-node (s .args .levels) (stepped (at-n1 .before .before .before .before .before .before .before .before .before)))
-      (joined _ _ _ (s .pre .1 .0 .shelf .table) (low-done at-n1 .0) (high-done at-n2 .0) _ (made .keep-not .last .0) (made .keep-not .result) (made .keep-not .ensures))
+      let at-split = at-n1 .before .before .before .before .before .before .before .before .before in
+      let s = start at-split in
+      let g = low-done at-n1 in
+      complement-apart (s .pre .1 .0) (stepped at-split) (at-split .read .ensures) (omega (arith, at-split .before .before .before .before .if1 .left)) (s .pre .1 .1 .1 .below) (omega (arith, at-split .before .before .if2 .left))
+      (at-n2 .before .before .before .before .before .before .not-walk2 .last .1 .0) (g .0) (g .2) (high-grown at-n2) (high-done at-n2 .2) (made .last .0) (made .last .1 .0) (made .result) (made .ensures)
 
 pub +not-walk-spec : {M : Type 1} → statement M
 +not-walk-spec = close μ λ t. lts.spec (calls t) (now-at t) own.Post
-    (sub-t17 t) (returns t) (mul-j t) (sub-j t) (add-j t) (mul-hit t) (slice-read-hit t) (sub-t23 t) (returns-2 t) (read-requires t) (sub-not-walk t) (not-walk-requires t) (enum-known-n1 t) (enum-told t) (same-length t) (same-length-2 t) (returns-3 t) (sub-not-walk-2 t) (not-walk-requires-2 t) (enum-known-n2 t) (enum-told-2 t) (same-length-3 t) (same-length-4 t) (returns-4 t) (keep-not-requires t) (same-length-5 t) (same-length-6 t) (returns-5 t)
+    (sub-t19 t) (returns t) (mul-j t) (sub-j t) (add-j t) (mul-seen t) (slice-read-seen t) (sub-t25 t) (returns-2 t) (read-requires t) (sub-not-walk t) (not-walk-requires t) (enum-known-n1 t) (enum-told t) (same-length t) (same-length-2 t) (returns-3 t) (sub-not-walk-2 t) (not-walk-requires-2 t) (enum-known-n2 t) (enum-told-2 t) (same-length-3 t) (same-length-4 t) (returns-4 t) (add-keep-not t) (add-keep-not-2 t) (keep-not-requires t) (same-length-5 t) (same-length-6 t) (returns-5 t)

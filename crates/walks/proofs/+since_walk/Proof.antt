@@ -5,12 +5,12 @@ use Rattle.trees.specs.Table.{at, treesOf}
 use Rattle.nodes.specs.Nodes.{Grown}
 use Rattle.nodes.proofs.ReadLaws.{grown-ref, grown-count}
 use Rattle.walks.specs.Walks.{Within}
-use Rattle.walks.specs.Desks.{Desk}
-use Rattle.walks.proofs.DeskLaws.{spot-inside}
+use Rattle.walks.specs.Desks.{Remembered}
+use Rattle.walks.proofs.DeskLaws.{spot-inside, desk-stays, desk-then}
 use Rattle.walks.proofs.SinceLaws.{alike-within, alike-since, alike-stays, Down, down, since-kept}
 use Rattle.walks.proofs.MemoryLaws.{since-key, recalled-since, memory-hit, key-later, recalled-over}
 use Rattle.walks.proofs.StepLaws.{within-grown}
-use Rattle.making.proofs.WalkLaws.{stuck-low, stuck-high, joined}
+use Rattle.making.proofs.WalkLaws.{front-trans, stuck-low, stuck-high, joined}
 use native.Mathlib.Omega.{arith}
 use borrow.Author.Needs.{needs}
 use Prim.Native.Nat.{ℕ, _<_}
@@ -84,7 +84,7 @@ module _ (t : ℕ) where
       let ts = treesOf (a .nodes .now) (a .n) in
       let v = c .n1 .given .0 in
       Grown (a .nodes .now) (after .since-walk .last .0) (a .n) (v .0) (v .1 .0) (sinceT (a .levels) (at ts (x .l0)) (at ts (x .r0)) (at ts (x .o0)))
-      × Desk (after .since-walk .last .0) (v .0) (a .levels) (after .since-walk .last .1 .0) (a .c) (a .slots)
+      × Remembered (a .work .now) (after .since-walk .last .0) (v .0) (a .levels) (after .since-walk .last .1 .0) (a .c) (a .slots)
   low-done c = rw (c .n1 .given .1) at (c .before .before .before .before .before .before .since-walk .ensures)
 
   high-done : (c : lts.After-n2 calls (now-at t) own.Post)
@@ -96,7 +96,7 @@ module _ (t : ℕ) where
       let ts = treesOf (a .nodes .now) (a .n) in
       let v = c .n2 .given .0 in
       Grown (after .since-walk .last .0) (after2 .since-walk2 .last .0) (at-n1 .n1 .given .0 .0) (v .0) (v .1 .0) (sinceT (a .levels) (at ts (x .l1)) (at ts (x .r1)) (at ts (x .o1)))
-      × Desk (after2 .since-walk2 .last .0) (v .0) (a .levels) (after2 .since-walk2 .last .1 .0) (a .c) (a .slots)
+      × Remembered (after .since-walk .last .1 .0) (after2 .since-walk2 .last .0) (v .0) (a .levels) (after2 .since-walk2 .last .1 .0) (a .c) (a .slots)
   high-done c =
       let after2 = c .before .before .before .before .before .before in
       let at-n1 = after2 .before .before .before .before in
@@ -111,7 +111,7 @@ module _ (t : ℕ) where
   returns c =
       let s = c .before .before .before .before .before in
       let p = s .pre .1 .1 in
-      (alike-stays (s .pre .1 .0 .shelf .table) (p .1) (p .2) (p .3) (c .before .before .settle .ensures .alike) (c .if1 .taken), s .pre .1 .0)
+      (alike-stays (s .pre .1 .0 .shelf .table) (p .1) (p .2) (p .3) (c .before .before .settle .ensures .alike) (c .if1 .taken), desk-stays (s .pre .1 .0))
 
   spot-requires : lts.Need-spot-requires calls (now-at t) own.Post
   spot-requires c κs =
@@ -137,7 +137,7 @@ module _ (t : ℕ) where
       let y = c .before .before .before .before .before .before .settle in (
         rw (alike-since (k .shelf .table) (p .1) (p .2) (p .3) (y .ensures .alike), ← recalled-since (s .args .levels) (treesOf (s .args .nodes .now) (s .args .n)) (y .result .l) (y .result .r) (y .result .o) (omega (arith, c .before .before .before .before .if1 .left)))
             (memory-hit (k .shelf .table) (k .memory) (c .before .before .before .spot .ensures) _ _ _ _ (c .before .recall .ensures) (c .if2 .taken)),
-        k,
+        desk-stays k,
       )
 
   part-requires : lts.Need-part-requires calls (now-at t) own.Post
@@ -180,7 +180,7 @@ module _ (t : ℕ) where
       let d = forked (at-n1 .before .before .before .before .before .before .before .before .before) in
       let s = start (at-n1 .before .before .before .before .before .before .before .before .before) in
       let g = low-done at-n1 in
-      (omega (arith, s .pre .0, d .some), (g .1, (omega (arith, s .pre .1 .1 .0), within-grown (g .0) (d .high-l), within-grown (g .0) (d .high-r), within-grown (g .0) (d .high-o))))
+      (omega (arith, s .pre .0, d .some), (g .1 .desk, (omega (arith, s .pre .1 .1 .0), within-grown (g .0) (d .high-l), within-grown (g .0) (d .high-r), within-grown (g .0) (d .high-o))))
 
   enum-known-n2 : lts.Need-enum-known-n2 calls (now-at t) own.Post
   enum-known-n2 c = search needs
@@ -218,7 +218,7 @@ module _ (t : ℕ) where
       let gc = grown-count g in
       let hc = grown-count (h .0) in
       let is = recalled-since (s .args .levels) _ _ _ _ (omega (arith, at-part .before .before .before .before .before .before .if1 .left)) ∙ forked at-part .step in
-      (h .1, ((at-part .before .before .before .before .before .spot .ensures, key-later (omega arith) key, omega (arith, grown-ref g), grown-ref (h .0)), recalled-over (s .args .levels) _ _ _ _ is g (h .0) key))
+      (h .1 .desk, ((at-part .before .before .before .before .before .spot .ensures, key-later (omega arith) key, omega (arith, grown-ref g), grown-ref (h .0)), recalled-over (s .args .levels) _ _ _ _ is g (h .0) key))
 
   same-length-6 : lts.Need-same-length-6 calls (now-at t) own.Post
   same-length-6 c = search needs
@@ -232,8 +232,12 @@ module _ (t : ℕ) where
       let at-n2 = made .before .before .before .before in
       let at-n1 = at-n2 .before .before .before .before .before .before .before .before .before .before in
       let at-part = at-n1 .before .before .before .before .before .before .before .before .before in
+      let s = start at-part in
+      let g = low-done at-n1 in
+      let h = high-done at-n2 in
       rw (stepped at-part)
-      (joined _ _ _ (start at-part .pre .1 .0 .shelf .table) (low-done at-n1 .0) (high-done at-n2 .0) _ (made .keep .last .0) (made .keep .result) (made .keep .ensures))
+      (desk-then (s .args .c) (front-trans (g .1 .same) (h .1 .same) (omega arith)) (s .args .levels) (s .args .slots) (made .keep .last .1 .0) _ (made .keep .last .0) _ _ (made .keep .result)
+      (joined _ _ _ (s .pre .1 .0 .shelf .table) (g .0) (h .0) _ (made .keep .last .0) (made .keep .result) (made .keep .ensures)))
 
 pub +since-walk-spec : {M : Type 1} → statement M
 +since-walk-spec = close μ λ t. lts.spec (calls t) (now-at t) own.Post

@@ -1,7 +1,9 @@
 -- `keep_not` meets its contract. Assumes nothing.
+use mathlib.Core.Path.{refl}
 use native.Mathlib.Omega.{arith}
 use Rattle.nodes.proofs.ReadLaws.{grown-ref}
 use Rattle.walks.proofs.DeskLaws.{desk-keep-not}
+use Rattle.walks.proofs.ComplementLaws.{map-kept}
 use borrow.Author.Needs.{needs}
 use Rattle.walks.proofs.keep_not.Statement.{statement}
 use Rattle.walks.proofs.keep_not.Tie as tie
@@ -52,11 +54,11 @@ same-length-4 c = search needs
 
 returns-2 : tie.Need-returns-2
 returns-2 c =
-    let after = c .before .before .before .before .before .before .before in
-    let s = after .before .before .before .before .before in
+    let after = c .before .before .before .before .before .before .before .make in
+    let s = c .before .before .before .before .before .before .before .before .before .before .before .before in
     let p = s .pre .1 .0 in
-    let g = rw (c .before .k .given .1) at (after .make .ensures) in
-    (g .0, desk-keep-not (s .pre .0) _ (p .0) (p .1) (s .pre .1 .1) (g .0) (g .1))
+    let g = rw (c .before .k .given .1) at (after .ensures) in
+    (g .0, desk-keep-not (s .pre .0) _ (p .0) (p .1) (s .pre .1 .1) (g .0) (g .1), map-kept (s .pre .0) _ (p .0) (p .1) (g .1) _, refl)
 
 pub keep-not-spec : {M : Type 1} → statement M
 keep-not-spec =

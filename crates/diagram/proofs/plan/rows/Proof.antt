@@ -1,6 +1,6 @@
--- `rows` meets its contract. The loop's invariant: the first i rows are worked. The measure is the count of rows that are left.
--- Assumes nothing.
-use Prim.Native.Nat.{_-_, _≤_}
+-- `rows` meets its contract. The loop's invariant: the first i rows are worked and counted. The measure is the count of rows that
+-- are left. Assumes nothing.
+use Prim.Native.Nat.{_-_, _≤_, _<_}
 use mathlib.Core.Path.{_≡_, refl, _∙_}
 use native.Mathlib.Omega.{arith}
 use lib.ListN.{length}
@@ -13,19 +13,19 @@ use Rattle.diagram.proofs.plan.rows.Statement.{statement}
 use Rattle.diagram.proofs.plan.rows.Tie as tie
 
 abbrev Inv-loop : tie.InvT-loop
-Inv-loop nodes₀ work₀ c slots kept k count olds plan news₀ n₀ i₀ nodes work news n i =
-    (i ≤ count) × (length work ≡ length work₀) × Through k plan (diagrams nodes₀ kept olds count) nodes₀ kept nodes n work c slots olds news i
+Inv-loop nodes₀ work₀ c slots kept k count olds plan news₀ n₀ visits₀ i₀ nodes work news n visits i =
+    (i ≤ count) × (length work ≡ length work₀) × Through k plan (diagrams nodes₀ kept olds count) nodes₀ kept nodes n work c slots olds news i visits
 
 abbrev μ-loop : tie.MeasureT-loop
-μ-loop nodes₀ work₀ c slots kept k count olds plan news₀ n₀ i₀ nodes work news n i = count - i
+μ-loop nodes₀ work₀ c slots kept k count olds plan news₀ n₀ visits₀ i₀ nodes work news n visits i = count - i
 
 loop-holds : tie.Need-loop-holds Inv-loop μ-loop
 loop-holds c =
     let s = c .before .before in (
       omega arith,
       refl,
-      through-none (s .args .k) (s .args .t8) _ (s .args .nodes .now) (s .args .kept) (s .args .work .now) (s .args .c) (s .args .slots) (now (s .args .olds))
-          (s .pre .0 .2) (s .pre .1 .0) (old-are (s .args .nodes .now) (s .args .kept) (now (s .args .olds)) (s .args .count) (omega (arith, s .pre .0 .1, s .pre .1 .0 .wide)) (s .pre .1 .1)),
+      through-none (s .args .k) (s .args .t8) _ (s .args .nodes .now) (s .args .kept) (s .args .work .now) (s .args .c) (s .args .slots) (now (s .args .olds)) (s .pre .0 .2) (s .pre .1 .0)
+          (old-are (s .args .nodes .now) (s .args .kept) (now (s .args .olds)) (s .args .count) (omega (arith, s .pre .0 .1, s .pre .1 .0 .wide)) (s .pre .1 .1 .0)) (s .pre .1 .1 .1),
     )
 
 cast-j : tie.Need-cast-j Inv-loop μ-loop
@@ -68,6 +68,17 @@ mul-news c = omega (arith, c .before .before .before .before .before .before .be
 array-write-news : tie.Need-array-write-news Inv-loop μ-loop
 array-write-news c = omega (arith, c .before .before .before .before .before .before .before .before .before .before .before .before .before .before .before .before .pre .0 .1)
 
+add-visits : tie.Need-add-visits Inv-loop μ-loop
+add-visits c =
+    let done = c .before .before .before .before .before .before .before in
+    let loop = done .before .before .before .before .before .before in
+    let s = loop .before .before .before in
+    let v = loop .loop .inv in
+    let g = rw (c .before .m .given .1) at (done .row .ensures) in
+    let few : loop .loop .i < 64 = omega (arith, s .pre .0 .1, done .before .before .before .before .before .loop-test .taken) in
+    let t = through-more (s .args .k) (s .args .t8) _ (s .args .nodes .now) (s .args .kept) (v .2) (g .0) few _ (g .1) (g .2) in
+    omega (arith, t .tally .small)
+
 add-i : tie.Need-add-i Inv-loop μ-loop
 add-i c = omega (arith, c .before .before .before .before .before .before .before .before .before .before .before .before .before .before .before .before .pre .0 .1)
 
@@ -80,11 +91,10 @@ loop-again c =
     let loop = done .before .before .before .before .before .before in
     let s = loop .before .before .before in
     let v = loop .loop .inv in
-    let g = rw (c .before .m .given .1) at (done .row .ensures) in (
-      omega (arith, done .before .before .before .before .before .loop-test .taken),
-      done .row .kept .1 .0 ∙ v .1,
-      through-more (s .args .k) (s .args .t8) _ (s .args .nodes .now) (s .args .kept) (v .2) (g .0) (omega (arith, s .pre .0 .1, done .before .before .before .before .before .loop-test .taken)) (g .1),
-    )
+    let g = rw (c .before .m .given .1) at (done .row .ensures) in
+    let few : loop .loop .i < 64 = omega (arith, s .pre .0 .1, done .before .before .before .before .before .loop-test .taken) in
+    let t = through-more (s .args .k) (s .args .t8) _ (s .args .nodes .now) (s .args .kept) (v .2) (g .0) few _ (g .1) (g .2) in
+    (omega (arith, done .before .before .before .before .before .loop-test .taken), done .row .kept .1 .0 ∙ v .1, t)
 
 same-length-3 : tie.Need-same-length-3 Inv-loop μ-loop
 same-length-3 c = c .before .loop .inv .2 .size
@@ -117,6 +127,7 @@ rows-spec =
     returns
     mul-news
     array-write-news
+    add-visits
     add-i
     loop-less
     loop-again

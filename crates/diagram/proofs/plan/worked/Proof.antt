@@ -1,12 +1,12 @@
 -- `worked` meets its contract: the rows, and then the sweep or the refusal. Assumes nothing.
 use Prim.Native.Nat.{_+_, _*_, _-_, _/_}
-use mathlib.Core.Path.{_∙_}
+use mathlib.Core.Path.{refl, _∙_}
 use native.Mathlib.Omega.{arith}
 use lib.ListN.{length}
 use borrow.Rule.Slice.PartMut.{putMid}
 use Rattle.diagram.proofs.ClearLaws.{cleared-is, rest-more, rest-two}
-use Rattle.diagram.proofs.LendLaws.{desk-ready, lent-back}
-use Rattle.diagram.proofs.OutcomeLaws.{full-leaves, sweep-ready, done-leaves}
+use Rattle.diagram.proofs.LendLaws.{desk-ready, fresh-ready, lent-back}
+use Rattle.diagram.proofs.OutcomeLaws.{full-leaves, sweep-ready, done-leaves, done-visits}
 use borrow.Author.Needs.{needs}
 use Rattle.diagram.proofs.plan.worked.Statement.{statement}
 use Rattle.diagram.proofs.plan.worked.Tie as tie
@@ -47,7 +47,7 @@ rows-requires c κs =
     let f = s .pre .0 in
     let r = s .pre .1 .0 in
     let few = c .before .before .before .before .before .before .before .slots-for .ensures in
-    ((f .most, f .few, desk-ready f r (s .pre .1 .1) _ (few .0) (few .1) (c .before .before .before .before .before .zero .ensures)), (r .leads, r .none))
+    ((f .most, f .few, desk-ready f r (s .pre .1 .1) _ (few .0) (few .1) (c .before .before .before .before .before .zero .ensures)), (r .leads, (r .none, fresh-ready f r _ (c .before .before .before .before .before .zero .ensures))))
 
 mul-zero-4 : tie.Need-mul-zero-4
 mul-zero-4 c = search needs
@@ -75,9 +75,11 @@ returns c =
     let work = c .before .before .before .before .before .before .before .before .before .before .before .before .before .rows in
     let s = c .before .before .before .before .before .before .before .before .before .before .before .before .before .before .before .before .before .before .before .before .before .before .before .before in
     let f = s .pre .0 in
-    let back = lent-back (s .args .nodes .now) f _ (c .before .before .before .before .before .before .before .before .before .before .before .before .before .before .before .before .before .before .before .before .before .slots-for .ensures .1) (c .before .before .before .before .before .before .before .before .before .before .before .before .before .before .before .before .before .before .before .zero .ensures) (work .last .1 .0) (work .kept .1 .0) in
-    full-leaves (s .args .k) (s .args .count) (s .args .plan) (s .args .t4) (s .args .kept) (s .args .nodes .now) (s .args .work .now) f (s .pre .1 .0) (rw (c .before .before .before .before .before .before .before .before .if1 .taken) at (work .ensures)) (c .before .before .before .before .before .before .zero2 .ensures)
-    (cleared-is (length (s .args .nodes .now) / 3) (s .args .work .now) (f .room) (rest-more (back .0) (omega arith)) (back .1) (c .before .before .zero3 .ensures))
+    let back = lent-back (s .args .nodes .now) f _ (c .before .before .before .before .before .before .before .before .before .before .before .before .before .before .before .before .before .before .before .before .before .slots-for .ensures .1) (c .before .before .before .before .before .before .before .before .before .before .before .before .before .before .before .before .before .before .before .zero .ensures) (work .last .1 .0) (work .kept .1 .0) in (
+      full-leaves (s .args .k) (s .args .count) (s .args .plan) (s .args .t4) (s .args .kept) (s .args .nodes .now) (s .args .work .now) f (s .pre .1 .0) (rw (c .before .before .before .before .before .before .before .before .if1 .taken) at (work .ensures)) (c .before .before .before .before .before .before .zero2 .ensures)
+          (cleared-is (length (s .args .nodes .now) / 3) (s .args .work .now) (f .room) (rest-more (back .0) (omega arith)) (back .1) (c .before .before .zero3 .ensures)),
+      (refl, refl),
+    )
 
 mul-renew : tie.Need-mul-renew
 mul-renew c = search needs
@@ -120,8 +122,11 @@ returns-2 c =
     let back = lent-back (s .args .nodes .now) f _ (c .before .before .before .before .before .before .before .before .before .before .before .before .before .before .before .before .before .before .before .before .before .before .before .before .before .before .before .slots-for .ensures .1) (c .before .before .before .before .before .before .before .before .before .before .before .before .before .before .before .before .before .before .before .before .before .before .before .before .before .zero .ensures) (work .last .1 .0) (work .kept .1 .0) in
     let t = rw (c .before .before .before .before .before .before .before .before .before .before .before .before .before .before .if1 .left) at (work .ensures) in
     let same = t .size in
-    done-leaves (s .args .k) (s .args .count) (s .args .plan) (s .args .t4) (s .args .kept) (s .args .nodes .now) (s .args .work .now) f t (swept .ensures)
-    (cleared-is (length (s .args .nodes .now) / 3) (s .args .work .now) (f .room) (rest-two (16 * (length (s .args .nodes .now) / 3) + 1024) (back .0) (swept .ensures .rest) (omega arith) (omega arith)) (swept .kept .1 .1 .0 ∙ back .1) (c .before .before .before .zero4 .ensures))
+    let ready = sweep-ready (s .args .k) (s .args .count) (s .args .plan) (s .args .t4) (s .args .kept) (s .args .nodes .now) (s .args .work .now) f t (putMid 0 (15 * (length (s .args .nodes .now) / 3) - 0) (c .before .before .before .before .before .before .before .before .before .before .before .before .before .before .before .before .before .before .before .before .before .before .before .before .before .zero .last .0) (work .last .1 .0)) (back .1) in (
+      done-leaves (s .args .k) (s .args .count) (s .args .plan) (s .args .t4) (s .args .kept) (s .args .nodes .now) (s .args .work .now) f t (swept .ensures)
+          (cleared-is (length (s .args .nodes .now) / 3) (s .args .work .now) (f .room) (rest-two (16 * (length (s .args .nodes .now) / 3) + 1024) (back .0) (swept .ensures .rest) (omega arith) (omega arith)) (swept .kept .1 .1 .0 ∙ back .1) (c .before .before .before .zero4 .ensures)),
+      done-visits (s .args .k) (s .args .count) (s .args .plan) (s .args .t4) (s .args .kept) (s .args .nodes .now) (s .args .work .now) f t (ready .2) (swept .ensures),
+    )
 
 pub worked-spec : {M : Type 1} → statement M
 worked-spec =

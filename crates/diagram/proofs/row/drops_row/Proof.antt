@@ -12,7 +12,7 @@ use Rattle.diagram.proofs.row.drops_row.Tie as tie
 
 abbrev Inv-loop : tie.InvT-loop
 Inv-loop nodes₀ work₀ c slots n k v p base m₀ r₀ b₀ nodes work m r b =
-    (b ≤ k) × (length work ≡ length work₀) × Removing (4 * k) base k nodes₀ n p nodes m r b work c slots
+    (b ≤ k) × (length work ≡ length work₀) × Removing (4 * k) base k nodes₀ n p nodes m r b work₀ work c slots
 
 abbrev μ-loop : tie.MeasureT-loop
 μ-loop nodes₀ work₀ c slots n k v p base m₀ r₀ b₀ nodes work m r b = b
@@ -40,7 +40,7 @@ add-drop-walk c = omega (arith, c .before .before .before .before .first-level .
 drop-walk-requires : tie.Need-drop-walk-requires Inv-loop μ-loop
 drop-walk-requires c κs =
     let v = c .before .before .before .loop .inv .2 in
-    (v .desk, (omega arith, v .within))
+    (v .kept .desk, (omega arith, v .within))
 
 enum-known-m1 : tie.Need-enum-known-m1 Inv-loop μ-loop
 enum-known-m1 c = search needs
@@ -82,7 +82,7 @@ returns-2 : tie.Need-returns-2 Inv-loop μ-loop
 returns-2 c =
     let loop = c .before in
     let v = loop .loop .inv .2 in
-    (removal-done (loop .before .first-level .ensures) (loop .before .before .before .before .pre .1) (removing-all (omega (arith, c .loop-test .left)) v), v .desk)
+    (removal-done (loop .before .first-level .ensures) (loop .before .before .before .before .pre .1) (removing-all (omega (arith, c .loop-test .left)) v), v .kept)
 
 pub drops-row-spec : {M : Type 1} → statement M
 drops-row-spec =

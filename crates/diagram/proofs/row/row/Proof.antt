@@ -19,6 +19,9 @@ enum-known-x c = search needs
 cube-requires : tie.Need-cube-requires
 cube-requires c κs = search needs
 
+uncounted-requires : tie.Need-uncounted-requires
+uncounted-requires c κs = search needs
+
 enum-known-x-2 : tie.Need-enum-known-x-2
 enum-known-x-2 c = search needs
 
@@ -38,6 +41,9 @@ since-walk-requires : tie.Need-since-walk-requires
 since-walk-requires c κs =
     let s = c .before .before .before .before .before .before .before .before .before in
     (s .pre .0 .1, (omega arith, leads-to (s .pre .1 .1) _ (c .before .before .before .pick .ensures), within-no _ _ _, leads-to (s .pre .1 .1) _ (c .before .before .pick2 .ensures)))
+
+uncounted-requires-2 : tie.Need-uncounted-requires-2
+uncounted-requires-2 c κs = search needs
 
 enum-known-x-3 : tie.Need-enum-known-x-3
 enum-known-x-3 c = search needs
@@ -79,6 +85,9 @@ since-walk-requires-2 c κs =
     let s = c .before .before .before .before .before .before .before .before .before .before in
     (s .pre .0 .1, (omega arith, leads-to (s .pre .1 .1) _ (c .before .before .before .before .pick4 .ensures), leads-to (s .pre .1 .1) _ (c .before .before .before .pick5 .ensures), leads-to (s .pre .1 .0) _ (c .before .before .pick6 .ensures)))
 
+uncounted-requires-3 : tie.Need-uncounted-requires-3
+uncounted-requires-3 c κs = search needs
+
 enum-known-x-5 : tie.Need-enum-known-x-5
 enum-known-x-5 c = search needs
 
@@ -95,6 +104,9 @@ drops-row-requires : tie.Need-drops-row-requires
 drops-row-requires c κs =
     let s = c .before .before .before .before .before .before .before .before in
     (s .pre .0, leads-to (s .pre .1 .1) _ (c .before .before .pick8 .ensures))
+
+uncounted-requires-4 : tie.Need-uncounted-requires-4
+uncounted-requires-4 c κs = search needs
 
 returns : tie.Need-returns
 returns c =
@@ -114,9 +126,9 @@ same-length-2 c = search needs
 
 returns-3 : tie.Need-returns-3
 returns-3 c =
-    let done = c .before .before .before .before .cube in
-    let s = c .before .before .before .before .before .before .before .before .before .before .before .before in
-    rw (c .before .before .before .before .before .before .before .before .x .given .1) (row-cube (s .args .k) (s .args .nodes .now) (done .last .0) (s .args .n) (now (s .args .olds)) (now (s .args .news)) (s .args .i) (done .last .1 .0) (s .args .c) (s .args .slots) _ _ _ _ (done .result) (desk-added (s .pre .0 .1) (done .last .1 .0) (done .last .0) _ (done .result) (done .ensures)))
+    let done = c .before .before .before .before .before .cube in
+    let s = c .before .before .before .before .before .before .before .before .before .before .before .before .before in
+    rw (c .before .before .before .before .before .before .before .before .before .x .given .1, c .uncounted .ensures) (row-cube (s .args .k) (now (s .args .olds)) (now (s .args .news)) (s .args .i) (s .pre .0 .1) (done .last .0) (done .last .1 .0) _ _ _ _ (done .result) (desk-added (s .pre .0 .1) (done .last .1 .0) (done .last .0) _ (done .result) (done .ensures)))
 
 same-length-3 : tie.Need-same-length-3
 same-length-3 c = search needs
@@ -126,9 +138,9 @@ same-length-4 c = search needs
 
 returns-4 : tie.Need-returns-4
 returns-4 c =
-    let done = c .before .before .before .before .since-walk in
-    let s = c .before .before .before .before .before .before .before .before .before .before .before .before .before .before in
-    rw (c .before .before .before .before .before .before .before .before .before .before .x2 .given .1) (row-and (s .args .k) (s .args .nodes .now) (done .last .0) (s .args .n) (now (s .args .olds)) (now (s .args .news)) (s .args .i) (done .last .1 .0) (s .args .c) (s .args .slots) _ _ (done .result) (rw (c .before .before .before .before .before .before .before .before .pick .ensures, c .before .before .before .before .before .before .before .pick2 .ensures) at (done .ensures)))
+    let done = c .before .before .before .before .before .since-walk in
+    let s = c .before .before .before .before .before .before .before .before .before .before .before .before .before .before .before in
+    rw (c .before .before .before .before .before .before .before .before .before .before .before .x2 .given .1, c .uncounted2 .ensures) (row-and (s .args .k) (now (s .args .olds)) (now (s .args .news)) (s .args .i) (s .pre .0 .1) (done .last .0) (done .last .1 .0) _ _ (done .result) (rw (c .before .before .before .before .before .before .before .before .before .pick .ensures, c .before .before .before .before .before .before .before .before .pick2 .ensures) at (done .ensures)))
 
 same-length-5 : tie.Need-same-length-5
 same-length-5 c = search needs
@@ -140,7 +152,7 @@ returns-5 : tie.Need-returns-5
 returns-5 c =
     let done = c .before .before .before .before .not-walk in
     let s = c .before .before .before .before .before .before .before .before .before .before .before .before .before in
-    rw (c .before .before .before .before .before .before .before .before .before .x3 .given .1) (row-not (s .args .k) (s .args .nodes .now) (done .last .0) (s .args .n) (now (s .args .olds)) (now (s .args .news)) (s .args .i) (done .last .1 .0) (s .args .c) (s .args .slots) _ (done .result) (rw (c .before .before .before .before .before .before .before .pick3 .ensures) at (done .ensures)))
+    rw (c .before .before .before .before .before .before .before .before .before .x3 .given .1) (row-not (s .args .k) (now (s .args .olds)) (now (s .args .news)) (s .args .i) (s .pre .0 .1) (done .last .0) (done .last .1 .0) (s .pre .1 .1) _ (done .result) (rw (c .before .before .before .before .before .before .before .pick3 .ensures) at (done .ensures)))
 
 same-length-7 : tie.Need-same-length-7
 same-length-7 c = search needs
@@ -150,9 +162,9 @@ same-length-8 c = search needs
 
 returns-6 : tie.Need-returns-6
 returns-6 c =
-    let done = c .before .before .before .before .since-walk2 in
-    let s = c .before .before .before .before .before .before .before .before .before .before .before .before .before .before .before in
-    rw (c .before .before .before .before .before .before .before .before .before .before .before .x4 .given .1) (row-since (s .args .k) (s .args .nodes .now) (done .last .0) (s .args .n) (now (s .args .olds)) (now (s .args .news)) (s .args .i) (done .last .1 .0) (s .args .c) (s .args .slots) _ _ _ _ _ (c .before .before .before .before .before .before .before .before .before .pick4 .ensures) (c .before .before .before .before .before .before .before .before .pick5 .ensures) (c .before .before .before .before .before .before .before .pick6 .ensures) (done .result) (done .ensures))
+    let done = c .before .before .before .before .before .since-walk2 in
+    let s = c .before .before .before .before .before .before .before .before .before .before .before .before .before .before .before .before in
+    rw (c .before .before .before .before .before .before .before .before .before .before .before .before .x4 .given .1, c .uncounted3 .ensures) (row-since (s .args .k) (now (s .args .olds)) (now (s .args .news)) (s .args .i) (s .pre .0 .1) (done .last .0) (done .last .1 .0) _ _ _ _ _ (c .before .before .before .before .before .before .before .before .before .before .pick4 .ensures) (c .before .before .before .before .before .before .before .before .before .pick5 .ensures) (c .before .before .before .before .before .before .before .before .pick6 .ensures) (done .result) (done .ensures))
 
 returns-7 : tie.Need-returns-7
 returns-7 c =
@@ -167,9 +179,9 @@ same-length-10 c = search needs
 
 returns-8 : tie.Need-returns-8
 returns-8 c =
-    let done = c .before .before .before .before .drops-row in
-    let s = c .before .before .before .before .before .before .before .before .before .before .before .before .before in
-    rw (c .before .before .before .before .before .before .before .before .before .x6 .given .1) (row-drop (s .args .k) (s .args .nodes .now) (done .last .0) (s .args .n) (now (s .args .olds)) (now (s .args .news)) (s .args .i) (done .last .1 .0) (s .args .c) (s .args .slots) _ _ (done .result) (rw (c .before .before .before .before .before .before .before .pick8 .ensures) at (done .ensures)))
+    let done = c .before .before .before .before .before .drops-row in
+    let s = c .before .before .before .before .before .before .before .before .before .before .before .before .before .before in
+    rw (c .before .before .before .before .before .before .before .before .before .before .x6 .given .1, c .uncounted4 .ensures) (row-drop (s .args .k) (now (s .args .olds)) (now (s .args .news)) (s .args .i) (s .pre .0 .1) (done .last .0) (done .last .1 .0) _ _ (done .result) (rw (c .before .before .before .before .before .before .before .before .pick8 .ensures) at (done .ensures)))
 
 pub row-spec : {M : Type 1} → statement M
 row-spec =
@@ -179,12 +191,14 @@ row-spec =
     enum-told-2
     enum-known-x
     cube-requires
+    uncounted-requires
     enum-known-x-2
     pick-requires
     pick-requires-2
     mul-since-walk
     mul-since-walk-2
     since-walk-requires
+    uncounted-requires-2
     enum-known-x-3
     pick-requires-3
     mul-not-walk
@@ -197,11 +211,13 @@ row-spec =
     mul-since-walk-3
     mul-since-walk-4
     since-walk-requires-2
+    uncounted-requires-3
     enum-known-x-5
     pick-requires-7
     enum-known-x-6
     pick-requires-8
     drops-row-requires
+    uncounted-requires-4
     returns
     returns-2
     same-length
