@@ -14,7 +14,6 @@ use Rattle.diagram.specs.declared.Instruction.{Instruction}
 use Rattle.diagram.specs.declared.Instruction.the-variants.{Yes, No, Cube, And, Not, Since, Old, Drop}
 use Rattle.diagram.specs.declared.Told.{Told}
 use Rattle.diagram.specs.declared.Told.the-variants.{Unfit, Bad, Full, Done}
-use Rattle.diagram.specs.declared.Stepped.{Stepped}
 use Rattle.diagram.specs.declared.Formed.{Formed}
 use Rattle.diagram.specs.declared.Formed.the-variants as formed
 use Rattle.making.specs.Cubes.{cubeSays}
@@ -121,10 +120,10 @@ stepOutcome k count plan allowed refs kept ns w =
     judge (fits k count (length ns) (length w)) (wellKept (freeBy k allowed) (length ns / 3) count refs kept ns) refs ns w
     (workOutcome (leb (length (workTable k count plan refs kept ns)) (length ns / 3)) k count plan refs kept ns w)
 
--- a step that gave this back and left these slices had this outcome
-pub record Leaves (o : Outcome) (gives : Stepped) (ns w : List ℕ) : Type 0 where
-  pub told : gives .told ≡ o .told
-  pub refs : gives .refs ≡ o .refs
+-- a step that told this and left these references and slices had this outcome
+pub record Leaves (o : Outcome) (t : Told) (refs′ ns w : List ℕ) : Type 0 where
+  pub told : t ≡ o .told
+  pub refs : refs′ ≡ o .refs
   pub nodes : ns ≡ o .nodes
   pub work : w ≡ o .work
 

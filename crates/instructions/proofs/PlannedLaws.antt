@@ -1,13 +1,13 @@
--- How a plan grows row by row, and that a whole one is the event's. Assumes nothing.
-use Prim.Native.Nat.{ℕ, suc, _+_, _*_, _<_, _≤_}
+-- The plan that is read off the rows is the event's. Assumes nothing.
+use Prim.Native.Nat.{ℕ, zero, suc, _+_, _<_}
 use mathlib.Core.Path.{_≡_, refl, ap, sym, _∙_}
-use mathlib.Core.Bool.{Bool}
-use mathlib.Core.List.{List}
+use mathlib.Core.List.{List, [], _∷_}
 use mathlib.Core.Logic.{⊎-elim}
+use native.Mathlib.Nat.{eq-or-lt-of-le}
+use native.Mathlib.Numerals.{add-one}
 use native.Mathlib.Omega.{arith}
-use lib.ListN.{length, getD, replicate, set, length-set, getD-replicate, length-replicate}
-use lib.Seq.{getD-set-same, getD-set-other}
-use Rattle.trees.proofs.Tests.{lt-or-ge}
+use lib.ListN.{length, getD, length-append, List·getD-append}
+use lib.Seq.{getD-append-seam}
 use Rattle.meaning.specs.declared.Event.{Event}
 use Rattle.meaning.specs.Qtl.{Fact}
 use Rattle.meaning.specs.Rows.{Row, truth, atom, both, neg, since, previous, exists, rowCount, rowAt, ruleOf}
@@ -18,31 +18,33 @@ use Rattle.rule.specs.Decoded.{rowOf, rowReadAt}
 use Rattle.rule.proofs.DecodedLaws.{row-says}
 use Rattle.numbers.specs.Matching.{matchesRow}
 use Rattle.diagram.specs.declared.Instruction.{Instruction}
-use Rattle.diagram.specs.declared.Instruction.the-variants.{Yes, No}
+use Rattle.diagram.specs.declared.Instruction.the-variants.{Yes}
 use Rattle.instructions.specs.Plan.{instructionOf}
 use Rattle.instructions.specs.Read.{instructionRead}
-use Rattle.instructions.specs.Planned.{PlannedTo, Planned}
+use Rattle.instructions.specs.Planned.{asked, plannedTo, planned}
 use Rattle.instructions.proofs.ReadLaws.{NumbersRight, matchedRight, instruction-reads}
 
--- nothing is planned yet
-pub planned-none : (raw : List ℕ) (e : Event) (given : List ℕ) → PlannedTo raw e given 0 (replicate 64 No)
-planned-none raw e given = record {
-  size = length-replicate 64 No;
-  each = λ i h. absurd (omega arith);
-  rest = λ i h l. getD-replicate 64 i No Yes l;
-}
+-- a plan has an instruction for each row
+pub planned-length : (raw : List ℕ) (e : Event) (given : List ℕ) (n : ℕ) → length (plannedTo raw e given n) ≡ n
+unfolding plannedTo
+planned-length raw e given zero = refl
+planned-length raw e given (suc n) = length-append (plannedTo raw e given n) (asked raw e given n ∷ []) ∙ rw (planned-length raw e given n) (add-one n)
 
--- one row more
-pub planned-more : (raw : List ℕ) (e : Event) (given : List ℕ) (n : ℕ) (plan : List Instruction) (x : Instruction) → n < 64
-    → x ≡ instructionRead (rowReadAt raw n) (matchesRow (factOf e) (rowAt raw n)) given → PlannedTo raw e given n plan → PlannedTo raw e given (suc n) (set plan n x)
-planned-more raw e given n plan x l q p = record {
-  size = length-set plan n x ∙ p .size;
-  each = λ i h. ⊎-elim
-      (λ (k : i < n). getD-set-other plan n i x Yes (λ z. omega arith) ∙ p .each i k)
-      (λ (k : n ≤ i). let z : i ≡ n = omega arith in rw z (getD-set-same plan n x Yes (omega (arith, p .size)) ∙ q))
-      (lt-or-ge i n);
-  rest = λ i h k. getD-set-other plan n i x Yes (λ z. omega arith) ∙ p .rest i (omega arith) k;
-}
+-- and it is what the row asks
+planned-to : (raw : List ℕ) (e : Event) (given : List ℕ) (n i : ℕ) → i < n → getD (plannedTo raw e given n) i Yes ≡ asked raw e given i
+unfolding plannedTo
+planned-to raw e given zero i h = absurd (omega arith)
+planned-to raw e given (suc n) i h = ⊎-elim
+    (λ z.
+    let q : i ≡ length (plannedTo raw e given n) = (let w : i ≡ n = omega arith in w) ∙ sym (planned-length raw e given n) in
+    rw (q, getD-append-seam (plannedTo raw e given n) (asked raw e given n) [] Yes) (ap (asked raw e given) (sym (planned-length raw e given n))))
+    (λ k. List·getD-append (plannedTo raw e given n) (asked raw e given n ∷ []) Yes i (omega (arith, planned-length raw e given n)) ∙ planned-to raw e given n i (omega arith))
+    (eq-or-lt-of-le h)
+
+-- what the plan has at a row
+pub planned-at : (raw : List ℕ) (e : Event) (given : List ℕ) (i : ℕ) → i < rowCount raw → getD (planned raw e given) i Yes ≡ instructionRead (rowReadAt raw i) (matchesRow (factOf e) (rowAt raw i)) given
+unfolding planned asked
+planned-at raw e given i h = planned-to raw e given (rowCount raw) i h
 
 -- what `matches` answers is right of any row
 matched-is : (e : Fact) (r : Row) → matchedRight e r (matchesRow e r)
@@ -55,14 +57,14 @@ matched-is e (since l r) = tt
 matched-is e (previous r) = tt
 matched-is e (exists x r) = tt
 
--- a whole plan asks of each row what the event asks of it
-pub planned-is : (raw : List ℕ) (e : Event) (given : List ℕ) (L : Lists) (plan : List Instruction) → Planned raw e given plan
+-- the plan asks of each row what the event asks of it
+pub planned-is : (raw : List ℕ) (e : Event) (given : List ℕ) (L : Lists)
     → ((i : ℕ) → i < rowCount raw → NumbersRight (factOf e) (askRows (factOf e) L (ruleOf raw)) (rowAt raw i) given)
-    → (i : ℕ) → i < length (ruleOf raw) → getD plan i Yes ≡ instructionOf (askRows (factOf e) L (ruleOf raw)) (factOf e) (getD (ruleOf raw) i truth)
+    → (i : ℕ) → i < length (ruleOf raw) → getD (planned raw e given) i Yes ≡ instructionOf (askRows (factOf e) L (ruleOf raw)) (factOf e) (getD (ruleOf raw) i truth)
 unfolding ruleOf
-planned-is raw e given L plan p n i h =
+planned-is raw e given L n i h =
     let l : i < rowCount raw = rw rows-length at h in
     let a : getD (ruleOf raw) i truth ≡ rowAt raw i = rows-at raw (rowCount raw) i l in
-    p .each i l
+    planned-at raw e given i l
     ∙ instruction-reads (askRows (factOf e) L (ruleOf raw)) (factOf e) (rowReadAt raw i) (matchesRow (factOf e) (rowAt raw i)) given (rw (row-says raw i) (n i l)) (rw (row-says raw i) (matched-is (factOf e) (rowAt raw i)))
     ∙ rw (row-says raw i, a)

@@ -1,33 +1,23 @@
--- What the plan of an event holds. Assumes nothing: these are definitions.
-use Prim.Native.Nat.{ℕ, _<_, _≤_}
-use mathlib.Core.Path.{_≡_}
-use mathlib.Core.List.{List}
-use lib.ListN.{length, getD}
+-- The plan of an event as the code reads it off the rows, one after the other. Assumes nothing: these are definitions.
+use Prim.Native.Nat.{ℕ, zero, suc}
+use mathlib.Core.List.{List, [], _∷_, _++_}
 use Rattle.meaning.specs.declared.Event.{Event}
 use Rattle.meaning.specs.Rows.{rowCount, rowAt}
 use Rattle.meaning.specs.Outcome.{factOf}
 use Rattle.rule.specs.Decoded.{rowReadAt}
 use Rattle.numbers.specs.Matching.{matchesRow}
 use Rattle.diagram.specs.declared.Instruction.{Instruction}
-use Rattle.diagram.specs.declared.Instruction.the-variants.{Yes, No}
-use Rattle.diagram.specs.declared.Told.{Told}
-use Rattle.diagram.specs.Steps.{stepOutcome, Leaves}
 use Rattle.instructions.specs.Read.{instructionRead}
 
--- the first n places of the plan hold their rows' instructions, and the others No
-pub record PlannedTo (raw : List ℕ) (e : Event) (given : List ℕ) (n : ℕ) (plan : List Instruction) : Type 0 where
-  pub size : length plan ≡ 64
-  pub each : (i : ℕ) → i < n → getD plan i Yes ≡ instructionRead (rowReadAt raw i) (matchesRow (factOf e) (rowAt raw i)) given
-  pub rest : (i : ℕ) → n ≤ i → i < 64 → getD plan i Yes ≡ No
+-- what row i asks, with the numbers of the event's values in a table
+unfoldable pub asked : List ℕ → Event → List ℕ → ℕ → Instruction
+asked raw e given i = instructionRead (rowReadAt raw i) (matchesRow (factOf e) (rowAt raw i)) given
 
--- all rows of the rule
-abbrev pub Planned : List ℕ → Event → List ℕ → List Instruction → Type 0
-Planned raw e given plan = PlannedTo raw e given (rowCount raw) plan
+-- what the first n rows ask
+unfoldable pub plannedTo : List ℕ → Event → List ℕ → ℕ → List Instruction
+plannedTo raw e given zero = []
+plannedTo raw e given (suc i) = plannedTo raw e given i ++ asked raw e given i ∷ []
 
--- a step that told this and left these references and slices had the outcome of the event's plan
-pub record Steps (k : ℕ) (raw : List ℕ) (e : Event) (given free refs : List ℕ) (kept : ℕ) (ns w : List ℕ) (t : Told) (refs′ ns′ w′ : List ℕ) : Type 0 where
-  pub plan : List Instruction
-  pub planned : Planned raw e given plan
-  pub complements : ℕ
-  pub swept : ℕ
-  pub leaves : Leaves (stepOutcome k (rowCount raw) plan free refs kept ns w) (record { told = t; refs = refs′; complements = complements; swept = swept }) ns′ w′
+-- what all rows of the rule ask
+unfoldable pub planned : List ℕ → Event → List ℕ → List Instruction
+planned raw e given = plannedTo raw e given (rowCount raw)

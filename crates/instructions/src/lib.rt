@@ -1,18 +1,14 @@
 // What the rows of a rule ask of the diagrams in one event: each row is read as one instruction.
 use diagram::Instruction;
-use diagram::Told;
 use making::Number;
 use making::Place;
-use meaning::Event;
 use rule::Argument;
 use rule::Row;
 ghost use mathlib.Core.Path.{_≡_};
 ghost use mathlib.Core.List.{[], _∷_};
-ghost use Prim.Native.Nat.{_<_, _≤_};
-ghost use lib.ListN.{length, take};
+ghost use Prim.Native.Nat.{_<_};
+ghost use lib.ListN.{take};
 ghost use Rattle.rule.specs.Decoded.{argumentOf};
-ghost use Rattle.meaning.specs.Rows.{right, checkRows};
-ghost use Rattle.instructions.specs.Planned.{Planned, Steps};
 ghost use Rattle.instructions.specs.Read.{names, numberRead, placeRead, instructionRead};
 
 // The argument is the variable `v`.
@@ -83,47 +79,4 @@ pub fn instruction(row: Row, matched: bool, numbers: [u32; 12]) -> Instruction
         Row::Previous(r) => Instruction::Old(r),
         Row::Exists(x, r) => Instruction::Drop(x, r),
     }
-}
-
-// The plan of an event: the instruction of each row. The caller has checked the rule and the event's count (refusals 2 and 5).
-pub fn plan(rows: &[u32], event: Event, given: [u32; 12]) -> [Instruction; 64]
-    requires { ⌜ (checkRows (now rows) ≡ right) × (event .count ≤ 3) ⌝ }
-    ensures { λ r. ⌜ Planned (now (rows .entry)) event given r ⌝ }
-{
-    let mut all = [Instruction::No; 64];
-    let n = rows.len() / 9;
-    let mut i: usize = 0;
-    while i < n {
-        let row = rule::row_at(rows, i);
-        let matched = numbers::matches(rows, i, event);
-        all[i] = instruction(row, matched, given);
-        i += 1;
-    }
-    all
-}
-
-// Works the event on the diagrams: each row's instruction, in order. The references become the new ones where it is done.
-pub fn step(
-    k: u32,
-    rows: &[u32],
-    event: Event,
-    given: [u32; 12],
-    free: &[u32; 64],
-    refs: &mut [u32; 64],
-    kept: u32,
-    nodes: &mut [u32],
-    work: &mut [u32],
-) -> Told
-    requires { ⌜ (checkRows (now rows) ≡ right) × (event .count ≤ 3) ⌝ }
-    ensures { λ t. ⌜ Steps k (now (rows .entry)) event given (now (free .entry)) (now (refs .entry)) kept (now (nodes .entry)) (now (work .entry)) t (now (refs .exit)) (now (nodes .exit)) (now (work .exit)) ⌝ }
-{
-    let n = rows.len() / 9;
-    let all = plan(rows, event, given);
-    let allowed = *free;
-    let before = *refs;
-    let stepped = diagram::step(k, n as u32, all, allowed, before, kept, nodes, work);
-    let after = stepped.refs;
-    *refs = after;
-    let told = stepped.told;
-    told
 }

@@ -82,7 +82,7 @@ fn work_on(
     ensures { λ t. ⌜ Happens (now (rows .entry)) (machine (whole figures (now (refs .entry))) (now (nodes .entry)) (now (values .entry)) (now (work .entry))) event (turnOf t (now (refs .exit))) (now (nodes .exit)) (now (values .exit)) (now (work .exit)) ⌝ }
 {
     let given = asked.numbers;
-    let told = instructions::step(
+    let stepped = stepping::step(
         figures.k,
         rows,
         event,
@@ -93,6 +93,7 @@ fn work_on(
         nodes,
         work,
     );
+    let told = stepped.told;
     match told {
         Told::Done(kept, room) => {
             let old = figures.counts;

@@ -11,7 +11,7 @@ use lib.Seq.{length-take-le, getD-take, getD-drop}
 use Rattle.trees.specs.Tree.{Tree, node}
 use Rattle.trees.specs.Table.{mem, at, treesOf}
 use Rattle.trees.proofs.Tests.{not-true}
-use Rattle.trees.proofs.TreeLaws.{node-fine, fine-lower}
+use Rattle.trees.proofs.TreeLaws.{node-fine}
 use Rattle.trees.proofs.TableLaws.{at-index, mem-place}
 use Rattle.trees.proofs.RoomLaws.{pigeon}
 use Rattle.trees.proofs.ReadLaws.{length-trees}
@@ -41,19 +41,14 @@ notes-le m n f each =
       | no h ↦ (0, λ k. absurd (h k))
     ]
 
--- the sides of a node stand before it
-pub sides-before : {ns : List ℕ} {m r l a b : ℕ} → Table ns m → 2 ≤ r → r < m + 2 → Splits ns m r l a b → (a < r) × (b < r)
-sides-before {r = r} t h k s =
-    let i = numbers-are t h k s in
-    let z = t .back (r - 2) (omega arith) in
-    (omega (arith, i .low), omega (arith, i .high))
-
--- and are reduced and ordered like it
-pub sides-ordered : {ns : List ℕ} {m r l a b : ℕ} → Ordered ns m r → Splits ns m r l a b → Ordered ns m a × Ordered ns m b
+-- a node has a level of its own, and its sides are reduced and ordered over the levels below it
+pub sides-ordered : {ns : List ℕ} {m left r l a b : ℕ} → Ordered ns m left r → Splits ns m r l a b → (1 ≤ left) × Ordered ns m (left - 1) a × Ordered ns m (left - 1) b
 sides-ordered {l = l} o s =
-    let g = node-fine 0 (o .levels) l _ _ (rw (s .is) at (o .fine)) in (
-      record { below = s .low; levels = o .levels; fine = fine-lower (suc l) (o .levels) 0 _ (omega arith) (g .2) },
-      record { below = s .high; levels = o .levels; fine = fine-lower (suc l) (o .levels) 0 _ (omega arith) (g .3) },
+    let g = node-fine (o .lo) (o .hi) l _ _ (rw (s .is) at (o .fine)) in
+    let d = o .deep in (
+      omega (arith, g .0, g .1),
+      record { below = s .low; lo = suc l; hi = o .hi; fine = g .2; deep = omega (arith, g .0, g .1) },
+      record { below = s .high; lo = suc l; hi = o .hi; fine = g .3; deep = omega (arith, g .0, g .1) },
     )
 
 -- a table with its notes
@@ -67,13 +62,13 @@ module _ {ns : List ℕ} {m : ℕ} {w : List ℕ} {c n : ℕ} (o : Noted ns m w 
   note-is i h = getD-take m (drop (3 * c) w) i 0 h ∙ getD-drop (3 * c) w i 0
 
   -- a sweep makes few visits: their sum does not wrap
-  pub few-visits : {p n′ r v : ℕ} {w′ : List ℕ} → Ordered ns m p → Emitted ns m p w w′ c n n′ r v → v ≤ 2 * m + 1
+  pub few-visits : {left p n′ r v : ℕ} {w′ : List ℕ} → Ordered ns m left p → Emitted ns m p w w′ c n n′ r v → v ≤ 2 * m + 1
   unfolding sweep
-  few-visits {p} q e =
+  few-visits {left} {p} q e =
       let long : length (notesOf m c w) ≡ m = length-take-le m (drop (3 * c) w) (rw length-drop (omega (arith, few, o .room))) in
-      let f = walk-fits ns m (o .source .back) (o .source .one) (λ r. r) (q .levels) (q .levels) (treesOf (take (3 * c) w) n) (notesOf m c w) p 0 (q .below) (q .fine) (omega arith)
+      let f = walk-fits ns m (o .source .back) (o .source .one) (λ r. r) (q .hi) left (treesOf (take (3 * c) w) n) (notesOf m c w) p (q .lo) (q .below) (q .fine) (q .deep)
       (omega arith) in
-      omega (arith, e .counted 0 (q .levels) (q .levels) (q .fine) (omega arith) .visits)
+      omega (arith, e .counted (q .lo) (q .hi) left (q .fine) (q .deep) .visits)
 
   -- a leaf: nothing is added
   pub swept-leaf : (r : ℕ) → r < 2 → Emitted ns m r w w c n n r 1

@@ -18,31 +18,30 @@ use Rattle.nodes.specs.Nodes.{Rest, Table, Zeroed, Rows, canonical}
 use Rattle.nodes.proofs.ReadLaws.{grown-goes, canonical-suc}
 use Rattle.visits.specs.Visits.{sweeps, RefinesAll}
 use Rattle.visits.proofs.VisitSteps.{sweeps-more}
-use Rattle.sweeping.specs.Sweeps.{Ordered, Noted, notesOf, Emitted, sweepOf, Copied, Renewal}
+use Rattle.sweeping.specs.Sweeps.{Ordered, Noted, notesOf, Emitted, sweepOf, Awaits, Copied, Renewal}
 use Rattle.sweeping.proofs.NoteLaws.{few-visits}
 
 -- each row's diagram is reduced and ordered
-pub rows-ordered : {ns : List ℕ} {m levels : ℕ} {refs : List ℕ} {count : ℕ} → Rows ns m levels refs count → (i : ℕ) → i < count → Ordered ns m (getD refs i 0)
-rows-ordered {levels = levels} rows i h = record { below = rows .inside i h; levels = levels; fine = rows .fine i h }
+pub rows-ordered : {ns : List ℕ} {m levels : ℕ} {refs : List ℕ} {count : ℕ} → Rows ns m levels refs count → (i : ℕ) → i < count → Ordered ns m levels (getD refs i 0)
+rows-ordered {levels = levels} rows i h = record { below = rows .inside i h; lo = 0; hi = levels; fine = rows .fine i h; deep = omega arith }
 
 -- the sweep of the first i references
-pub record Going (ns : List ℕ) (m levels : ℕ) (refs w₀ w : List ℕ) (c n i : ℕ) (out : List ℕ) (v : ℕ) : Type 0 where
+pub record Going (ns : List ℕ) (m levels : ℕ) (refs : List ℕ) (count : ℕ) (w₀ w : List ℕ) (c n i : ℕ) (out : List ℕ) (v : ℕ) : Type 0 where
   pub notes : Noted ns m w c n
   pub trees : treesOf (take (3 * c) w) n ≡ canonical ns m refs i
   pub refs-are : (j : ℕ) → j < i → Ref (treesOf (take (3 * c) w) n) (getD out j 0) (at (treesOf ns m) (getD refs j 0))
-  pub none : (j : ℕ) → i ≤ j → getD out j 0 ≡ 0
-  pub wide : length out ≡ 64
+  pub awaits : Awaits count out
   pub size : length w ≡ length w₀
   pub rest : Rest (4 * c) w₀ w
   pub counted : RefinesAll (sweepOf ns m levels refs i) (treesOf (take (3 * c) w) n) (notesOf m c w) (take i out) v
   pub small : v ≤ 8193 * i
 
 -- before the first reference: an empty table and no notes
-pub going-none : (ns : List ℕ) (m levels : ℕ) (refs w : List ℕ) (c : ℕ) → Table ns m → length ns ≡ 3 * c → 4 * c ≤ length w
+pub going-none : (ns : List ℕ) (m levels : ℕ) (refs : List ℕ) (count : ℕ) (w : List ℕ) (c : ℕ) (out : List ℕ) → Table ns m → length ns ≡ 3 * c → 4 * c ≤ length w
     → ((i : ℕ) → 3 * c ≤ i → i < 3 * c + m → getD w i 0 ≡ 0)
-    → Going ns m levels refs w w c 0 0 (replicate 64 0) 0
+    → Awaits count out → Going ns m levels refs count w w c 0 0 out 0
 unfolding canonical diagrams addTrees treesOf at sweeps
-going-none ns m levels refs w c t size room zeros =
+going-none ns m levels refs count w c out t size room zeros awaits =
     let f = t .fits in
     record {
       notes =
@@ -62,8 +61,7 @@ going-none ns m levels refs w c t size room zeros =
           };
       trees = refl;
       refs-are = λ j h. absurd (omega arith);
-      none = λ j h. zeros-at 64 j;
-      wide = length-replicate {A = ℕ} 64 0;
+      awaits = awaits;
       size = refl;
       rest = record { eq = λ i h. refl };
       counted = record { table = refl; notes = sym (no-notes f); answers = refl; visits = refl };
@@ -87,27 +85,26 @@ going-none ns m levels refs w c t size room zeros =
 
 -- one reference more
 pub going-more : {ns : List ℕ} {m levels : ℕ} {refs w₀ w w′ : List ℕ} {c n n′ i count : ℕ} {out : List ℕ} {r v u : ℕ} → Rows ns m levels refs count → i < count → i < length refs
-    → length w′ ≡ length w → Going ns m levels refs w₀ w c n i out v → Emitted ns m (getD refs i 0) w w′ c n n′ r u → Going ns m levels refs w₀ w′ c n′ (i + 1) (set out i r) (v + u)
+    → length w′ ≡ length w → Going ns m levels refs count w₀ w c n i out v → Emitted ns m (getD refs i 0) w w′ c n n′ r u → Going ns m levels refs count w₀ w′ c n′ (i + 1) (set out i r) (v + u)
 going-more {ns} {m} {levels} {refs} {w = w} {w′} {c} {n} {n′} {i} {out = out} {r} {v} {u} rows few long len g e = record {
   notes = e .notes;
   trees = e .grown .trees ∙ ap (λ (ts : List Tree). addTree ts (at (treesOf ns m) (getD refs i 0))) (g .trees) ∙ sym (canonical-suc ns m refs i long);
   refs-are = λ j h. go j h (ℕ-discrete j i);
-  none = λ j h. getD-set-other out i j r 0 (omega arith) ∙ g .none j (omega arith);
-  wide = length-set out i r ∙ g .wide;
+  awaits = record { wide = length-set out i r ∙ g .awaits .wide; none = λ j h. getD-set-other out i j r 0 (omega arith) ∙ g .awaits .none j h };
   size = len ∙ g .size;
   rest = record { eq = λ j h. e .rest .eq j h ∙ g .rest .eq j h };
   counted =
-      rw (add-one i, take-suc refs i 0 long, take-suc-set out i r (omega (arith, g .wide, rows .few)))
+      rw (add-one i, take-suc refs i 0 long, take-suc-set out i r (omega (arith, g .awaits .wide, rows .few)))
       (sweeps-more ns levels [] (replicate m 0) (take i refs) (getD refs i 0) (g .counted) (e .counted 0 levels levels (rows .fine i few) (omega arith)));
   small = (let t = g .notes .source in omega (arith, g .small, t .small, t .fits, few-visits (g .notes) (rows-ordered rows i few) e));
 }
   where
     go : (j : ℕ) → j < i + 1 → Dec (j ≡ i) → Ref (treesOf (take (3 * c) w′) n′) (getD (set out i r) j 0) (at (treesOf ns m) (getD refs j 0))
-    go j h (yes q) = rw (q, getD-set-same out i r 0 (omega (arith, g .wide, rows .few))) (e .grown .ref)
+    go j h (yes q) = rw (q, getD-set-same out i r 0 (omega (arith, g .awaits .wide, rows .few))) (e .grown .ref)
     go j h (no q) = rw (getD-set-other out i j r 0 q) (goes-ref (grown-goes (e .grown)) (g .refs-are j (omega arith)))
 
 -- all of them
-pub going-all : {ns : List ℕ} {m levels : ℕ} {refs w₀ w : List ℕ} {c n i : ℕ} {out : List ℕ} {v : ℕ} → Going ns m levels refs w₀ w c n i out v → Copied ns m levels refs i w₀ w c n out v
+pub going-all : {ns : List ℕ} {m levels : ℕ} {refs w₀ w : List ℕ} {c n i : ℕ} {out : List ℕ} {v : ℕ} → Going ns m levels refs i w₀ w c n i out v → Copied ns m levels refs i w₀ w c n out v
 going-all {ns} {m} {refs = refs} {w = w} {c} {n} {i} {out} g =
     let t = g .notes .table in
     let few = g .notes .room in
@@ -119,9 +116,9 @@ going-all {ns} {m} {refs = refs} {w = w} {c} {n} {i} {out} g =
       numbers = sym (take-take (3 * n) (3 * c) w (omega arith)) ∙ numbers-show (take (3 * c) w) n (t .fits) (t .back) (t .one) ∙ ap (λ (ts : List Tree). show ts ts) (g .trees);
       references =
           record {
-            wide = g .wide;
+            wide = g .awaits .wide;
             is = λ j h. ref-is (take (3 * c) w) n (getD out j 0) _ (t .one) (g .refs-are j h) ∙ ap (λ (ts : List Tree). refOf ts (at (treesOf ns m) (getD refs j 0))) (g .trees);
-            none = g .none;
+            none = g .awaits .none;
           };
       rest = g .rest;
       answers = g .counted .answers;

@@ -74,11 +74,11 @@ module _ {ns : List ℕ} {m : ℕ} {w : List ℕ} {c n : ℕ} (o : Noted ns m w 
   swept-room = let e = notes-le m (n₂ + 1) (λ i. getD (set w₂ (3 * c + (r - 2)) (n₂ + 3)) (3 * c + i) 0) each in omega arith
 
   -- and the visits of both sides do not wrap
-  pub swept-fits : Ordered ns m r → v₁ + v₂ + 1 ≤ 16387
+  pub swept-fits : {left : ℕ} → Ordered ns m left r → v₁ + v₂ + 1 ≤ 16387
   swept-fits q =
       let d = sides-ordered q s in
       let t = o .source in
-      omega (arith, t .fits, t .small, few-visits o (d .0) g, few-visits (g .notes) (d .1) h)
+      omega (arith, t .fits, t .small, few-visits o (d .1) g, few-visits (g .notes) (d .2) h)
 
   front : List ℕ
   front = take (3 * c) w₂

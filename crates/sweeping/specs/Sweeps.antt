@@ -8,11 +8,13 @@ use Rattle.trees.specs.Table.{at, refOf, show, treesOf, Ref}
 use Rattle.nodes.specs.Nodes.{Table, Rest, Grown, canonical}
 use Rattle.visits.specs.Visits.{Swept, sweep, sweeps, Refines}
 
--- r leads to a reduced ordered diagram of the first m nodes, over some levels
-pub record Ordered (ns : List ℕ) (m r : ℕ) : Type 0 where
+-- r leads to a reduced ordered diagram of the first m nodes, over the last `left` levels, or fewer
+pub record Ordered (ns : List ℕ) (m left r : ℕ) : Type 0 where
   pub below : r < m + 2
-  pub levels : ℕ
-  pub fine : Fine 0 levels (at (treesOf ns m) r)
+  pub lo : ℕ
+  pub hi : ℕ
+  pub fine : Fine lo hi (at (treesOf ns m) r)
+  pub deep : hi ≤ lo + left
 
 -- the first 3 * c numbers of w hold a table of n nodes, and behind it stands, for each of the first m nodes of ns, 0 or one
 -- more than the reference of its tree in the table; every tree of the table has such a note
@@ -36,6 +38,11 @@ pub record Emitted (ns : List ℕ) (m p : ℕ) (w w′ : List ℕ) (c n n′ r v
   pub rest : Rest (4 * c) w w′
   pub counted : (lo hi left : ℕ) → Fine lo hi (at (treesOf ns m) p) → hi ≤ lo + left
       → Refines (sweep ns left (treesOf (take (3 * c) w) n) (notesOf m c w) p) (treesOf (take (3 * c) w′) n′) (notesOf m c w′) r v
+
+-- 64 numbers that wait for the references of the first `count` rows: 0 past them
+pub record Awaits (count : ℕ) (out : List ℕ) : Type 0 where
+  pub wide : length out ≡ 64
+  pub none : (i : ℕ) → count ≤ i → getD out i 0 ≡ 0
 
 -- the new references: each diagram's in the canonical table, and 0 past the rows
 pub record References (ns : List ℕ) (m : ℕ) (refs : List ℕ) (count : ℕ) (refs′ : List ℕ) : Type 0 where

@@ -9,7 +9,7 @@ ghost use Prim.Native.Nat.{ℕ, _+_, _*_, _-_, _/_, _<_, _≤_};
 ghost use mathlib.Core.List.{_++_};
 ghost use lib.ListN.{length, getD, set, take, replicate};
 ghost use Rattle.nodes.specs.Nodes.{Table, Rows};
-ghost use Rattle.sweeping.specs.Sweeps.{Noted, Ordered, Emitted, Copied, Renewal};
+ghost use Rattle.sweeping.specs.Sweeps.{Noted, Ordered, Emitted, Awaits, Copied, Renewal};
 
 // What the sweep of a diagram answers: the count of nodes of the new table, the diagram's reference there, and how many
 // visits the sweep took: one for each reference that it followed.
@@ -31,11 +31,11 @@ fn emit(work: &mut [u32], n: u32, j: usize, x: Node)
     work[j] = n + 3;
 }
 
-// Adds the diagram r of the first m nodes to the new table of n nodes. A leaf, or a node that has a note, is visited and goes
-// no further.
-fn sweep(nodes: &[u32], m: u32, work: &mut [u32], c: usize, n: u32, r: u32) -> Swept
+// Adds the diagram r of the first m nodes, over the levels that are left, to the new table of n nodes. A leaf, or a node that has
+// a note, is visited and goes no further.
+fn sweep(nodes: &[u32], m: u32, work: &mut [u32], c: usize, n: u32, left: u32, r: u32) -> Swept
     requires { ⌜ Noted (now nodes) m (now work) c n ⌝ }
-    requires { ⌜ Ordered (now nodes) m r ⌝ }
+    requires { ⌜ Ordered (now nodes) m left r ⌝ }
     ensures { λ x. ⌜ Emitted (now (nodes .entry)) m r (now (work .entry)) (now (work .exit)) c n (x .count) (x .reference) (x .visits) ⌝ }
 {
     if r < 2 {
@@ -47,7 +47,7 @@ fn sweep(nodes: &[u32], m: u32, work: &mut [u32], c: usize, n: u32, r: u32) -> S
     }
     let note = work[3 * c + (r as usize - 2)];
     if note == 0 {
-        return apart(nodes, m, work, c, n, r);
+        return apart(nodes, m, work, c, n, left, r);
     }
     Swept {
         count: n,
@@ -58,16 +58,16 @@ fn sweep(nodes: &[u32], m: u32, work: &mut [u32], c: usize, n: u32, r: u32) -> S
 
 // Adds the node r, which has no note, and its sides: low side first, then high, then the node itself. It is in the new table
 // nowhere, so it is written without a search.
-fn apart(nodes: &[u32], m: u32, work: &mut [u32], c: usize, n: u32, r: u32) -> Swept
+fn apart(nodes: &[u32], m: u32, work: &mut [u32], c: usize, n: u32, left: u32, r: u32) -> Swept
     requires { ⌜ Noted (now nodes) m (now work) c n ⌝ }
-    requires { ⌜ Ordered (now nodes) m r ⌝ }
+    requires { ⌜ Ordered (now nodes) m left r ⌝ }
     requires { ⌜ (2 ≤ r) × (getD (now work) (3 * c + (r - 2)) 0 ≡ 0) ⌝ }
     ensures { λ x. ⌜ Emitted (now (nodes .entry)) m r (now (work .entry)) (now (work .exit)) c n (x .count) (x .reference) (x .visits) ⌝ }
 {
     let j = 3 * c + (r as usize - 2);
     let x = read(nodes, m, r);
-    let a = sweep(nodes, m, work, c, n, x.low);
-    let b = sweep(nodes, m, work, c, a.count, x.high);
+    let a = sweep(nodes, m, work, c, n, left - 1, x.low);
+    let b = sweep(nodes, m, work, c, a.count, left - 1, x.high);
     let y = Node {
         level: x.level,
         low: a.reference,
@@ -81,14 +81,14 @@ fn apart(nodes: &[u32], m: u32, work: &mut [u32], c: usize, n: u32, r: u32) -> S
     }
 }
 
-// What the sweep of all rows answers: the count of nodes of the canonical table, the rows' references there, and all visits.
+// What the sweep of all rows answers: the count of nodes of the canonical table, and all visits.
 pub struct Renewed {
     pub kept: u32,
-    pub refs: [u32; 64],
     pub visits: u32,
 }
 
-// Sweeps the diagrams of the first `count` references, in order, into an empty table. The notes of the m nodes are 0 before.
+// Sweeps the diagrams of the first `count` references, in order, into an empty table, and writes their references there to `out`,
+// which is 0 past them. The notes of the m nodes are 0 before.
 fn sweep_all(
     nodes: &[u32],
     m: u32,
@@ -97,30 +97,27 @@ fn sweep_all(
     levels: u32,
     refs: &[u32; 64],
     count: u32,
+    out: &mut [u32; 64],
 ) -> Renewed
     requires { ⌜ Table (now nodes) m ⌝ }
     requires { ⌜ (length (now nodes) ≡ 3 * c) × (4 * c ≤ length (now work)) × (length (now refs) ≡ 64) ⌝ }
+    requires { ⌜ Awaits count (now out) ⌝ }
     requires { ⌜ ((i : ℕ) → 3 * c ≤ i → i < 3 * c + m → getD (now work) i 0 ≡ 0) ⌝ }
     requires { ⌜ Rows (now nodes) m levels (now refs) count ⌝ }
-    ensures { λ x. ⌜ Copied (now (nodes .entry)) m levels (now (refs .entry)) count (now (work .entry)) (now (work .exit)) c (x .kept) (x .refs) (x .visits) ⌝ }
+    ensures { λ x. ⌜ Copied (now (nodes .entry)) m levels (now (refs .entry)) count (now (work .entry)) (now (work .exit)) c (x .kept) (now (out .exit)) (x .visits) ⌝ }
 {
-    let mut out = [0; 64];
     let mut n = 0;
     let mut visits = 0;
     let mut i = 0;
     while i < count {
         let j = i as usize;
-        let s = sweep(nodes, m, work, c, n, refs[j]);
+        let s = sweep(nodes, m, work, c, n, levels, refs[j]);
         out[j] = s.reference;
         n = s.count;
         visits += s.visits;
         i += 1;
     }
-    Renewed {
-        kept: n,
-        refs: out,
-        visits,
-    }
+    Renewed { kept: n, visits }
 }
 
 // Copies the first n nodes of `work` to `nodes`, and sets the rest of `nodes` to 0.
@@ -139,7 +136,8 @@ fn copy_back(work: &[u32], nodes: &mut [u32], n: u32)
 }
 
 // Makes the nodes the canonical table of the diagrams of the first `count` references: the rows in order, each diagram
-// low side first, children before parents, each node once. The work slice is changed before 4 * c, c being the nodes' places.
+// low side first, children before parents, each node once; `out`, which is 0 past them, becomes their references there. The work
+// slice is changed before 4 * c, c being the nodes' places.
 pub fn renew(
     nodes: &mut [u32],
     m: u32,
@@ -147,15 +145,17 @@ pub fn renew(
     levels: u32,
     refs: &[u32; 64],
     count: u32,
+    out: &mut [u32; 64],
 ) -> Renewed
     requires { ⌜ Table (now nodes) m ⌝ }
     requires { ⌜ (length (now nodes) ≡ 3 * (length (now nodes) / 3)) × (4 * (length (now nodes) / 3) ≤ length (now work)) × (length (now refs) ≡ 64) ⌝ }
+    requires { ⌜ Awaits count (now out) ⌝ }
     requires { ⌜ Rows (now nodes) m levels (now refs) count ⌝ }
-    ensures { λ x. ⌜ Renewal (now (nodes .entry)) m levels (now (refs .entry)) count (now (work .entry)) (now (nodes .exit)) (now (work .exit)) (x .kept) (x .refs) (x .visits) ⌝ }
+    ensures { λ x. ⌜ Renewal (now (nodes .entry)) m levels (now (refs .entry)) count (now (work .entry)) (now (nodes .exit)) (now (work .exit)) (x .kept) (now (out .exit)) (x .visits) ⌝ }
 {
     let c = nodes.len() / 3;
     zero(work, 3 * c, 3 * c + m as usize);
-    let x = sweep_all(nodes, m, work, c, levels, refs, count);
+    let x = sweep_all(nodes, m, work, c, levels, refs, count, out);
     copy_back(work, nodes, x.kept);
     x
 }

@@ -1,6 +1,6 @@
--- `sweep` and `apart` meet their contracts: the laws of NoteLaws and SweepLaws, one for each way out. The measure is twice the reference,
--- and one more for `sweep`: a node's sides stand before it. Assumes nothing.
-use Rattle.sweeping.proofs.NoteLaws.{sides-before, sides-ordered, swept-leaf, swept-hit}
+-- `sweep` and `apart` meet their contracts: the laws of NoteLaws and SweepLaws, one for each way out. The measure is twice the levels
+-- that are left, and one more for `sweep`: a node's sides are below its level. Assumes nothing.
+use Rattle.sweeping.proofs.NoteLaws.{sides-ordered, swept-leaf, swept-hit}
 use Rattle.sweeping.proofs.SweepLaws.{swept-room, swept-fits, swept}
 use borrow.Author.Needs.{needs}
 use native.Mathlib.Omega.{arith}
@@ -52,6 +52,9 @@ module _ (t : ℕ) where
       let s = c .before .before in
       (s .pre .1 .0 .source, (s .pre .1 .1 .1 .0, s .pre .1 .1 .0 .below))
 
+  apart-sub-sweep : apart-lts.Need-sub-sweep (read-reads.Asked, read-reads.Learnt, sweep-below t, sweep.Post, emit-reads.Asked, emit-reads.Learnt) (apart-at t) apart.Post
+  apart-sub-sweep c = let s = c .before .before .before .before in sides-ordered (s .pre .1 .1 .0) (c .before .read .ensures) .0
+
   apart-sweep-requires : apart-lts.Need-sweep-requires (read-reads.Asked, read-reads.Learnt, sweep-below t, sweep.Post, emit-reads.Asked, emit-reads.Learnt) (apart-at t) apart.Post
   apart-sweep-requires c κs =
       let at-read = c .before in
@@ -59,10 +62,13 @@ module _ (t : ℕ) where
       let o = s .pre .1 .0 in
       let q = s .pre .1 .1 .0 in
       let x = at-read .read .ensures in
-      let d = sides-before (o .source) (s .pre .1 .1 .1 .0) (q .below) x in
-      let low = sides-ordered q x .0 in
-      let high = sides-ordered q x .1 in
-      (omega (arith, s .pre .0, d .0, d .1), (o, search needs))
+      let d = sides-ordered q x in
+      (omega (arith, s .pre .0, d .0), (o, d .1))
+
+  apart-sub-sweep-2 : apart-lts.Need-sub-sweep-2 (read-reads.Asked, read-reads.Learnt, sweep-below t, sweep.Post, emit-reads.Asked, emit-reads.Learnt) (apart-at t) apart.Post
+  apart-sub-sweep-2 c =
+      let at-read = c .before .before .before .before .before in
+      sides-ordered (at-read .before .before .before .pre .1 .1 .0) (at-read .read .ensures) .0
 
   apart-sweep-requires-2 : apart-lts.Need-sweep-requires-2 (read-reads.Asked, read-reads.Learnt, sweep-below t, sweep.Post, emit-reads.Asked, emit-reads.Learnt) (apart-at t) apart.Post
   apart-sweep-requires-2 c κs =
@@ -71,10 +77,8 @@ module _ (t : ℕ) where
       let o = s .pre .1 .0 in
       let q = s .pre .1 .1 .0 in
       let x = at-read .read .ensures in
-      let d = sides-before (o .source) (s .pre .1 .1 .1 .0) (q .below) x in
-      let low = sides-ordered q x .0 in
-      let high = sides-ordered q x .1 in
-      (omega (arith, s .pre .0, d .0, d .1), (c .before .before .before .sweep .ensures .notes, search needs))
+      let d = sides-ordered q x in
+      (omega (arith, s .pre .0, d .0), (c .before .before .before .sweep .ensures .notes, d .2))
 
   apart-emit-requires : apart-lts.Need-emit-requires (read-reads.Asked, read-reads.Learnt, sweep-below t, sweep.Post, emit-reads.Asked, emit-reads.Learnt) (apart-at t) apart.Post
   apart-emit-requires c κs =
@@ -93,11 +97,11 @@ module _ (t : ℕ) where
       let two = s .pre .1 .1 .1 .0 in
       (omega arith, omega arith, omega arith)
 
-  apart-add-t22 : apart-lts.Need-add-t22 (read-reads.Asked, read-reads.Learnt, sweep-below t, sweep.Post, emit-reads.Asked, emit-reads.Learnt) (apart-at t) apart.Post
-  apart-add-t22 c = let t = c .before .before .before .before .before .before .before .sweep2 .ensures .notes .table in omega (arith, t .fits, t .small)
+  apart-add-t18 : apart-lts.Need-add-t18 (read-reads.Asked, read-reads.Learnt, sweep-below t, sweep.Post, emit-reads.Asked, emit-reads.Learnt) (apart-at t) apart.Post
+  apart-add-t18 c = let t = c .before .before .before .before .before .before .before .sweep2 .ensures .notes .table in omega (arith, t .fits, t .small)
 
-  apart-add-t23 : apart-lts.Need-add-t23 (read-reads.Asked, read-reads.Learnt, sweep-below t, sweep.Post, emit-reads.Asked, emit-reads.Learnt) (apart-at t) apart.Post
-  apart-add-t23 c = let t = c .before .before .before .before .before .before .before .before .sweep2 .ensures .notes .table in omega (arith, t .fits, t .small)
+  apart-add-t24 : apart-lts.Need-add-t24 (read-reads.Asked, read-reads.Learnt, sweep-below t, sweep.Post, emit-reads.Asked, emit-reads.Learnt) (apart-at t) apart.Post
+  apart-add-t24 c = let t = c .before .before .before .before .before .before .before .before .sweep2 .ensures .notes .table in omega (arith, t .fits, t .small)
 
   -- the visits of both sides and the node's own are few
   few : (c : apart-lts.After-struct-known4 (read-reads.Asked, read-reads.Learnt, sweep-below t, sweep.Post, emit-reads.Asked, emit-reads.Learnt) (apart-at t) apart.Post)
@@ -110,11 +114,11 @@ module _ (t : ℕ) where
       let s = at-read .before .before .before in
       swept-fits (s .pre .1 .0) (at-read .read .ensures) (s .pre .1 .1 .1 .0) (s .pre .1 .1 .0 .below) (s .pre .1 .1 .1 .1) (at-sweep .sweep .ensures) (at-sweep2 .sweep2 .ensures) (s .pre .1 .1 .0)
 
-  apart-add-t24 : apart-lts.Need-add-t24 (read-reads.Asked, read-reads.Learnt, sweep-below t, sweep.Post, emit-reads.Asked, emit-reads.Learnt) (apart-at t) apart.Post
-  apart-add-t24 c = omega (arith, few c)
-
   apart-add-t25 : apart-lts.Need-add-t25 (read-reads.Asked, read-reads.Learnt, sweep-below t, sweep.Post, emit-reads.Asked, emit-reads.Learnt) (apart-at t) apart.Post
   apart-add-t25 c = omega (arith, few c)
+
+  apart-add-t26 : apart-lts.Need-add-t26 (read-reads.Asked, read-reads.Learnt, sweep-below t, sweep.Post, emit-reads.Asked, emit-reads.Learnt) (apart-at t) apart.Post
+  apart-add-t26 c = omega (arith, few c)
 
   apart-same-length : apart-lts.Need-same-length (read-reads.Asked, read-reads.Learnt, sweep-below t, sweep.Post, emit-reads.Asked, emit-reads.Learnt) (apart-at t) apart.Post
   apart-same-length c = search needs
@@ -161,8 +165,8 @@ module _ (t : ℕ) where
   sweep-returns-2 : sweep-lts.Need-returns-2 (apart-below t, apart.Post) (sweep-at t) sweep.Post
   sweep-returns-2 c = c .before .before .apart .ensures
 
-  sweep-sub-t15 : sweep-lts.Need-sub-t15 (apart-below t, apart.Post) (sweep-at t) sweep.Post
-  sweep-sub-t15 c = search needs
+  sweep-sub-t16 : sweep-lts.Need-sub-t16 (apart-below t, apart.Post) (sweep-at t) sweep.Post
+  sweep-sub-t16 c = search needs
 
   sweep-returns-3 : sweep-lts.Need-returns-3 (apart-below t, apart.Post) (sweep-at t) sweep.Post
   sweep-returns-3 c =
@@ -173,6 +177,6 @@ module _ (t : ℕ) where
 pub +apart+sweep-spec : {M : Type 1} → statement M
 +apart+sweep-spec = close μ-apart μ-sweep
     (λ t. apart-lts.spec (read-reads.Asked, read-reads.Learnt, sweep-below t, sweep.Post, emit-reads.Asked, emit-reads.Learnt) (apart-at t) apart.Post
-    (apart-mul-j t) (apart-sub-j t) (apart-add-j t) (apart-read-requires t) (apart-sweep-requires t) (apart-sweep-requires-2 t) (apart-emit-requires t) (apart-add-t22 t) (apart-add-t23 t) (apart-add-t24 t) (apart-add-t25 t) (apart-same-length t) (apart-returns t))
+    (apart-mul-j t) (apart-sub-j t) (apart-add-j t) (apart-read-requires t) (apart-sub-sweep t) (apart-sweep-requires t) (apart-sub-sweep-2 t) (apart-sweep-requires-2 t) (apart-emit-requires t) (apart-add-t18 t) (apart-add-t24 t) (apart-add-t25 t) (apart-add-t26 t) (apart-same-length t) (apart-returns t))
     λ t. sweep-lts.spec (apart-below t, apart.Post) (sweep-at t) sweep.Post
-    (sweep-returns t) (sweep-mul-note t) (sweep-sub-note t) (sweep-add-note t) (sweep-mul-note-2 t) (sweep-slice-read-note t) (sweep-apart-requires t) (sweep-same-length t) (sweep-returns-2 t) (sweep-sub-t15 t) (sweep-returns-3 t)
+    (sweep-returns t) (sweep-mul-note t) (sweep-sub-note t) (sweep-add-note t) (sweep-mul-note-2 t) (sweep-slice-read-note t) (sweep-apart-requires t) (sweep-same-length t) (sweep-returns-2 t) (sweep-sub-t16 t) (sweep-returns-3 t)

@@ -19,9 +19,9 @@ zero-requires c κs = search needs
 
 sweep-all-requires : tie.Need-sweep-all-requires
 sweep-all-requires c κs =
-    let s = c .before .before .before .before .before .before .before .before in
-    let z = c .before .before .before .before .zero .ensures in
-    (s .pre .0, ((s .pre .1 .0 .0, omega (arith, z .size, s .pre .1 .0 .1), s .pre .1 .0 .2), (z .zero, s .pre .1 .1)))
+    let s = c .before .before .before .before .before .before .before .before .before in
+    let z = c .before .before .before .before .before .zero .ensures in
+    (s .pre .0, ((s .pre .1 .0 .0, omega (arith, z .size, s .pre .1 .0 .1), s .pre .1 .0 .2), (s .pre .1 .1 .0, (z .zero, s .pre .1 .1 .1))))
 
 copy-back-requires : tie.Need-copy-back-requires
 copy-back-requires c κs = search needs
@@ -35,7 +35,7 @@ same-length-2 c = search needs
 returns : tie.Need-returns
 returns c =
     let at-sweep = c .before .before .before .before .before .before .before in
-    let at-zero = at-sweep .before .before .before .before .before in
+    let at-zero = at-sweep .before .before .before .before .before .before in
     let s = at-zero .before .before .before .before in
     renewed (omega (arith, s .pre .0 .fits)) (at-zero .zero .ensures) (at-sweep .sweep-all .ensures) (c .before .before .copy-back .ensures)
 

@@ -9,7 +9,7 @@ use Rattle.sweeping.proofs.sweep_all.Statement.{statement}
 use Rattle.sweeping.proofs.sweep_all.Tie as tie
 
 abbrev Inv-loop : tie.InvT-loop
-Inv-loop nodes m work₀ c levels refs count out₀ n₀ visits₀ i₀ work out n visits i = (i ≤ count) × Going nodes m levels refs work₀ work c n i out visits
+Inv-loop nodes m work₀ c levels refs count out₀ n₀ visits₀ i₀ work out n visits i = (i ≤ count) × Going nodes m levels refs count work₀ work c n i out visits
 
 abbrev μ-loop : tie.MeasureT-loop
 μ-loop nodes m work₀ c levels refs count out₀ n₀ visits₀ i₀ work out n visits i = count - i
@@ -17,39 +17,41 @@ abbrev μ-loop : tie.MeasureT-loop
 loop-holds : tie.Need-loop-holds Inv-loop μ-loop
 loop-holds c =
     let s = c .before .before in
-    (omega arith, going-none _ _ _ _ _ _ (s .pre .0) (s .pre .1 .0 .0) (s .pre .1 .0 .1) (s .pre .1 .1 .0))
+    (omega arith, going-none _ _ _ _ _ _ _ _ (s .pre .0) (s .pre .1 .0 .0) (s .pre .1 .0 .1) (s .pre .1 .1 .1 .0) (s .pre .1 .1 .0))
 
 cast-j : tie.Need-cast-j Inv-loop μ-loop
-cast-j c = omega (arith, c .before .before .before .before .pre .1 .1 .1 .few)
+cast-j c = omega (arith, c .before .before .before .before .pre .1 .1 .1 .1 .few)
 
 mul-sweep : tie.Need-mul-sweep Inv-loop μ-loop
-mul-sweep c = omega (arith, c .before .before .before .before .before .pre .1 .1 .1 .few)
+mul-sweep c = omega (arith, c .before .before .before .before .before .pre .1 .1 .1 .1 .few)
 
 element-copy-out-sweep : tie.Need-element-copy-out-sweep Inv-loop μ-loop
-element-copy-out-sweep c = omega (arith, c .before .before .before .before .before .pre .1 .1 .1 .few)
+element-copy-out-sweep c = omega (arith, c .before .before .before .before .before .pre .1 .1 .1 .1 .few)
 
 sweep-requires : tie.Need-sweep-requires Inv-loop μ-loop
 sweep-requires c κs =
     let l = c .before .before .before in
-    (l .loop .inv .1 .notes, rows-ordered (l .before .before .before .pre .1 .1 .1) (l .loop .i) (c .before .before .loop-test .taken))
+    (l .loop .inv .1 .notes, rows-ordered (l .before .before .before .pre .1 .1 .1 .1) (l .loop .i) (c .before .before .loop-test .taken))
 
 mul-out : tie.Need-mul-out Inv-loop μ-loop
-mul-out c = omega (arith, c .before .before .before .before .before .before .before .before .before .pre .1 .1 .1 .few)
+mul-out c = omega (arith, c .before .before .before .before .before .before .before .before .before .pre .1 .1 .1 .1 .few)
 
-array-write-out : tie.Need-array-write-out Inv-loop μ-loop
-array-write-out c = omega (arith, c .before .before .before .before .before .before .before .before .before .pre .1 .1 .1 .few)
+element-write-out : tie.Need-element-write-out Inv-loop μ-loop
+element-write-out c =
+    let l = c .before .before .before .before .before .before in
+    omega (arith, l .before .before .before .pre .1 .1 .1 .1 .few, l .loop .inv .1 .awaits .wide)
 
 add-visits : tie.Need-add-visits Inv-loop μ-loop
 add-visits c =
     let l = c .before .before .before .before .before .before .before in
-    let rows = l .before .before .before .pre .1 .1 .1 in
+    let rows = l .before .before .before .pre .1 .1 .1 .1 in
     let g = l .loop .inv .1 in
     let t = g .notes .source in
     let h = c .before .before .before .before .before .before .loop-test .taken in
     omega (arith, g .small, rows .few, t .small, t .fits, few-visits (g .notes) (rows-ordered rows (l .loop .i) h) (c .before .before .before .sweep .ensures))
 
 add-i : tie.Need-add-i Inv-loop μ-loop
-add-i c = omega (arith, c .before .before .before .before .before .before .before .before .before .before .pre .1 .1 .1 .few)
+add-i c = omega (arith, c .before .before .before .before .before .before .before .before .before .before .pre .1 .1 .1 .1 .few)
 
 loop-less : tie.Need-loop-less Inv-loop μ-loop
 loop-less c = omega arith
@@ -59,7 +61,7 @@ loop-again c =
     let l = c .before .before .before .before .before .before .before in
     let s = l .before .before .before in
     let h = c .before .before .before .before .before .before .loop-test .taken in
-    let rows = s .pre .1 .1 .1 in
+    let rows = s .pre .1 .1 .1 .1 in
     (omega arith, going-more rows h (omega (arith, s .pre .1 .0 .2, rows .few)) (c .before .before .before .sweep .kept .1 .1 .0) (l .loop .inv .1) (c .before .before .before .sweep .ensures))
 
 same-length : tie.Need-same-length Inv-loop μ-loop
@@ -83,7 +85,7 @@ sweep-all-spec =
     element-copy-out-sweep
     sweep-requires
     mul-out
-    array-write-out
+    element-write-out
     add-visits
     add-i
     loop-less

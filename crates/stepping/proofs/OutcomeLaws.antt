@@ -15,23 +15,23 @@ use Rattle.trees.specs.Kept.{diagrams, WellKept}
 use Rattle.trees.proofs.Tests.{lt-or-ge}
 use Rattle.trees.proofs.ReadLaws.{length-trees, ref-is}
 use Rattle.trees.proofs.CanonicalLaws.{zeros-past}
 use Rattle.diagram.specs.declared.Instruction.{Instruction}
-use Rattle.diagram.specs.declared.Stepped.{Stepped}
+use Rattle.stepping.specs.declared.Stepped.{Stepped}
 use Rattle.diagram.specs.declared.Told.the-variants.{Full, Done}
 use Rattle.nodes.specs.Nodes.{Table, Zeroed, Rows, canonical}
 use Rattle.walks.specs.Walks.{Within}
-use Rattle.sweeping.specs.Sweeps.{References, Renewal}
+use Rattle.sweeping.specs.Sweeps.{Awaits, References, Renewal}
 use Rattle.sweeping.proofs.Visited.{renew-visits}
 use Rattle.keeping.specs.Checks.{freeBy, Right}
 use Rattle.diagram.specs.Steps.{newTrees, stages, workTable, cleared, layout, workOutcome, Leaves}
 use Rattle.diagram.specs.Counts.{holding, complementVisits, sweepVisits, Visited}
 use Rattle.visits.specs.Visits.{sweeps}
 use Rattle.diagram.specs.Works.{Fits, Ready, Short, Through}
-use Rattle.diagram.proofs.TallyLaws.{holds}
+use Rattle.stepping.proofs.TallyLaws.{holds}
 use Rattle.walks.proofs.CallLaws.{within-all}
 use Rattle.diagram.proofs.RemovalLaws.{within-fine}
 use Rattle.diagram.proofs.RowLaws.{within-no}
-use Rattle.diagram.proofs.PlanLaws.{length-new}
+use Rattle.stepping.proofs.PlanLaws.{length-new}
 use Rattle.keeping.proofs.SoundLaws.{sound-table, sound-rows}
 use Rattle.keeping.proofs.VerdictLaws.{kept-right}
 
@@ -70,7 +70,7 @@ module _ (k count : ℕ) (plan : List Instruction) (refs : List ℕ) (kept : ℕ
   -- no room for all: the tail is wiped, and the nodes are as they were
   pub full-leaves : {ns₁ ns₂ w₂ : List ℕ} → Ready k count refs kept ns → Short (4 * k) ns ns₁ kept (stages k plan (diagrams ns kept refs count) count)
       → Zeroed (3 * kept) (length ns₁) ns₁ ns₂ → w₂ ≡ cleared (length ns / 3) w
-      → Leaves (workOutcome (leb (length (workTable k count plan refs kept ns)) (length ns / 3)) k count plan refs kept ns w) (record { told = Full; refs = refs; complements = 0; swept = 0 }) ns₂ w₂
+      → Leaves (workOutcome (leb (length (workTable k count plan refs kept ns)) (length ns / 3)) k count plan refs kept ns w) Full refs ns₂ w₂
   unfolding workTable workOutcome
   full-leaves {ns₁} {ns₂} r s z e =
       rw (lt-leb (length (addTrees (treesOf ns kept) (map (treeOf (4 * k)) (stages k plan (diagrams ns kept refs count) count)))) (length ns / 3) (omega (arith, s .over, f .whole)))
@@ -87,12 +87,13 @@ module _ (k count : ℕ) (plan : List Instruction) (refs : List ℕ) (kept : ℕ
   module _ {ns₁ : List ℕ} {n : ℕ} {w₀ : List ℕ} {slots : ℕ} {news : List ℕ} {v : ℕ}
       (t : Through k plan (diagrams ns kept refs count) ns kept ns₁ n w₀ (length ns / 3) slots refs news count v) where
     -- what the sweep asks
-    pub sweep-ready : (w₁ : List ℕ) → length w₁ ≡ length w
-        → Table ns₁ n × ((length ns₁ ≡ 3 * (length ns₁ / 3)) × (4 * (length ns₁ / 3) ≤ length w₁) × (length news ≡ 64)) × Rows ns₁ n (4 * k) news count
-    sweep-ready w₁ e =
+    pub sweep-ready : (w₁ : List ℕ) → length w₁ ≡ length w → Ready k count refs kept ns
+        → Table ns₁ n × ((length ns₁ ≡ 3 * (length ns₁ / 3)) × (4 * (length ns₁ / 3) ≤ length w₁) × (length news ≡ 64)) × Awaits count refs × Rows ns₁ n (4 * k) news count
+    sweep-ready w₁ e d =
         let size = t .size in (
           t .desk .shelf .table,
           (omega (arith, f .whole), omega (arith, f .room), t .new-lead .wide),
+          record { wide = d .leads .wide; none = d .none },
           record { few = f .few; inside = λ i h. t .new-lead .each i .below; fine = λ i h. within-fine (t .new-lead .each i) },
         )
 
@@ -134,7 +135,7 @@ module _ (k count : ℕ) (plan : List Instruction) (refs : List ℕ) (kept : ℕ
 
     -- all rows worked and swept
     pub done-leaves : {w₁ w₂ ns₂ w₃ : List ℕ} {kept′ : ℕ} {refs′ : List ℕ} {visits : ℕ} → Renewal ns₁ n (4 * k) news count w₁ ns₂ w₂ kept′ refs′ visits → w₃ ≡ cleared (length ns / 3) w
-        → Leaves (workOutcome (leb (length (workTable k count plan refs kept ns)) (length ns / 3)) k count plan refs kept ns w) (record { told = Done kept′ n; refs = refs′; complements = v; swept = visits }) ns₂ w₃
+        → Leaves (workOutcome (leb (length (workTable k count plan refs kept ns)) (length ns / 3)) k count plan refs kept ns w) (Done kept′ n) refs′ ns₂ w₃
     unfolding workOutcome layout canonical
     done-leaves {kept′ = kept′} {refs′} r e =
         let table = t .desk .shelf .table .fits in

@@ -16,11 +16,11 @@ use Rattle.trees.proofs.FunctionLaws.{fine-of, eval-of}
 use Rattle.trees.proofs.RoomLaws.{room-trees, room-same}
 use Rattle.making.specs.declared.Place.{Place}
 use Rattle.making.specs.declared.Place.the-variants.{Any, Is}
 use Rattle.diagram.specs.declared.Instruction.{Instruction}
 use Rattle.diagram.specs.declared.Instruction.the-variants.{Yes, No, Cube, And, Not, Since, Old, Drop}
 use Rattle.making.specs.Cubes.{placeSays, cubeSays}
 use Rattle.diagram.specs.Steps.{says, instructionSays, dropStages, stagesOf, withRow, newTrees, stages}
-use Rattle.diagram.proofs.PlanLaws.{adds-append}
+use Rattle.stepping.proofs.PlanLaws.{adds-append}
 
 -- a variable's number asks the variable's levels
 asks-place : (base k hi : ℕ) (p : Place) → base + k ≤ hi → Asks 0 hi (placeSays base k p)

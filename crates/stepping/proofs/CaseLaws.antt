@@ -7,18 +7,18 @@ use native.Mathlib.Omega.{arith}
 use lib.Dec.{leb}
 use lib.ListN.{length}
 use Rattle.trees.specs.Kept.{wellKept}
 use Rattle.diagram.specs.declared.Instruction.{Instruction}
-use Rattle.diagram.specs.declared.Stepped.{Stepped}
+use Rattle.diagram.specs.declared.Told.{Told}
 use Rattle.diagram.specs.declared.Told.the-variants.{Unfit, Bad}
 use Rattle.diagram.specs.declared.Formed.the-variants as formed
 use Rattle.trees.proofs.KeptLaws.{not-false}
 use Rattle.nodes.specs.Nodes.{Rest, Zeroed, Decides}
 use Rattle.keeping.specs.Checks.{freeBy, Sized}
 use Rattle.diagram.specs.Steps.{workTable, cleared, workOutcome, stepOutcome, Leaves, formedOutcome, Tells}
 use Rattle.diagram.specs.Works.{Fits}
-use Rattle.diagram.proofs.FitLaws.{fits-of, fits-is}
-use Rattle.diagram.proofs.ClearLaws.{cleared-is, cleared-same, rest-more}
-use Rattle.diagram.proofs.OutcomeLaws.{outcome-same}
+use Rattle.stepping.proofs.FitLaws.{fits-of, fits-is}
+use Rattle.stepping.proofs.ClearLaws.{cleared-is, cleared-same, rest-more}
+use Rattle.stepping.proofs.OutcomeLaws.{outcome-same}
 
 -- numbers and lengths that fit are what the check asks
 pub sized : {k count : ℕ} {ns w : List ℕ} → Fits k count (length ns) (length w) → Sized ns w
@@ -36,20 +36,20 @@ module _ (k count : ℕ) (allowed refs : List ℕ) (kept : ℕ) (ns w : List ℕ
   module _ (plan : List Instruction) where
     -- unfit numbers or lengths
     pub unfit-leaves : (b : Bool) → Decides (Fits k count (length ns) (length w)) b → not b ≡ true
-        → Leaves (stepOutcome k count plan allowed refs kept ns w) (record { told = Unfit; refs = refs; complements = 0; swept = 0 }) ns w
+        → Leaves (stepOutcome k count plan allowed refs kept ns w) Unfit refs ns w
     unfolding stepOutcome
     unfit-leaves b d e = rw (fits-is k count (length ns) (length w) b d, not-false b e) (record { told = refl; refs = refl; nodes = refl; work = refl })
 
     module _ (f : Fits k count (length ns) (length w)) where
       -- diagrams that are not well kept
-      pub bad-leaves : {w₂ : List ℕ} → good ≡ false → w₂ ≡ cleared (length ns / 3) w → Leaves (stepOutcome k count plan allowed refs kept ns w) (record { told = Bad; refs = refs; complements = 0; swept = 0 }) ns w₂
+      pub bad-leaves : {w₂ : List ℕ} → good ≡ false → w₂ ≡ cleared (length ns / 3) w → Leaves (stepOutcome k count plan allowed refs kept ns w) Bad refs ns w₂
       unfolding stepOutcome
       bad-leaves g e = rw (fits-of k count (length ns) (length w) f, g) (record { told = refl; refs = refl; nodes = refl; work = e })
 
       -- well kept diagrams: what the work leaves
-      pub good-leaves : {w₁ w₂ ns₂ : List ℕ} {x : Stepped} → good ≡ true → Rest (15 * (length ns / 3)) w w₁ → length w₁ ≡ length w
-          → Leaves (workOutcome (leb (length (workTable k count plan refs kept ns)) (length ns / 3)) k count plan refs kept ns w₁) x ns₂ w₂
-          → Leaves (stepOutcome k count plan allowed refs kept ns w) x ns₂ w₂
+      pub good-leaves : {w₁ w₂ refs₂ ns₂ : List ℕ} {t : Told} → good ≡ true → Rest (15 * (length ns / 3)) w w₁ → length w₁ ≡ length w
+          → Leaves (workOutcome (leb (length (workTable k count plan refs kept ns)) (length ns / 3)) k count plan refs kept ns w₁) t refs₂ ns₂ w₂
+          → Leaves (stepOutcome k count plan allowed refs kept ns w) t refs₂ ns₂ w₂
       unfolding stepOutcome
       good-leaves {w₁} g r e l =
           rw (fits-of k count (length ns) (length w) f, g)

@@ -1,9 +1,9 @@
 -- `plan::fit` meets its contract. Assumes nothing.
 use native.Mathlib.Omega.{arith}
-use Rattle.diagram.proofs.FitLaws.{fit-last}
+use Rattle.stepping.proofs.FitLaws.{fit-last}
 use borrow.Author.Needs.{needs}
-use Rattle.diagram.proofs.plan.fit.Statement.{statement}
-use Rattle.diagram.proofs.plan.fit.Tie as tie
+use Rattle.stepping.proofs.fit.Statement.{statement}
+use Rattle.stepping.proofs.fit.Tie as tie
 
 returns : tie.Need-returns
 returns c = search needs

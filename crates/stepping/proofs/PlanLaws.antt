@@ -18,17 +18,17 @@ use Rattle.trees.proofs.FunctionLaws.{fine-of}
 use Rattle.trees.proofs.TableLaws.{Goes, goes-refl, goes-trans, goes-at, goes-length, adds-goes}
 use Rattle.trees.proofs.ReadLaws.{length-trees, ref-is}
 use Rattle.trees.proofs.CanonicalLaws.{zeros-at}
 use Rattle.diagram.specs.declared.Instruction.{Instruction}
 use Rattle.diagram.specs.declared.Instruction.the-variants.{Yes}
 use Rattle.walks.specs.Walks.{Within}
 use Rattle.walks.specs.Desks.{Desk}
 use Rattle.diagram.specs.Steps.{says, instructionSays, stagesOf, withRow, newTrees, stages}
 use Rattle.diagram.specs.Works.{Leads, led, Reached, Short, Are, Tolled, Fresh, Through}
 use Rattle.making.proofs.WalkLaws.{front-trans}
 use Rattle.walks.proofs.CallLaws.{within-all}
 use Rattle.diagram.proofs.RemovalLaws.{within-fine}
 use Rattle.diagram.proofs.RowLaws.{within-no}
-use Rattle.diagram.proofs.TallyLaws.{holds, tally-none, tally-more}
+use Rattle.stepping.proofs.TallyLaws.{holds, tally-none, tally-more}
 
 -- diagrams added one list after the other
 pub adds-append : (ts ds es : List Tree) → addTrees ts (ds ++ es) ≡ addTrees (addTrees ts ds) es

@@ -11,32 +11,32 @@ use Rattle.trees.specs.Table.{at}
 use Rattle.trees.specs.Room.{Room}
 use Rattle.trees.specs.Kept.{diagrams, WellKept, wellKept}
 use Rattle.trees.proofs.KeptLaws.{kept-of}
 use Rattle.diagram.specs.declared.Instruction.{Instruction}
-use Rattle.diagram.specs.declared.Stepped.{Stepped}
+use Rattle.stepping.specs.declared.Stepped.{Stepped}
 use Rattle.diagram.specs.declared.Told.{Told}
 use Rattle.diagram.specs.declared.Told.the-variants.{Unfit, Bad, Full, Done}
 use Rattle.diagram.specs.declared.Formed.{Formed}
 use Rattle.keeping.specs.Checks.{freeBy}
 use Rattle.diagram.specs.Steps.{workTable, counted, Outcome, fits, layout, workOutcome, judge, stepOutcome, Leaves, Checked, Tells}
 use Rattle.diagram.specs.Counts.{Visits}
 use Rattle.diagram.specs.Works.{Fits}
 use Rattle.diagram.proofs.RemovalLaws.{within-fine}
-use Rattle.diagram.proofs.PlanLaws.{old-are}
-use Rattle.diagram.proofs.FitLaws.{of-fits}
-use Rattle.diagram.proofs.OutcomeLaws.{ready}
-use Rattle.diagram.proofs.CountLaws.{room-counted}
+use Rattle.stepping.proofs.PlanLaws.{old-are}
+use Rattle.stepping.proofs.FitLaws.{of-fits}
+use Rattle.stepping.proofs.OutcomeLaws.{ready}
+use Rattle.stepping.proofs.CountLaws.{room-counted}
 
 -- two answers with the same parts
-stepped-eq : (a b : Stepped) → a .told ≡ b .told → a .refs ≡ b .refs → a .complements ≡ b .complements → a .swept ≡ b .swept → a ≡ b
-stepped-eq a b p q r s = λ i. record { told = p i; refs = q i; complements = r i; swept = s i }
+stepped-eq : (a b : Stepped) → a .told ≡ b .told → a .complements ≡ b .complements → a .swept ≡ b .swept → a ≡ b
+stepped-eq a b p r s = λ i. record { told = p i; complements = r i; swept = s i }
 
 -- Two outcomes of a step that satisfy its promises are the same.
-pub one-outcome : (k count : ℕ) (plan : List Instruction) (refs : List ℕ) (kept : ℕ) (ns₀ : List ℕ) (o : Outcome) (x y : Stepped) (ns ms w v : List ℕ) → Leaves o x ns w → Leaves o y ms v
-    → Visits k count plan refs kept ns₀ (x .told) (x .complements) (x .swept) → Visits k count plan refs kept ns₀ (y .told) (y .complements) (y .swept) → (x ≡ y) × (ns ≡ ms) × (w ≡ v)
-one-outcome k count plan refs kept ns₀ o x y ns ms w v a b p q =
+pub one-outcome : (k count : ℕ) (plan : List Instruction) (refs : List ℕ) (kept : ℕ) (ns₀ : List ℕ) (o : Outcome) (x y : Stepped) (rs ss ns ms w v : List ℕ) → Leaves o (x .told) rs ns w → Leaves o (y .told) ss ms v
+    → Visits k count plan refs kept ns₀ (x .told) (x .complements) (x .swept) → Visits k count plan refs kept ns₀ (y .told) (y .complements) (y .swept) → (x ≡ y) × (rs ≡ ss) × (ns ≡ ms) × (w ≡ v)
+one-outcome k count plan refs kept ns₀ o x y rs ss ns ms w v a b p q =
     let e = a .told ∙ sym (b .told) in
     let z = same (x .told) (x .complements) (x .swept) (y .complements) (y .swept) p (rw (← e) at q) in
-    (stepped-eq x y e (a .refs ∙ sym (b .refs)) (z .0) (z .1), a .nodes ∙ sym (b .nodes), a .work ∙ sym (b .work))
+    (stepped-eq x y e (z .0) (z .1), a .refs ∙ sym (b .refs), a .nodes ∙ sym (b .nodes), a .work ∙ sym (b .work))
   where
     same : (t : Told) (c₁ s₁ c₂ s₂ : ℕ) → Visits k count plan refs kept ns₀ t c₁ s₁ → Visits k count plan refs kept ns₀ t c₂ s₂ → (c₁ ≡ c₂) × (s₁ ≡ s₂)
     same Unfit c₁ s₁ c₂ s₂ p q = (omega (arith, p .0, q .0), omega (arith, p .1, q .1))

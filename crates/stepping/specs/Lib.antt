@@ -1,0 +1,1 @@
+-- No definitions of its own: what an event makes of the diagrams is defined in the crate `diagram`.
