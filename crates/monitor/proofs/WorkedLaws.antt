@@ -32,11 +32,10 @@ use Rattle.diagram.specs.declared.Instruction.{Instruction}
 use Rattle.diagram.specs.declared.Instruction.the-variants.{Yes}
 use Rattle.diagram.specs.declared.Told.{Told}
 use Rattle.diagram.specs.declared.Told.the-variants.{Unfit, Bad, Full, Done}
-use Rattle.diagram.specs.declared.Stepped.{Stepped}
 use Rattle.diagram.specs.Steps
 use Rattle.diagram.specs.Steps.{judge, formedOutcome, stepOutcome, Leaves}
 use Rattle.instructions.specs.Plan.{instructionOf}
-use Rattle.instructions.specs.Planned.{Planned}
+use Rattle.instructions.specs.Planned.{planned}
 use Rattle.instructions.specs.Worked.{workedOutcome}
 use Rattle.instructions.proofs.ReadLaws.{NumbersRight}
 use Rattle.instructions.proofs.PlannedLaws.{planned-is}
@@ -129,44 +128,47 @@ module _ (rows masks : List ℕ) (m : Machine) (e : Event) (a : Asked) (s : Aski
       (subst (λ (n : ℕ). 0 < n) (sym same-rows) p, subst (λ (n : ℕ). n ≤ 64) (sym same-rows) q)
 
   -- the three ends of the work
-  pub data Ended (x : Stepped) (ns ws : List ℕ) : Type 0 where
-    bad : formed rows m e ≡ false → x .told ≡ Bad → x .refs ≡ m .state .refs → ns ≡ m .nodes → ws ≡ cleared C (m .work) → Ended x ns ws
-    full : formed rows m e ≡ true → fitting rows m e ≡ false → x .told ≡ Full → x .refs ≡ m .state .refs → ns ≡ m .nodes → ws ≡ cleared C (m .work) → Ended x ns ws
-    done : formed rows m e ≡ true → fitting rows m e ≡ true → x .told ≡ Done (length (keptTable after)) (roomOf (m .state .k) (ruleOf rows) (shows rows m .trees) (after .trees))
-        → x .refs ≡ layState (m .state .k) after .refs → ns ≡ layNodes C after → ws ≡ cleared C (m .work) → Ended x ns ws
+  pub data Ended (x : Told) (rs ns ws : List ℕ) : Type 0 where
+    bad : formed rows m e ≡ false → x ≡ Bad → rs ≡ m .state .refs → ns ≡ m .nodes → ws ≡ cleared C (m .work) → Ended x rs ns ws
+    full : formed rows m e ≡ true → fitting rows m e ≡ false → x ≡ Full → rs ≡ m .state .refs → ns ≡ m .nodes → ws ≡ cleared C (m .work) → Ended x rs ns ws
+    done : formed rows m e ≡ true → fitting rows m e ≡ true → x ≡ Done (length (keptTable after)) (roomOf (m .state .k) (ruleOf rows) (shows rows m .trees) (after .trees))
+        → rs ≡ layState (m .state .k) after .refs → ns ≡ layNodes C after → ws ≡ cleared C (m .work) → Ended x rs ns ws
 
-  module _ (plan : List Instruction) (p : Planned rows e (a .numbers) plan) (x : Stepped) (ns ws : List ℕ)
-      (left : Leaves (stepOutcome (m .state .k) (rowCount rows) plan masks (m .state .refs) (m .state .kept) (m .nodes) (m .work)) x ns ws) where
-    ends-as : (o : Steps.Outcome) → stepOutcome (m .state .k) (length (ruleOf rows)) plan masks (m .state .refs) (m .state .kept) (m .nodes) (m .work) ≡ o → Leaves o x ns ws
+  abbrev plan : List Instruction
+  plan = planned rows e (a .numbers)
+
+  module _ (x : Told) (rs ns ws : List ℕ)
+      (left : Leaves (stepOutcome (m .state .k) (rowCount rows) plan masks (m .state .refs) (m .state .kept) (m .nodes) (m .work)) x rs ns ws) where
+    ends-as : (o : Steps.Outcome) → stepOutcome (m .state .k) (length (ruleOf rows)) plan masks (m .state .refs) (m .state .kept) (m .nodes) (m .work) ≡ o → Leaves o x rs ns ws
     unfolding rowCount
     ends-as o q =
-        subst (λ (y : Steps.Outcome). Leaves y x ns ws)
+        subst (λ (y : Steps.Outcome). Leaves y x rs ns ws)
         (ap (λ (n : ℕ). stepOutcome (m .state .k) n plan masks (m .state .refs) (m .state .kept) (m .nodes) (m .work)) (sym (rule-count rows)) ∙ q) left
 
-    ends-bad : kept rows m e ≡ false → Ended x ns ws
+    ends-bad : kept rows m e ≡ false → Ended x rs ns ws
     unfolding capacity
     ends-bad k =
         let l = s .listed in
         let o = ends-as _ (step-bad rows m e (l .k-right) (l .rule-right) (l .lengths) masks (l .free) plan k) in
         bad (formed-kept rows m e masks l ∙ k) (o .told) (o .refs) (o .nodes) (clear-same (length (m .nodes) / 3) (m .work) ws (o .work))
 
-    works : kept rows m e ≡ true → Leaves (workedOutcome (fitting rows m e) (m .state .k) C (ruleOf rows) (shows rows m) after (m .state .refs) (m .nodes) (m .work)) x ns ws
+    works : kept rows m e ≡ true → Leaves (workedOutcome (fitting rows m e) (m .state .k) C (ruleOf rows) (shows rows m) after (m .state .refs) (m .nodes) (m .work)) x rs ns ws
     works k =
         let l = s .listed in
         ends-as _ (step-works rows m e (l .k-right) (l .rule-right) (l .lengths) masks (l .free) (l .counts, l .refs) (formed-kept rows m e masks l ∙ k) (s .enough) plan
-        (planned-is rows e (a .numbers) (shows rows m .lists) plan p numbers-right))
+        (planned-is rows e (a .numbers) (shows rows m .lists) numbers-right))
 
-    ends-full : kept rows m e ≡ true → fitting rows m e ≡ false → Ended x ns ws
+    ends-full : kept rows m e ≡ true → fitting rows m e ≡ false → Ended x rs ns ws
     unfolding workedOutcome
     ends-full k f = let o = rw f at (works k) in full (formed-kept rows m e masks (s .listed) ∙ k) f (o .told) (o .refs) (o .nodes) (o .work)
 
-    ends-done : kept rows m e ≡ true → fitting rows m e ≡ true → Ended x ns ws
+    ends-done : kept rows m e ≡ true → fitting rows m e ≡ true → Ended x rs ns ws
     unfolding workedOutcome
     ends-done k f =
         let o = rw f at (works k) in
         done (formed-kept rows m e masks (s .listed) ∙ k) f (o .told) (o .refs) (o .nodes) (o .work)
 
-    ended : Ended x ns ws
+    ended : Ended x rs ns ws
     ended = ⊎-elim (λ k. ⊎-elim (ends-done k) (ends-full k) (bool (fitting rows m e))) ends-bad (bool (kept rows m e))
 
     decides : (b : Bool) → formed rows m e ≡ true → fitting rows m e ≡ b → decideEvent rows m e ≡ judgeEvent taken true true false (short rows m e) b
@@ -181,47 +183,47 @@ module _ (rows masks : List ℕ) (m : Machine) (e : Event) (a : Asked) (s : Aski
     decides-done f g = decides true f g
 
     -- a step without room is refused
-    pub refuses-full : (t : Turn) (vs : List ℕ) → x .told ≡ Full → (x .refs ≡ m .state .refs → t ≡ keptTurn (m .state) 7 0) → vs ≡ m .values → Happens rows m e t ns vs ws
+    pub refuses-full : (t : Turn) (vs : List ℕ) → x ≡ Full → (rs ≡ m .state .refs → t ≡ keptTurn (m .state) 7 0) → vs ≡ m .values → Happens rows m e t ns vs ws
     refuses-full t vs y h v = go ended
       where
-        go : Ended x ns ws → Happens rows m e t ns vs ws
+        go : Ended x rs ns ws → Happens rows m e t ns vs ws
         go (bad f q i n w) = let z : Full ≡ Bad = sym y ∙ q in let u : _≡_ {A = ℕ} 0 1 = cc in absurd (omega arith)
         go (full f g q i n w) = refuses-late rows m e 7 0 t ns vs ws (decides-full f g) refl (h i) n v w
         go (done f g q r n w) = let z : Full ≡ Done _ _ = sym y ∙ q in let u : _≡_ {A = ℕ} 0 1 = cc in absurd (omega arith)
 
     -- one on bad diagrams is refused
-    pub refuses-bad : (t : Turn) (vs : List ℕ) → x .told ≡ Bad → (x .refs ≡ m .state .refs → t ≡ keptTurn (m .state) 4 0) → vs ≡ m .values → Happens rows m e t ns vs ws
+    pub refuses-bad : (t : Turn) (vs : List ℕ) → x ≡ Bad → (rs ≡ m .state .refs → t ≡ keptTurn (m .state) 4 0) → vs ≡ m .values → Happens rows m e t ns vs ws
     refuses-bad t vs y h v = go ended
       where
-        go : Ended x ns ws → Happens rows m e t ns vs ws
+        go : Ended x rs ns ws → Happens rows m e t ns vs ws
         go (bad f q i n w) = let l = s .listed in refuses-late rows m e 4 0 t ns vs ws (decides-4 rows m e (l .k-right) (l .rule-right) (l .lengths) f) refl (h i) n v w
         go (full f g q i n w) = let z : Bad ≡ Full = sym y ∙ q in let u : _≡_ {A = ℕ} 0 1 = cc in absurd (omega arith)
         go (done f g q r n w) = let z : Bad ≡ Done _ _ = sym y ∙ q in let u : _≡_ {A = ℕ} 0 1 = cc in absurd (omega arith)
 
     -- the numbers and lengths are fit
-    pub never-unfit : {A : Type 0} → x .told ≡ Unfit → A
+    pub never-unfit : {A : Type 0} → x ≡ Unfit → A
     never-unfit {A} y = go ended
       where
-        go : Ended x ns ws → A
+        go : Ended x rs ns ws → A
         go (bad f q i n w) = let z : Unfit ≡ Bad = sym y ∙ q in let u : _≡_ {A = ℕ} 0 1 = cc in absurd (omega arith)
         go (full f g q i n w) = let z : Unfit ≡ Full = sym y ∙ q in let u : _≡_ {A = ℕ} 0 1 = cc in absurd (omega arith)
         go (done f g q r n w) = let z : Unfit ≡ Done _ _ = sym y ∙ q in let u : _≡_ {A = ℕ} 0 1 = cc in absurd (omega arith)
 
     -- one that is done has well-formed diagrams and room
-    module _ (n r : ℕ) (d : x .told ≡ Done n r) where
+    module _ (n r : ℕ) (d : x ≡ Done n r) where
       pub record Finished : Type 0 where
         pub well : formed rows m e ≡ true
         pub fits : fitting rows m e ≡ true
         pub kept-is : n ≡ length (keptTable after)
         pub room-is : r ≡ roomOf (m .state .k) (ruleOf rows) (shows rows m .trees) (after .trees)
-        pub refs-are : x .refs ≡ layState (m .state .k) after .refs
+        pub refs-are : rs ≡ layState (m .state .k) after .refs
         pub nodes-are : ns ≡ layNodes C after
         pub work-is : ws ≡ cleared C (m .work)
 
       finished : Finished
       finished = go ended
         where
-          go : Ended x ns ws → Finished
+          go : Ended x rs ns ws → Finished
           go (bad f q i u w) = let z : Done n r ≡ Bad = sym d ∙ q in let y : _≡_ {A = ℕ} 0 1 = cc in absurd (omega arith)
           go (full f g q i u w) = let z : Done n r ≡ Full = sym d ∙ q in let y : _≡_ {A = ℕ} 0 1 = cc in absurd (omega arith)
           go (done f g q p u w) =
@@ -264,7 +266,7 @@ module _ (rows masks : List ℕ) (m : Machine) (e : Event) (a : Asked) (s : Aski
 
       -- what is given back and left is the outcome of an event that is taken
       pub takes : length (a .counts) ≡ 4 → (t : Turn) (vs : List ℕ)
-          → t ≡ takenTurn (m .state) (a .counts) (x .refs) n r (eqb (getD (x .refs) (m .state .rows - 1) 0) 1)
+          → t ≡ takenTurn (m .state) (a .counts) (rs) n r (eqb (getD (rs) (m .state .rows - 1) 0) 1)
           → vs ≡ layValues (m .state .k) (withFresh (m .state .counts) a (listOf (m .state .k) (withCounts (m .state .counts)) (m .values))) → Happens rows m e t ns vs ws
       unfolding takenTurn
       takes four t vs h v =

@@ -27,16 +27,15 @@ fn refused_formed(
     number: u32,
     place: u32,
 ) -> Said
+    requires { ⌜ length (now refs) ≡ 64 ⌝ }
     ensures { λ t. ⌜ t ≡ formedSaid (formedOutcome (figures .k) (figures .rows) (now (free .entry)) (now (refs .entry)) (figures .kept) (now (nodes .entry)) (now (work .entry)) .gives) figures number place ⌝ }
     ensures { λ _. ⌜ now (work .exit) ≡ formedOutcome (figures .k) (figures .rows) (now (free .entry)) (now (refs .entry)) (figures .kept) (now (nodes .entry)) (now (work .entry)) .work ⌝ }
 {
-    let allowed = *free;
-    let before = *refs;
-    let formed = diagram::well_formed(
+    let formed = stepping::well_formed(
         figures.k,
         figures.rows,
-        allowed,
-        before,
+        free,
+        refs,
         figures.kept,
         nodes,
         work,

@@ -34,7 +34,7 @@ returns : tie.Need-returns
 unfolding formedSaid
 returns c =
     let f = c .before .before .before .before .before in
-    let s = f .before .before .before .before .before .before in
+    let s = f .before .before .before .before in
     (c .refused .ensures ∙ sym (ap (λ (y : Formed). formedSaid y (s .args .figures) (s .args .number) (s .args .place)) (sym (f .well-formed .ensures .result) ∙ c .before .enum-told .given .1)), f .well-formed .ensures .work)
 
 same-length-2 : tie.Need-same-length-2
@@ -44,7 +44,7 @@ returns-2 : tie.Need-returns-2
 unfolding formedSaid
 returns-2 c =
     let f = c .before .before .before .before .before in
-    let s = f .before .before .before .before .before .before in
+    let s = f .before .before .before .before in
     (c .refused2 .ensures ∙ sym (ap (λ (y : Formed). formedSaid y (s .args .figures) (s .args .number) (s .args .place)) (sym (f .well-formed .ensures .result) ∙ c .before .enum-told2 .given .1)), f .well-formed .ensures .work)
 
 same-length-3 : tie.Need-same-length-3
@@ -54,7 +54,7 @@ returns-3 : tie.Need-returns-3
 unfolding formedSaid
 returns-3 c =
     let f = c .before .before .before .before .before in
-    let s = f .before .before .before .before .before .before in
+    let s = f .before .before .before .before in
     (c .refused3 .ensures ∙ sym (ap (λ (y : Formed). formedSaid y (s .args .figures) (s .args .number) (s .args .place)) (sym (f .well-formed .ensures .result) ∙ c .before .enum-told3 .given .1)), f .well-formed .ensures .work)
 
 pub refused-formed-spec : {M : Type 1} → statement M
