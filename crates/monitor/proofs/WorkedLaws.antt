@@ -6,7 +6,8 @@ use mathlib.Core.List.{List, []}
 use mathlib.Core.Logic.{⊎-elim}
 use native.Mathlib.Omega.{arith}
 use lib.Dec.{eqb, ltb, leb}
-use lib.ListN.{length, getD}
+use lib.ListN.{length, getD, length-map, List·getD-map}
+use lib.Seq.{ext-getD}
 use borrow.Author.Tests.{eqb-true, leb-true, le-ltb}
 use Rattle.trees.specs.Kept.{allBelow, wellKept}
 use Rattle.trees.proofs.Tests.{bool, and-true-l, and-true-r}
@@ -34,13 +35,15 @@ use Rattle.diagram.specs.declared.Told.{Told}
 use Rattle.diagram.specs.declared.Told.the-variants.{Unfit, Bad, Full, Done}
 use Rattle.diagram.specs.Steps
 use Rattle.diagram.specs.Steps.{judge, formedOutcome, stepOutcome, Leaves}
-use Rattle.instructions.specs.Plan.{instructionOf}
+use Rattle.diagram.specs.Counts.{Visited, Visits}
+use Rattle.instructions.specs.Plan.{instructionOf, planOf}
 use Rattle.instructions.specs.Planned.{planned}
 use Rattle.instructions.specs.Worked.{workedOutcome}
 use Rattle.instructions.proofs.ReadLaws.{NumbersRight}
-use Rattle.instructions.proofs.PlannedLaws.{planned-is}
+use Rattle.instructions.proofs.PlannedLaws.{planned-length, planned-is}
 use Rattle.monitor.specs.Calls.{Happens}
 use Rattle.monitor.specs.Events.{listsRight, Listed, Asking}
+use Rattle.monitor.specs.Visits.{eventPlan}
 use Rattle.monitor.proofs.SaidLaws.{keptTurn, formedTurn, takenTurn}
 use Rattle.monitor.proofs.DecisionLaws.{formed, short, fitting, decides-4, decides-5, decides-6, decides-room}
 use Rattle.monitor.proofs.StartLaws.{k-small}
@@ -136,6 +139,20 @@ module _ (rows masks : List ℕ) (m : Machine) (e : Event) (a : Asked) (s : Aski
 
   abbrev plan : List Instruction
   plan = planned rows e (a .numbers)
+
+  count-is : length (ruleOf rows) ≡ rowCount rows
+  unfolding rowCount
+  count-is = rule-count rows
+
+  -- it is the event's
+  plan-is : plan ≡ eventPlan rows m e
+  unfolding eventPlan planOf planned instructionOf
+  plan-is =
+      ext-getD Yes _ _ (planned-length rows e (a .numbers) (rowCount rows) ∙ sym (length-map (ruleOf rows) (instructionOf (askRows (factOf e) (shows rows m .lists) (ruleOf rows)) (factOf e)) ∙ count-is))
+      (λ i h.
+      let l : i < length (ruleOf rows) = omega (arith, planned-length rows e (a .numbers) (rowCount rows), count-is) in
+      planned-is rows e (a .numbers) (shows rows m .lists) numbers-right i l
+      ∙ sym (List·getD-map (instructionOf (askRows (factOf e) (shows rows m .lists) (ruleOf rows)) (factOf e)) (ruleOf rows) i truth))
 
   module _ (x : Told) (rs ns ws : List ℕ)
       (left : Leaves (stepOutcome (m .state .k) (rowCount rows) plan masks (m .state .refs) (m .state .kept) (m .nodes) (m .work)) x rs ns ws) where
@@ -279,3 +296,8 @@ module _ (rows masks : List ℕ) (m : Machine) (e : Event) (a : Asked) (s : Aski
           (finished .nodes-are)
           (v ∙ written-is (m .state .k) (m .state .counts) (m .values) rows e a (s .asks) ∙ ap (layValues (m .state .k)) (sym lists-after))
           (finished .work-is))
+
+      -- the visits are those of the event's plan
+      pub looks : (complements swept : ℕ) → Visits (m .state .k) (rowCount rows) plan (m .state .refs) (m .state .kept) (m .nodes) x complements swept
+          → Visited (m .state .k) (length (ruleOf rows)) (eventPlan rows m e) (m .state .refs) (m .state .kept) (m .nodes) n complements swept
+      looks complements swept v = rw (count-is, ← plan-is) (rw d at v)

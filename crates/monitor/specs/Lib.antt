@@ -2,5 +2,6 @@
 pub mod Decisions
 pub mod Calls
 pub mod Said
+pub mod Visits
 pub mod Events
 pub mod Runs

@@ -18,11 +18,13 @@ turnOf t refs = record { state = whole (t .figures) refs; answer = t .answer }
 
 -- what is said of a refused event: "A refused event returns the state it got"
 unfoldable pub refusedSaid : Figures → ℕ → ℕ → Said
-refusedSaid f number place = record { figures = f; answer = Refused number place }
+refusedSaid f number place = record { figures = f; answer = Refused number place; complements = 0; swept = 0 }
 
 -- what is said of an event that is taken
-unfoldable pub takenSaid : Figures → List ℕ → ℕ → ℕ → Bool → Said
-takenSaid f counts kept room y = record {
+unfoldable pub takenSaid : Figures → List ℕ → ℕ → ℕ → Bool → ℕ → ℕ → Said
+takenSaid f counts kept room y complements swept = record {
   figures = record { k = f .k; rows = f .rows; kept = kept; counts = counts };
   answer = Verdict y kept room;
+  complements = complements;
+  swept = swept;
 }

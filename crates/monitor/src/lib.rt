@@ -13,6 +13,7 @@ ghost use lib.ListN.{length};
 ghost use Rattle.meaning.specs.Outcome.{stateOf};
 ghost use Rattle.monitor.specs.Calls.{refusedTurn, startedTurn, machine, Starts, Happens};
 ghost use Rattle.monitor.specs.Said.{whole, turnOf, refusedSaid};
+ghost use Rattle.monitor.specs.Visits.{Looks};
 
 // What is done with a call: it is taken, or refused with a number and a place.
 enum Decision {
@@ -75,10 +76,12 @@ pub struct Figures {
     pub counts: [u32; 4],
 }
 
-// What an event on lent references gives back: the figures after it, and the answer.
+// What an event on lent references gives back: the figures after it, the answer, and the visits of its complements and of its sweep.
 pub struct Said {
     pub figures: Figures,
     pub answer: Answer,
+    pub complements: u32,
+    pub swept: u32,
 }
 
 // What is said of a refused event: the figures are those that it got.
@@ -88,6 +91,8 @@ fn refused(figures: Figures, number: u32, place: u32) -> Said
     Said {
         figures,
         answer: Answer::Refused(number, place),
+        complements: 0,
+        swept: 0,
     }
 }
 
@@ -104,6 +109,7 @@ pub fn event_on(
 ) -> Said
     requires { ⌜ (length (figures .counts) ≡ 4) × (length (now refs) ≡ 64) ⌝ }
     ensures { λ t. ⌜ Happens (now (rows .entry)) (machine (whole figures (now (refs .entry))) (now (nodes .entry)) (now (values .entry)) (now (work .entry))) event (turnOf t (now (refs .exit))) (now (nodes .exit)) (now (values .exit)) (now (work .exit)) ⌝ }
+    ensures { λ t. ⌜ Looks (now (rows .entry)) (machine (whole figures (now (refs .entry))) (now (nodes .entry)) (now (values .entry)) (now (work .entry))) event (t .answer) (t .complements) (t .swept) ⌝ }
 {
     let rule = rule::check(rows);
     let checked = rule.checked;

@@ -15,6 +15,7 @@ ghost use lib.ListN.{getD, length};
 ghost use Rattle.diagram.specs.Steps.{formedOutcome};
 ghost use Rattle.monitor.specs.Calls.{machine, Happens};
 ghost use Rattle.monitor.specs.Said.{whole, turnOf, takenSaid};
+ghost use Rattle.monitor.specs.Visits.{Looks};
 ghost use Rattle.monitor.specs.Events.{formedSaid, Listed, Asking};
 
 // Refuses an event, unless its diagrams are not well kept: refusal 4 comes first.
@@ -48,9 +49,17 @@ fn refused_formed(
 }
 
 // What is said of an event that is taken. The verdict is read off the last row's reference.
-fn taken(figures: Figures, counts: [u32; 4], refs: &[u32; 64], kept: u32, room: u32) -> Said
+fn taken(
+    figures: Figures,
+    counts: [u32; 4],
+    refs: &[u32; 64],
+    kept: u32,
+    room: u32,
+    complements: u32,
+    swept: u32,
+) -> Said
     requires { ⌜ (0 < figures .rows) × (figures .rows ≤ 64) ⌝ }
-    ensures { λ t. ⌜ t ≡ takenSaid figures counts kept room (eqb (getD (now (refs .entry)) (figures .rows - 1) 0) 1) ⌝ }
+    ensures { λ t. ⌜ t ≡ takenSaid figures counts kept room (eqb (getD (now (refs .entry)) (figures .rows - 1) 0) 1) complements swept ⌝ }
 {
     let last = (figures.rows - 1) as usize;
     let yes = refs[last] == 1;
@@ -62,6 +71,8 @@ fn taken(figures: Figures, counts: [u32; 4], refs: &[u32; 64], kept: u32, room: 
             counts,
         },
         answer: Answer::Verdict(yes, kept, room),
+        complements,
+        swept,
     }
 }
 
@@ -79,6 +90,7 @@ fn work_on(
 ) -> Said
     requires { ⌜ Asking (now rows) (now free) (machine (whole figures (now refs)) (now nodes) (now values) (now work)) event asked ⌝ }
     ensures { λ t. ⌜ Happens (now (rows .entry)) (machine (whole figures (now (refs .entry))) (now (nodes .entry)) (now (values .entry)) (now (work .entry))) event (turnOf t (now (refs .exit))) (now (nodes .exit)) (now (values .exit)) (now (work .exit)) ⌝ }
+    ensures { λ t. ⌜ Looks (now (rows .entry)) (machine (whole figures (now (refs .entry))) (now (nodes .entry)) (now (values .entry)) (now (work .entry))) event (t .answer) (t .complements) (t .swept) ⌝ }
 {
     let given = asked.numbers;
     let stepped = stepping::step(
@@ -98,7 +110,15 @@ fn work_on(
             let old = figures.counts;
             lists::write_fresh(figures.k, old, asked, values);
             let counts = asked.counts;
-            taken(figures, counts, refs, kept, room)
+            taken(
+                figures,
+                counts,
+                refs,
+                kept,
+                room,
+                stepped.complements,
+                stepped.swept,
+            )
         }
         Told::Full => refused(figures, 7, 0),
         Told::Bad => refused(figures, 4, 0),
@@ -119,6 +139,7 @@ pub fn judged(
 ) -> Said
     requires { ⌜ Listed (now rows) (now free) (machine (whole figures (now refs)) (now nodes) (now values) (now work)) ⌝ }
     ensures { λ t. ⌜ Happens (now (rows .entry)) (machine (whole figures (now (refs .entry))) (now (nodes .entry)) (now (values .entry)) (now (work .entry))) event (turnOf t (now (refs .exit))) (now (nodes .exit)) (now (values .exit)) (now (work .exit)) ⌝ }
+    ensures { λ t. ⌜ Looks (now (rows .entry)) (machine (whole figures (now (refs .entry))) (now (nodes .entry)) (now (values .entry)) (now (work .entry))) event (t .answer) (t .complements) (t .swept) ⌝ }
 {
     if !rule::agrees(rows, event.predicate, event.count) {
         return refused_formed(figures, refs, free, nodes, work, 5, 0);

@@ -20,7 +20,7 @@ same-length-3 : tie.Need-same-length-3
 same-length-3 c = search needs
 
 returns : tie.Need-returns
-returns c = c .before .before .before .before .before .before .before .before .event-on .ensures
+returns c = c .before .before .before .before .before .before .before .before .event-on .ensures .0
 
 pub event-spec : {M : Type 1} → statement M
 event-spec = tie.close (tie.spec event-on-requires same-length same-length-2 same-length-3 returns)

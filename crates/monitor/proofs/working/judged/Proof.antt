@@ -3,7 +3,7 @@ use mathlib.Core.Path.{refl, sym, _∙_}
 use borrow.Author.Needs.{needs}
 use borrow.Author.Tests.{not-true, not-false}
 use Rattle.monitor.proofs.StartLaws.{k-small}
-use Rattle.monitor.proofs.SaidLaws.{formed-turn}
+use Rattle.monitor.proofs.SaidLaws.{formed-turn, formed-looks}
 use Rattle.monitor.proofs.WorkedLaws.{askable, asking, refuses-5, refuses-6}
 use Rattle.monitor.proofs.working.judged.Statement.{statement}
 use Rattle.monitor.proofs.working.judged.Tie as tie
@@ -25,9 +25,11 @@ returns c =
     let refused = c .before .before in
     let test = refused .before .before .before .before in
     let first = test .before in
-    let s = first .before .before .before .before .before in
-    refuses-5 _ _ _ _ (s .pre) (sym (first .agrees .ensures .each (s .args .event) refl refl) ∙ not-true _ (test .if1 .taken)) _ _ _ _
-    (formed-turn _ _ _ _ _ _ (refused .refused-formed .ensures .0)) (refused .refused-formed .ensures .1) refl refl
+    let s = first .before .before .before .before .before in (
+      refuses-5 _ _ _ _ (s .pre) (sym (first .agrees .ensures .each (s .args .event) refl refl) ∙ not-true _ (test .if1 .taken)) _ _ _ _
+          (formed-turn _ _ _ _ _ _ (refused .refused-formed .ensures .0)) (refused .refused-formed .ensures .1) refl refl,
+      formed-looks _ _ _ _ _ _ _ _ (refused .refused-formed .ensures .0),
+    )
 
 ask-requires : tie.Need-ask-requires
 ask-requires c κs =
@@ -58,9 +60,11 @@ returns-2 c =
     let ask = short .before .before .before in
     let test = ask .before .before .before in
     let first = test .before in
-    let s = first .before .before .before .before .before in
-    refuses-6 _ _ _ _ (s .pre) _ (ask .ask .ensures) (sym (first .agrees .ensures .each (s .args .event) refl refl) ∙ not-false _ (test .if1 .left)) _ (short .before .shortest .ensures) (short .if2 .taken) _ _ _ _
-    (formed-turn _ _ _ _ _ _ (refused .refused-formed2 .ensures .0)) (refused .refused-formed2 .ensures .1) refl refl
+    let s = first .before .before .before .before .before in (
+      refuses-6 _ _ _ _ (s .pre) _ (ask .ask .ensures) (sym (first .agrees .ensures .each (s .args .event) refl refl) ∙ not-false _ (test .if1 .left)) _ (short .before .shortest .ensures) (short .if2 .taken) _ _ _ _
+          (formed-turn _ _ _ _ _ _ (refused .refused-formed2 .ensures .0)) (refused .refused-formed2 .ensures .1) refl refl,
+      formed-looks _ _ _ _ _ _ _ _ (refused .refused-formed2 .ensures .0),
+    )
 
 work-on-requires : tie.Need-work-on-requires
 work-on-requires c κs =

@@ -2,8 +2,8 @@
 use mathlib.Core.Path.{_≡_, refl, sym, _∙_}
 use lib.ListN.{length, length-map}
 use borrow.Author.Needs.{needs}
-use Rattle.monitor.proofs.SaidLaws.{kept-turn, taken-turn}
-use Rattle.monitor.proofs.WorkedLaws.{few-values, rows-few, writes, takes, refuses-full, refuses-bad, never-unfit}
+use Rattle.monitor.proofs.SaidLaws.{kept-turn, taken-turn, kept-looks, taken-looks}
+use Rattle.monitor.proofs.WorkedLaws.{few-values, rows-few, writes, takes, refuses-full, refuses-bad, never-unfit, looks}
 use Rattle.monitor.proofs.working.work_on.Statement.{statement}
 use Rattle.monitor.proofs.working.work_on.Tie as tie
 
@@ -56,9 +56,11 @@ returns c =
     let step = told .before .before .before .before .before .before in
     let s = step .before .before .before .before .before .before .before .before .before in
     let did = step .step .ensures in
-    let four : length (s .args .asked .counts) ≡ 4 = sym (length-map (s .args .asked .counts) _) ∙ s .good .1 .1 .1 .1 .1 .1 .1 .1 .0 .1 .1 .0 .1 .0 .1 in
-    takes _ _ _ _ _ (s .pre) _ _ _ _ (did .0) _ _ (told .told .given .1) four _ _
-    (taken-turn _ _ _ _ _ _ _ _ (c .taken .ensures)) (c .before .before .before .before .before .write-fresh .ensures)
+    let four : length (s .args .asked .counts) ≡ 4 = sym (length-map (s .args .asked .counts) _) ∙ s .good .1 .1 .1 .1 .1 .1 .1 .1 .0 .1 .1 .0 .1 .0 .1 in (
+      takes _ _ _ _ _ (s .pre) _ _ _ _ (did .0) _ _ (told .told .given .1) four _ _
+          (taken-turn _ _ _ _ _ _ _ _ _ _ (c .taken .ensures)) (c .before .before .before .before .before .write-fresh .ensures),
+      taken-looks _ _ _ _ _ _ _ _ _ _ _ (c .taken .ensures) (looks _ _ _ _ _ (s .pre) _ _ _ _ (did .0) _ _ (told .told .given .1) _ _ (did .1)),
+    )
 
 same-length-4 : tie.Need-same-length-4
 same-length-4 c = search needs
@@ -69,8 +71,10 @@ same-length-5 c = search needs
 returns-2 : tie.Need-returns-2
 returns-2 c =
     let step = c .before .before .before .before .before .before .before in
-    let did = step .step .ensures in
-    refuses-full _ _ _ _ _ (step .before .before .before .before .before .before .before .before .before .pre) _ _ _ _ (did .0) _ _ (c .before .enum-told .given .1) (kept-turn _ _ _ _ _ _ (c .refused .ensures)) refl
+    let did = step .step .ensures in (
+      refuses-full _ _ _ _ _ (step .before .before .before .before .before .before .before .before .before .pre) _ _ _ _ (did .0) _ _ (c .before .enum-told .given .1) (kept-turn _ _ _ _ _ _ (c .refused .ensures)) refl,
+      kept-looks _ _ _ _ _ _ _ (c .refused .ensures),
+    )
 
 same-length-6 : tie.Need-same-length-6
 same-length-6 c = search needs
@@ -81,8 +85,10 @@ same-length-7 c = search needs
 returns-3 : tie.Need-returns-3
 returns-3 c =
     let step = c .before .before .before .before .before .before .before in
-    let did = step .step .ensures in
-    refuses-bad _ _ _ _ _ (step .before .before .before .before .before .before .before .before .before .pre) _ _ _ _ (did .0) _ _ (c .before .enum-told2 .given .1) (kept-turn _ _ _ _ _ _ (c .refused2 .ensures)) refl
+    let did = step .step .ensures in (
+      refuses-bad _ _ _ _ _ (step .before .before .before .before .before .before .before .before .before .pre) _ _ _ _ (did .0) _ _ (c .before .enum-told2 .given .1) (kept-turn _ _ _ _ _ _ (c .refused2 .ensures)) refl,
+      kept-looks _ _ _ _ _ _ _ (c .refused2 .ensures),
+    )
 
 same-length-8 : tie.Need-same-length-8
 same-length-8 c = search needs
