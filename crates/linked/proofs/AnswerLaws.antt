@@ -68,32 +68,32 @@ bits-tell true true e = refl
 bits-tell false true e = absurd (omega arith)
 bits-tell true false e = absurd (omega arith)
 
-starts-tell : (a b : Answer) → OfStart a → OfStart b → packedAnswer a ≡ packedAnswer b → a ≡ b
+starts-tell : (a b : Answer) → OfStart a → OfStart b → (c v c′ v′ : ℕ) → packedAnswer a c v ≡ packedAnswer b c′ v′ → a ≡ b
 unfolding packedAnswer
-starts-tell Started Started started started e = refl
-starts-tell Started (Refused n p) started (start-refused h) e = absurd (omega (arith, ap (λ (l : List ℕ). getD l 0 0) e))
-starts-tell (Refused n p) Started (start-refused h) started e = absurd (omega (arith, ap (λ (l : List ℕ). getD l 0 0) e))
-starts-tell (Refused n p) (Refused m q) (start-refused h) (start-refused g) e = cc e
+starts-tell Started Started started started c v c′ v′ e = refl
+starts-tell Started (Refused n p) started (start-refused h) c v c′ v′ e = absurd (omega (arith, ap (λ (l : List ℕ). getD l 0 0) e))
+starts-tell (Refused n p) Started (start-refused h) started c v c′ v′ e = absurd (omega (arith, ap (λ (l : List ℕ). getD l 0 0) e))
+starts-tell (Refused n p) (Refused m q) (start-refused h) (start-refused g) c v c′ v′ e = cc e
 
-events-tell : (a b : Answer) → OfEvent a → OfEvent b → packedAnswer a ≡ packedAnswer b → a ≡ b
+events-tell : (a b : Answer) → OfEvent a → OfEvent b → (c v c′ v′ : ℕ) → packedAnswer a c v ≡ packedAnswer b c′ v′ → a ≡ b
 unfolding packedAnswer
-events-tell (Verdict y j r) (Verdict z k s) verdict verdict e =
+events-tell (Verdict y j r) (Verdict z k s) verdict verdict c v c′ v′ e =
     let p : y ≡ z = bits-tell y z (ap (λ (l : List ℕ). getD l 1 0) e) in
     let q : j ≡ k = ap (λ (l : List ℕ). getD l 2 0) e in
     let t : r ≡ s = ap (λ (l : List ℕ). getD l 3 0) e in
     cc
-events-tell (Verdict y j r) (Refused n p) verdict (event-refused h) e = absurd (omega (arith, ap (λ (l : List ℕ). getD l 0 0) e))
-events-tell (Refused n p) (Verdict z k s) (event-refused h) verdict e = absurd (omega (arith, ap (λ (l : List ℕ). getD l 0 0) e))
-events-tell (Refused n p) (Refused m q) (event-refused h) (event-refused g) e = cc e
+events-tell (Verdict y j r) (Refused n p) verdict (event-refused h) c v c′ v′ e = absurd (omega (arith, ap (λ (l : List ℕ). getD l 0 0) e))
+events-tell (Refused n p) (Verdict z k s) (event-refused h) verdict c v c′ v′ e = absurd (omega (arith, ap (λ (l : List ℕ). getD l 0 0) e))
+events-tell (Refused n p) (Refused m q) (event-refused h) (event-refused g) c v c′ v′ e = cc e
 
 -- two starts whose answers are written alike answered alike
 pub one-start-answer : (k j : ℕ) (rows nodes values rows′ nodes′ values′ : List ℕ)
-    → packedAnswer (startOutcome k rows nodes values .answer) ≡ packedAnswer (startOutcome j rows′ nodes′ values′ .answer)
+    → packedAnswer (startOutcome k rows nodes values .answer) 0 0 ≡ packedAnswer (startOutcome j rows′ nodes′ values′ .answer) 0 0
     → startOutcome k rows nodes values .answer ≡ startOutcome j rows′ nodes′ values′ .answer
-one-start-answer k j rows nodes values rows′ nodes′ values′ e = starts-tell _ _ (of-start k rows nodes values) (of-start j rows′ nodes′ values′) e
+one-start-answer k j rows nodes values rows′ nodes′ values′ e = starts-tell _ _ (of-start k rows nodes values) (of-start j rows′ nodes′ values′) 0 0 0 0 e
 
 -- two events whose answers are written alike were answered alike
-pub one-event-answer : (rows rows′ : List ℕ) (m m′ : Machine) (e e′ : Event)
-    → packedAnswer (eventOutcome rows m e .answer) ≡ packedAnswer (eventOutcome rows′ m′ e′ .answer)
+pub one-event-answer : (rows rows′ : List ℕ) (m m′ : Machine) (e e′ : Event) (c v c′ v′ : ℕ)
+    → packedAnswer (eventOutcome rows m e .answer) c v ≡ packedAnswer (eventOutcome rows′ m′ e′ .answer) c′ v′
     → eventOutcome rows m e .answer ≡ eventOutcome rows′ m′ e′ .answer
-one-event-answer rows rows′ m m′ e e′ h = events-tell _ _ (of-event rows m e) (of-event rows′ m′ e′) h
+one-event-answer rows rows′ m m′ e e′ c v c′ v′ h = events-tell _ _ (of-event rows m e) (of-event rows′ m′ e′) c v c′ v′ h

@@ -8,7 +8,10 @@ use borrow.Author.Tests.{eq-eqb, ne-eqb}
 use Rattle.meaning.specs.declared.State.{State}
 use Rattle.meaning.specs.declared.Event.{Event}
 use Rattle.meaning.specs.declared.Turn.{Turn}
+use Rattle.meaning.specs.declared.Answer.{Answer}
 use Rattle.monitor.specs.Calls.{Starts, Happens, machine}
+use Rattle.monitor.specs.Visits.{Looks}
+use Rattle.monitor.proofs.OneOutcome.{looks-are}
 use Rattle.linked.specs.Packing.{packedState, unpackedState, packedAnswer}
 use Rattle.linked.specs.Calls.{fits, settleStart, startLeft, LinkedStart, machineOf, settleEvent, eventLeft, LinkedEvent}
 
@@ -18,14 +21,14 @@ unfolding fits
 other-state state answer h = rw (ne-eqb (length state) 71 h) refl
 
 -- an answer of another length
-pub other-answer : (state answer : List ℕ) → length state ≡ 71 → (length answer ≡ 4 → ⊥) → fits state answer ≡ false
+pub other-answer : (state answer : List ℕ) → length state ≡ 71 → (length answer ≡ 6 → ⊥) → fits state answer ≡ false
 unfolding fits
-other-answer state answer e h = rw (eq-eqb (length state) 71 e, ne-eqb (length answer) 4 h) refl
+other-answer state answer e h = rw (eq-eqb (length state) 71 e, ne-eqb (length answer) 6 h) refl
 
 -- both lengths are right
-pub right-lengths : (state answer : List ℕ) → length state ≡ 71 → length answer ≡ 4 → fits state answer ≡ true
+pub right-lengths : (state answer : List ℕ) → length state ≡ 71 → length answer ≡ 6 → fits state answer ≡ true
 unfolding fits
-right-lengths state answer e h = rw (eq-eqb (length state) 71 e, eq-eqb (length answer) 4 h) refl
+right-lengths state answer e h = rw (eq-eqb (length state) 71 e, eq-eqb (length answer) 6 h) refl
 
 -- a start that is not made
 pub start-not-made : (k : ℕ) (rows nodes values state answer : List ℕ) → fits state answer ≡ false
@@ -34,8 +37,8 @@ unfolding startLeft settleStart
 start-not-made k rows nodes values state answer e = record { called = rw e refl; nodes-are = rw e refl; values-are = rw e refl; state-is = rw e refl; answer-is = rw e refl }
 
 -- a start that is made
-pub start-made : (k : ℕ) (rows nodes values state answer : List ℕ) (t : Turn) (ns vs ss as′ : List ℕ) → length state ≡ 71 → length answer ≡ 4
-    → Starts k rows nodes values t ns vs → ss ≡ packedState (t .state) → as′ ≡ packedAnswer (t .answer)
+pub start-made : (k : ℕ) (rows nodes values state answer : List ℕ) (t : Turn) (ns vs ss as′ : List ℕ) → length state ≡ 71 → length answer ≡ 6
+    → Starts k rows nodes values t ns vs → ss ≡ packedState (t .state) → as′ ≡ packedAnswer (t .answer) 0 0
     → LinkedStart k rows nodes values state answer true ns vs ss as′
 unfolding startLeft settleStart
 start-made k rows nodes values state answer t ns vs ss as′ h g o p q =
@@ -45,7 +48,7 @@ start-made k rows nodes values state answer t ns vs ss as′ h g o p q =
       nodes-are = rw e (o .nodes-are);
       values-are = rw e (o .values-are);
       state-is = rw e (p ∙ ap packedState (o .state));
-      answer-is = rw e (q ∙ ap packedAnswer (o .answer));
+      answer-is = rw e (q ∙ ap (λ (a : Answer). packedAnswer a 0 0) (o .answer));
     }
 
 -- an event that is not made
@@ -62,19 +65,21 @@ event-not-made rows nodes values work e state answer h = record {
 }
 
 -- an event that is made on the state that the numbers are
-pub event-made : (rows nodes values work : List ℕ) (e : Event) (state answer : List ℕ) (s : State) (t : Turn) (ns vs ws ss as′ : List ℕ)
-    → length state ≡ 71 → length answer ≡ 4 → s ≡ unpackedState state
-    → Happens rows (machine s nodes values work) e t ns vs ws → ss ≡ packedState (t .state) → as′ ≡ packedAnswer (t .answer)
+pub event-made : (rows nodes values work : List ℕ) (e : Event) (state answer : List ℕ) (s : State) (t : Turn) (complements swept : ℕ) (ns vs ws ss as′ : List ℕ)
+    → length state ≡ 71 → length answer ≡ 6 → s ≡ unpackedState state
+    → Happens rows (machine s nodes values work) e t ns vs ws → Looks rows (machine s nodes values work) e (t .answer) complements swept
+    → ss ≡ packedState (t .state) → as′ ≡ packedAnswer (t .answer) complements swept
     → LinkedEvent rows nodes values work e state answer true ns vs ws ss as′
 unfolding eventLeft settleEvent machineOf
-event-made rows nodes values work e state answer s t ns vs ws ss as′ h g u o p q =
+event-made rows nodes values work e state answer s t complements swept ns vs ws ss as′ h g u o l p q =
     let f : fits state answer ≡ true = right-lengths state answer h g in
     let m : Happens rows (machine (unpackedState state) nodes values work) e t ns vs ws = subst (λ (x : State). Happens rows (machine x nodes values work) e t ns vs ws) u o in
+    let k = looks-are rows (machine (unpackedState state) nodes values work) e (t .answer) complements swept (subst (λ (x : State). Looks rows (machine x nodes values work) e (t .answer) complements swept) u l) in
     record {
       called = rw f refl;
       nodes-are = rw f (m .nodes-are);
       values-are = rw f (m .values-are);
       work-is = rw f (m .work-is);
       state-is = rw f (p ∙ ap packedState (m .state));
-      answer-is = rw f (q ∙ ap packedAnswer (m .answer));
+      answer-is = rw f (q ∙ rw (k .0, k .1, m .answer) refl);
     }

@@ -13,19 +13,22 @@ use Rattle.monitor.specs.declared.Figures.{Figures}
 use Rattle.monitor.specs.Said.{whole}
 use Rattle.linked.specs.Packing.{packedState, figuresOf, referencesOf, unpackedState, bit, packedAnswer}
 
--- four numbers written one after the other
-pub four-are : (xs : List ℕ) (a b c d : ℕ) → length xs ≡ 4 → set (set (set (set xs 0 a) 1 b) 2 c) 3 d ≡ a ∷ b ∷ c ∷ d ∷ []
-four-are [] a b c d h = absurd (omega arith)
-four-are (x ∷ []) a b c d h = absurd (omega arith)
-four-are (x ∷ y ∷ []) a b c d h = absurd (omega arith)
-four-are (x ∷ y ∷ z ∷ []) a b c d h = absurd (omega arith)
-four-are (x ∷ y ∷ z ∷ w ∷ []) a b c d h = refl
-four-are (x ∷ y ∷ z ∷ w ∷ v ∷ xs) a b c d h = absurd (omega arith)
+-- six numbers written one after the other
+pub six-are : (xs : List ℕ) (a b c d e f : ℕ) → length xs ≡ 6 → set (set (set (set (set (set xs 0 a) 1 b) 2 c) 3 d) 4 e) 5 f ≡ a ∷ b ∷ c ∷ d ∷ e ∷ f ∷ []
+six-are [] a b c d e f h = absurd (omega arith)
+six-are (x ∷ []) a b c d e f h = absurd (omega arith)
+six-are (x ∷ y ∷ []) a b c d e f h = absurd (omega arith)
+six-are (x ∷ y ∷ z ∷ []) a b c d e f h = absurd (omega arith)
+six-are (x ∷ y ∷ z ∷ w ∷ []) a b c d e f h = absurd (omega arith)
+six-are (x ∷ y ∷ z ∷ w ∷ v ∷ []) a b c d e f h = absurd (omega arith)
+six-are (x ∷ y ∷ z ∷ w ∷ v ∷ u ∷ []) a b c d e f h = refl
+six-are (x ∷ y ∷ z ∷ w ∷ v ∷ u ∷ t ∷ xs) a b c d e f h = absurd (omega arith)
 
--- a verdict written as four numbers
-pub verdict-put : (xs : List ℕ) (a : Answer) (y : Bool) (b kept room : ℕ) → xs ≡ 0 ∷ b ∷ kept ∷ room ∷ [] → b ≡ bit y → a ≡ Verdict y kept room → xs ≡ packedAnswer a
+-- a verdict written as six numbers
+pub verdict-put : (xs : List ℕ) (a : Answer) (y : Bool) (b kept room complements swept : ℕ) → xs ≡ 0 ∷ b ∷ kept ∷ room ∷ complements ∷ swept ∷ [] → b ≡ bit y → a ≡ Verdict y kept room
+    → xs ≡ packedAnswer a complements swept
 unfolding packedAnswer
-verdict-put xs a y b kept room p q e = p ∙ rw (q, e) refl
+verdict-put xs a y b kept room complements swept p q e = p ∙ rw (q, e) refl
 
 -- nothing of d is left where a list of its length is written over it
 pub all-over : (d s : List ℕ) (n : ℕ) → length d ≤ n → s ++ drop n d ≡ s

@@ -7,11 +7,12 @@ use lib.Dec.{eqb}
 use lib.ListN.{length}
 use Rattle.meaning.specs.declared.Event.{Event}
 use Rattle.meaning.specs.Outcome.{StartOutcome, startOutcome, Machine, EventOutcome, eventOutcome}
+use Rattle.monitor.specs.Visits.{complementsTold, sweptTold}
 use Rattle.linked.specs.Packing.{packedState, unpackedState, packedAnswer}
 
--- a call is made if the state has 71 numbers and the answer 4
+-- a call is made if the state has 71 numbers and the answer 6
 unfoldable pub fits : List ℕ → List ℕ → Bool
-fits state answer = eqb (length state) 71 && eqb (length answer) 4
+fits state answer = eqb (length state) 71 && eqb (length answer) 6
 
 -- what a start gives back, and what each lent slice then holds
 pub record StartLeft : Type 0 where
@@ -23,7 +24,7 @@ pub record StartLeft : Type 0 where
 
 -- a call that is made leaves its outcome, and one that is not leaves every slice as it was
 unfoldable pub settleStart : Bool → StartOutcome → List ℕ → List ℕ → List ℕ → List ℕ → StartLeft
-settleStart true o nodes values state answer = record { called = true; nodes = o .nodes; values = o .values; state = packedState (o .state); answer = packedAnswer (o .answer) }
+settleStart true o nodes values state answer = record { called = true; nodes = o .nodes; values = o .values; state = packedState (o .state); answer = packedAnswer (o .answer) 0 0 }
 settleStart false o nodes values state answer = record { called = false; nodes = nodes; values = values; state = state; answer = answer }
 
 unfoldable pub startLeft : ℕ → List ℕ → List ℕ → List ℕ → List ℕ → List ℕ → StartLeft
@@ -54,19 +55,22 @@ pub record EventLeft : Type 0 where
   pub state : List ℕ
   pub answer : List ℕ
 
-unfoldable pub settleEvent : Bool → EventOutcome → List ℕ → List ℕ → List ℕ → List ℕ → List ℕ → EventLeft
-settleEvent true o nodes values work state answer = record {
+unfoldable pub settleEvent : Bool → EventOutcome → ℕ → ℕ → List ℕ → List ℕ → List ℕ → List ℕ → List ℕ → EventLeft
+settleEvent true o complements swept nodes values work state answer = record {
   called = true;
   nodes = o .left .nodes;
   values = o .left .values;
   work = o .left .work;
   state = packedState (o .left .state);
-  answer = packedAnswer (o .answer);
+  answer = packedAnswer (o .answer) complements swept;
 }
-settleEvent false o nodes values work state answer = record { called = false; nodes = nodes; values = values; work = work; state = state; answer = answer }
+settleEvent false o complements swept nodes values work state answer = record { called = false; nodes = nodes; values = values; work = work; state = state; answer = answer }
 
 unfoldable pub eventLeft : List ℕ → List ℕ → List ℕ → List ℕ → Event → List ℕ → List ℕ → EventLeft
-eventLeft rows nodes values work e state answer = settleEvent (fits state answer) (eventOutcome rows (machineOf nodes values work state) e) nodes values work state answer
+eventLeft rows nodes values work e state answer =
+    let m = machineOf nodes values work state in
+    let a = eventOutcome rows m e .answer in
+    settleEvent (fits state answer) (eventOutcome rows m e) (complementsTold rows m e a) (sweptTold rows m e a) nodes values work state answer
 
 -- an event that gave this back and left these slices had the outcome of the definitions
 pub record LinkedEvent (rows nodes values work : List ℕ) (e : Event) (state answer : List ℕ) (r : Bool) (nodes′ values′ work′ state′ answer′ : List ℕ) : Type 0 where

@@ -29,8 +29,9 @@ unfoldable pub bit : Bool → ℕ
 bit true = 1
 bit false = 0
 
--- An answer is 4 numbers: the refusal's number and place, then 0 and 0; or 0, and of a verdict yes or no, the kept nodes and the room.
-unfoldable pub packedAnswer : Answer → List ℕ
-packedAnswer Started = 0 ∷ 0 ∷ 0 ∷ 0 ∷ []
-packedAnswer (Verdict y kept room) = 0 ∷ bit y ∷ kept ∷ room ∷ []
-packedAnswer (Refused n p) = n ∷ p ∷ 0 ∷ 0 ∷ []
+-- An answer is 6 numbers: the refusal's number and place, then 0 and 0; or 0, and of a verdict yes or no, the kept nodes and the room;
+-- and last the visits of the complements and of the sweep.
+unfoldable pub packedAnswer : Answer → ℕ → ℕ → List ℕ
+packedAnswer Started complements swept = 0 ∷ 0 ∷ 0 ∷ 0 ∷ complements ∷ swept ∷ []
+packedAnswer (Verdict y kept room) complements swept = 0 ∷ bit y ∷ kept ∷ room ∷ complements ∷ swept ∷ []
+packedAnswer (Refused n p) complements swept = n ∷ p ∷ 0 ∷ 0 ∷ complements ∷ swept ∷ []

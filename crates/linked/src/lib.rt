@@ -1,4 +1,4 @@
-// The monitor for programs in C and Rust that link it: the two calls, with the state as 71 numbers and the answer as 4.
+// The monitor for programs in C and Rust that link it: the two calls, with the state as 71 numbers and the answer as 6.
 // Both calls are total. How numbers are laid out is in specs/Packing.antt, what each call gives back and leaves in specs/Calls.antt.
 mod packing;
 
@@ -7,7 +7,7 @@ use meaning::Value;
 use monitor::Figures;
 ghost use Rattle.linked.specs.Calls.{eventOf, LinkedStart, LinkedEvent};
 
-// Start. False, with nothing written, where the state has not 71 numbers or the answer not 4.
+// Start. False, with nothing written, where the state has not 71 numbers or the answer not 6.
 #[no_mangle]
 pub extern "C" fn moheguzari_start(
     k: u32,
@@ -22,7 +22,7 @@ pub extern "C" fn moheguzari_start(
     if state.len() != 71 {
         return false;
     }
-    if answer.len() != 4 {
+    if answer.len() != 6 {
         return false;
     }
     let turn = monitor::start(k, rows, nodes, values);
@@ -37,12 +37,12 @@ pub extern "C" fn moheguzari_start(
         counts,
     };
     packing::pack(figures, refs, state);
-    packing::put(told, answer);
+    packing::put(told, 0, 0, answer);
     true
 }
 
 // Event: a predicate, its count of values, and three values, of which those past the count are ignored. False, with nothing
-// written, where the state has not 71 numbers or the answer not 4.
+// written, where the state has not 71 numbers or the answer not 6.
 #[no_mangle]
 pub extern "C" fn moheguzari_event(
     rows: &[u32],
@@ -62,7 +62,7 @@ pub extern "C" fn moheguzari_event(
     if state.len() != 71 {
         return false;
     }
-    if answer.len() != 4 {
+    if answer.len() != 6 {
         return false;
     }
     let before = packing::figures(state);
@@ -76,6 +76,6 @@ pub extern "C" fn moheguzari_event(
     let after = said.figures;
     let told = said.answer;
     packing::pack(after, refs, state);
-    packing::put(told, answer);
+    packing::put(told, said.complements, said.swept, answer);
     true
 }

@@ -63,25 +63,29 @@ fn bit_of(yes: bool) -> u32
     if yes { 1 } else { 0 }
 }
 
-// Writes four numbers.
-fn four(numbers: &mut [u32], a: u32, b: u32, c: u32, d: u32)
-    requires { ⌜ length (now numbers) ≡ 4 ⌝ }
-    ensures { λ _. ⌜ now (numbers .exit) ≡ a ∷ b ∷ c ∷ d ∷ [] ⌝ }
+// Writes six numbers.
+fn six(numbers: &mut [u32], a: u32, b: u32, c: u32, d: u32, e: u32, f: u32)
+    requires { ⌜ length (now numbers) ≡ 6 ⌝ }
+    ensures { λ _. ⌜ now (numbers .exit) ≡ a ∷ b ∷ c ∷ d ∷ e ∷ f ∷ [] ⌝ }
 {
     numbers[0] = a;
     numbers[1] = b;
     numbers[2] = c;
     numbers[3] = d;
+    numbers[4] = e;
+    numbers[5] = f;
 }
 
-// Writes an answer as 4 numbers.
-pub fn put(answer: Answer, numbers: &mut [u32])
-    requires { ⌜ length (now numbers) ≡ 4 ⌝ }
-    ensures { λ _. ⌜ now (numbers .exit) ≡ packedAnswer answer ⌝ }
+// Writes an answer as 6 numbers, the visits of the complements and of the sweep last.
+pub fn put(answer: Answer, complements: u32, swept: u32, numbers: &mut [u32])
+    requires { ⌜ length (now numbers) ≡ 6 ⌝ }
+    ensures { λ _. ⌜ now (numbers .exit) ≡ packedAnswer answer complements swept ⌝ }
 {
     match answer {
-        Answer::Started => four(numbers, 0, 0, 0, 0),
-        Answer::Verdict(yes, kept, room) => four(numbers, 0, bit_of(yes), kept, room),
-        Answer::Refused(number, place) => four(numbers, number, place, 0, 0),
+        Answer::Started => six(numbers, 0, 0, 0, 0, complements, swept),
+        Answer::Verdict(yes, kept, room) => {
+            six(numbers, 0, bit_of(yes), kept, room, complements, swept)
+        }
+        Answer::Refused(number, place) => six(numbers, number, place, 0, 0, complements, swept),
     }
 }

@@ -43,7 +43,7 @@ same-length-4 : tie.Need-same-length-4
 same-length-4 c = c .before .before .before .before .before .before .pack .kept .1 .1 .0
 
 same-length-5 : tie.Need-same-length-5
-same-length-5 c = c .before .before .put .kept .1 .0
+same-length-5 c = c .before .before .put .kept .1 .1 .1 .0
 
 returns-3 : tie.Need-returns-3
 unfolding eventOf
@@ -55,8 +55,8 @@ returns-3 c =
     let e = u .before .before in
     let s = e .before .before .before .before .before .before .before .before in
     event-made (s .args .rows .now) (s .args .nodes .now) (s .args .values .now) (s .args .work .now) _ (s .args .state .now) (s .args .answer .now)
-    (whole (u .figures .result) (r .references .result)) (turnOf (m .event-on .result) (m .event-on .last .1 .0)) _ _ _ _ _
-    (e .before .if1 .left) (e .if2 .left) (state-read _ _ _ (u .figures .ensures) (r .references .ensures)) (m .event-on .ensures) (p .pack .ensures) (c .before .before .put .ensures)
+    (whole (u .figures .result) (r .references .result)) (turnOf (m .event-on .result) (m .event-on .last .1 .0)) _ _ _ _ _ _ _
+    (e .before .if1 .left) (e .if2 .left) (state-read _ _ _ (u .figures .ensures) (r .references .ensures)) (m .event-on .ensures .0) (m .event-on .ensures .1) (p .pack .ensures) (c .before .before .put .ensures)
 
 pub moheguzari-event-spec : {M : Type 1} → statement M
 moheguzari-event-spec =

@@ -1,5 +1,6 @@
 -- `packing::put` meets its contract: each arm by its variant. Assumes nothing.
 use mathlib.Core.Path.{ap, sym, _∙_}
+use Rattle.meaning.specs.declared.Answer.{Answer}
 use Rattle.linked.specs.Packing.{packedAnswer}
 use Rattle.linked.proofs.PackingLaws.{verdict-put}
 use borrow.Author.Needs.{needs}
@@ -9,8 +10,8 @@ use Rattle.linked.proofs.packing.put.Tie as tie
 enum-told : tie.Need-enum-told
 enum-told c = search needs
 
-four-requires : tie.Need-four-requires
-four-requires c κs = search needs
+six-requires : tie.Need-six-requires
+six-requires c κs = search needs
 
 enum-known-answer : tie.Need-enum-known-answer
 enum-known-answer c = search needs
@@ -18,21 +19,23 @@ enum-known-answer c = search needs
 bit-of-requires : tie.Need-bit-of-requires
 bit-of-requires c κs = search needs
 
-four-requires-2 : tie.Need-four-requires-2
-four-requires-2 c κs = search needs
+six-requires-2 : tie.Need-six-requires-2
+six-requires-2 c κs = search needs
 
 enum-known-answer-2 : tie.Need-enum-known-answer-2
 enum-known-answer-2 c = search needs
 
-four-requires-3 : tie.Need-four-requires-3
-four-requires-3 c κs = search needs
+six-requires-3 : tie.Need-six-requires-3
+six-requires-3 c κs = search needs
 
 same-length : tie.Need-same-length
 same-length c = search needs
 
 returns : tie.Need-returns
 unfolding packedAnswer
-returns c = c .before .before .four .ensures ∙ sym (ap packedAnswer (c .before .before .before .before .enum-told .given .1))
+returns c =
+    let s = c .before .before .before .before .before .before .before in
+    c .before .before .six .ensures ∙ sym (ap (λ (x : Answer). packedAnswer x (s .args .complements) (s .args .swept)) (c .before .before .before .before .enum-told .given .1))
 
 same-length-2 : tie.Need-same-length-2
 same-length-2 c = search needs
@@ -40,7 +43,7 @@ same-length-2 c = search needs
 returns-2 : tie.Need-returns-2
 returns-2 c =
     let f = c .before .before in
-    verdict-put _ _ _ _ _ _ (f .four2 .ensures) (f .before .bit-of .ensures) (f .before .before .before .before .answer .given .1)
+    verdict-put _ _ _ _ _ _ _ _ (f .six2 .ensures) (f .before .bit-of .ensures) (f .before .before .before .before .answer .given .1)
 
 same-length-3 : tie.Need-same-length-3
 same-length-3 c = search needs
@@ -48,20 +51,21 @@ same-length-3 c = search needs
 returns-3 : tie.Need-returns-3
 unfolding packedAnswer
 returns-3 c =
+    let s = c .before .before .before .before .before .before .before .before in
     let f = c .before .before in
-    f .four3 .ensures ∙ sym (ap packedAnswer (f .before .before .before .answer2 .given .1))
+    f .six3 .ensures ∙ sym (ap (λ (x : Answer). packedAnswer x (s .args .complements) (s .args .swept)) (f .before .before .before .answer2 .given .1))
 
 pub put-spec : {M : Type 1} → statement M
 put-spec =
     tie.close
     (tie.spec
     enum-told
-    four-requires
+    six-requires
     enum-known-answer
     bit-of-requires
-    four-requires-2
+    six-requires-2
     enum-known-answer-2
-    four-requires-3
+    six-requires-3
     same-length
     returns
     same-length-2
