@@ -49,6 +49,27 @@ const char *desk_differs(const struct desk *one, const struct desk *other)
     return NULL;
 }
 
+// The nodes that a reference leads to and that have not met the mark.
+static uint32_t nodes_under(const struct desk *d, uint32_t r, uint32_t *marks, uint32_t mark)
+{
+    if (r < 2 || marks[r - 2] == mark)
+        return 0;
+    marks[r - 2] = mark;
+    const uint32_t *node = &d->nodes[3 * (r - 2)];
+    return 1 + nodes_under(d, node[1], marks, mark) + nodes_under(d, node[2], marks, mark);
+}
+
+uint32_t desk_ceiling(const struct desk *d, const struct workload *w)
+{
+    static uint32_t marks[MOST_C];
+    uint32_t all = 0;
+    memset(marks, 0, sizeof marks);
+    for (uint32_t i = 0; i < w->row_count; i++)
+        if (w->rows[9 * i] == NOT)
+            all += 2 * nodes_under(d, d->state[7 + w->rows[9 * i + 1]], marks, i + 1) + 1;
+    return all;
+}
+
 double desk_paths(const struct desk *d, const struct workload *w)
 {
     static double paths[2 + MOST_C];

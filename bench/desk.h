@@ -5,7 +5,7 @@
 #include "calls.h"
 #include "workload.h"
 
-enum { STATE = 71, ANSWER = 4, PAST = 8, MOST_C = 4096, MOST_VALUES = 4 * 1023 };
+enum { STATE = 71, ANSWER = 6, PAST = 8, MOST_C = 4096, MOST_VALUES = 4 * 1023 };
 
 // Lent tables. The work slice is `PAST` numbers longer than it need be, and those must stay as they are.
 struct desk {
@@ -26,5 +26,8 @@ const char *desk_differs(const struct desk *one, const struct desk *other);
 // The paths from the diagrams of the not rows to the leaves, all together. A complement that remembers nothing goes down
 // each of them in an event.
 double desk_paths(const struct desk *d, const struct workload *w);
+
+// The ceiling of the complements' visits: 2 × n + 1 for each not row, n the nodes of the diagram that it complements.
+uint32_t desk_ceiling(const struct desk *d, const struct workload *w);
 
 #endif

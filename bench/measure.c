@@ -26,6 +26,8 @@ struct figures {
     double all_paths;
     uint32_t kept, room; // at the end, and the most of the timed events
     uint32_t most_room;
+    uint32_t complements, complements_most; // the most visits of an event's complements, and that event's ceiling
+    uint32_t swept, swept_most;             // the same of the sweep
 };
 
 static void compare_call(const char *what, size_t i)
@@ -36,6 +38,19 @@ static void compare_call(const char *what, size_t i)
         return;
     fprintf(stderr, "bench: %s, %s %zu: the %s differs\n", work.name, what, i, differs);
     exit(1);
+}
+
+// Keeps the most visits beside their event's ceiling. One that is over its ceiling ends it.
+static void visits(const char *what, size_t i, uint32_t made, uint32_t ceiling, uint32_t *most, uint32_t *most_ceiling)
+{
+    if (made > ceiling) {
+        fprintf(stderr, "bench: %s, event %zu: %u visits of the %s, over %u\n", work.name, i, made, what, ceiling);
+        exit(1);
+    }
+    if (made >= *most) {
+        *most = made;
+        *most_ceiling = ceiling;
+    }
 }
 
 // Runs both monitors side by side, and leaves the tables before the first timed event in `filled`.
@@ -65,6 +80,8 @@ static void compare(struct figures *f)
         f->room = one.answer[3];
         if (i >= work.filled && f->room > f->most_room)
             f->most_room = f->room;
+        visits("complements", i, one.answer[4], desk_ceiling(&one, &work), &f->complements, &f->complements_most);
+        visits("sweep", i, one.answer[5], 2 * f->kept + work.row_count, &f->swept, &f->swept_most);
         f->paths = desk_paths(&one, &work);
         f->all_paths += f->paths;
     }
@@ -174,15 +191,22 @@ static const char *rounded(char text[32], double number)
 static void main_table(void)
 {
     char a[32], b[32], c[32], d[32], e[32];
+    struct figures all[WORKLOADS];
     printf("| Workload | k | C | Proved, events/s | Plain C, events/s | Ratio | Kept | Room | Most room");
     printf(" | Paths, last event | Paths, all events |\n|---|---|---|---|---|---|---|---|---|---|---|\n");
     for (size_t i = 0; i < WORKLOADS; i++) {
         const char *says = set_workload(names[i]);
-        struct figures f = measure();
+        struct figures f = all[i] = measure();
         printf("| %s | %u | %s | %s | %s | %.2f | %u | %u | %u | %s | %s |\n", says, work.k, grouped(e, work.capacity),
                grouped(a, 1 / f.proved), grouped(b, 1 / f.plain), f.proved / f.plain, f.kept, f.room, f.most_room,
                rounded(c, f.paths), rounded(d, f.all_paths));
         fflush(stdout);
+    }
+    printf("\n| Workload | C | Most visits of an event's complements | Ceiling | Most visits of a sweep | Ceiling |\n|---|---|---|---|---|---|\n");
+    for (size_t i = 0; i < WORKLOADS; i++) {
+        const char *says = set_workload(names[i]);
+        printf("| %s | %s | %u | %u | %u | %u |\n", says, grouped(e, work.capacity), all[i].complements, all[i].complements_most,
+               all[i].swept, all[i].swept_most);
     }
 }
 

@@ -17,10 +17,11 @@
  *   state   MOHEGUZARI_STATE numbers: k, the row count, the count of kept nodes, four value counts, 64 references
  *   answer  MOHEGUZARI_ANSWER numbers, only written
  *
- * An answer is four numbers:
- *   0, 0, 0, 0             a start that is taken
- *   0, yes, kept, room     the verdict of an event: yes is 1 or 0; the nodes kept after it; the room that it needed
- *   n, place, 0, 0         a refusal with number n, MOHEGUZARI_BAD_K to MOHEGUZARI_NO_ROOM, and its place
+ * An answer is six numbers:
+ *   0, 0, 0, 0, 0, 0             a start that is taken
+ *   0, yes, kept, room, c, s     the verdict of an event: yes is 1 or 0; the nodes kept after it; the room that it needed; and how
+ *                                many references its complements (c) and its sweep (s) followed, s at most 2 * kept + rows
+ *   n, place, 0, 0, 0, 0         a refusal with number n, MOHEGUZARI_BAD_K to MOHEGUZARI_NO_ROOM, and its place
  *
  * A refused start leaves nodes and values as they were and writes a state of zeros. A refused event leaves state, nodes and
  * values as they were.
@@ -37,7 +38,7 @@ extern "C" {
 #endif
 
 #define MOHEGUZARI_STATE 71
-#define MOHEGUZARI_ANSWER 4
+#define MOHEGUZARI_ANSWER 6
 #define MOHEGUZARI_ROWS(n) (9 * (size_t)(n))
 #define MOHEGUZARI_NODES(C) (3 * (size_t)(C))
 /* 0 where k is not from 1 to 10: no k beyond that is taken, and none is shifted by. */

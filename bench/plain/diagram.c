@@ -36,6 +36,7 @@ void diagrams_open(struct diagrams *d, uint32_t *nodes, uint32_t capacity, uint3
     d->complements = work + 10 * capacity;
     d->notes = work + 11 * capacity;
     d->swept = (struct node *)(work + 12 * capacity);
+    d->complement_visits = d->sweep_visits = 0;
 }
 
 void diagrams_close(struct diagrams *d, uint32_t kept)
@@ -159,6 +160,7 @@ bool diagrams_take(struct diagrams *d, uint32_t kept, uint32_t k, const uint32_t
 
 static uint32_t sweep(struct diagrams *d, uint32_t r, uint32_t *kept)
 {
+    d->sweep_visits++;
     if (r < 2)
         return r;
     uint32_t *note = &d->notes[r - 2];
@@ -255,6 +257,7 @@ uint32_t diagrams_since(struct diagrams *d, uint32_t l, uint32_t r, uint32_t o)
 
 uint32_t diagrams_not(struct diagrams *d, uint32_t p)
 {
+    d->complement_visits++;
     if (p < 2)
         return 1 - p;
     uint32_t *known = &d->complements[p - 2];

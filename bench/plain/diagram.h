@@ -31,6 +31,7 @@ struct diagrams {
     uint32_t *complements; // by place
     uint32_t *notes;       // by place: where the sweep has put the node
     struct node *swept;
+    uint32_t complement_visits, sweep_visits; // references that the complements and the sweep have followed
 };
 
 // How many numbers of the work slice are used with so many nodes.

@@ -33,7 +33,7 @@ impl<'a> Monitor<'a> {
     fn start(k: u32, c: usize, rows: &'a [u32]) -> Result<Self, (u32, u32)> {
         let most = (1 << k.min(10)) - 1;
         let (mut nodes, mut values) = (vec![0; 3 * c], vec![0; 4 * most]);
-        let (mut state, mut answer) = ([0; 71], [0; 4]);
+        let (mut state, mut answer) = ([0; 71], [0; 6]);
         let made = unsafe {
             moheguzari_start(
                 k, rows.as_ptr(), rows.len(), nodes.as_mut_ptr(), nodes.len(), values.as_mut_ptr(), values.len(),
@@ -51,7 +51,7 @@ impl<'a> Monitor<'a> {
     fn event(&mut self, predicate: u32, values: &[u32]) -> Answer {
         let value = |i: usize| values.get(i).copied().unwrap_or(0);
         let count = u32::try_from(values.len()).unwrap_or(u32::MAX);
-        let mut answer = [0; 4];
+        let mut answer = [0; 6];
         let made = unsafe {
             moheguzari_event(
                 self.rows.as_ptr(), self.rows.len(), self.nodes.as_mut_ptr(), self.nodes.len(), self.values.as_mut_ptr(), self.values.len(),
@@ -61,7 +61,7 @@ impl<'a> Monitor<'a> {
         };
         assert!(made);
         match answer {
-            [0, yes, kept, room] => Answer::Verdict { yes: yes == 1, kept, room },
+            [0, yes, kept, room, ..] => Answer::Verdict { yes: yes == 1, kept, room },
             [number, place, ..] => Answer::Refused { number, place },
         }
     }

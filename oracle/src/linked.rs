@@ -1,5 +1,7 @@
 //! The proved monitor's static library behind the two calls.
 
+use std::collections::HashSet;
+
 use crate::event::{Answer, Event, State};
 use crate::monitor::Monitor;
 use crate::rows::{MOST_ROWS, VARIABLES};
@@ -44,7 +46,29 @@ extern "C" {
 /// k, rows, kept, four counts and 64 references.
 const STATE_NUMBERS: usize = 3 + VARIABLES + MOST_ROWS;
 
+/// The refusal's number or the verdict's, place or yes, kept, room, and the visits of the complements and of the sweep.
+const ANSWER_NUMBERS: usize = 6;
+
 pub struct Linked;
+
+/// The visits of an event that is taken, from the table and the references that it leaves: a complement follows the reference of
+/// its diagram, and two for each node that no complement before it took apart; the sweep follows one for each row, and two for
+/// each kept node.
+fn visits(rows: &[u32], nodes: &[u32], refs: &[u32], kept: u32) -> (u32, u32) {
+    let mut apart = HashSet::new();
+    let mut complements = 0;
+    for row in rows.chunks(9).filter(|row| row[0] == 4) {
+        complements += 1;
+        let mut left = vec![refs[row[1] as usize]];
+        while let Some(reference) = left.pop() {
+            if reference >= 2 && apart.insert(reference) {
+                let place = 3 * (reference as usize - 2);
+                left.extend(&nodes[place + 1..place + 3]);
+            }
+        }
+    }
+    (complements + 2 * apart.len() as u32, rows.len() as u32 / 9 + 2 * kept)
+}
 
 fn packed(state: &State) -> [u32; STATE_NUMBERS] {
     let mut numbers = [0; STATE_NUMBERS];
@@ -76,7 +100,7 @@ impl Monitor for Linked {
     ) -> (State, Answer) {
         // What the library leaves as it was shows up as a state that is not the oracle's.
         let mut state = [u32::MAX; STATE_NUMBERS];
-        let mut answer = [u32::MAX; 4];
+        let mut answer = [u32::MAX; ANSWER_NUMBERS];
         let called = unsafe {
             moheguzari_start(
                 k,
@@ -94,8 +118,8 @@ impl Monitor for Linked {
         };
         assert!(called, "the state and the answer have the right lengths");
         let answer = match answer {
-            [0, 0, 0, 0] => Answer::Started,
-            [number, place, 0, 0] => Answer::Refused { number, place },
+            [0, 0, 0, 0, 0, 0] => Answer::Started,
+            [number, place, 0, 0, 0, 0] => Answer::Refused { number, place },
             other => panic!("start answers {other:?}"),
         };
         (unpacked(&state), answer)
@@ -111,7 +135,7 @@ impl Monitor for Linked {
         event: &Event,
     ) -> (State, Answer) {
         let mut state = packed(&state);
-        let mut answer = [u32::MAX; 4];
+        let mut answer = [u32::MAX; ANSWER_NUMBERS];
         let [first, second, third] = event.values;
         let called = unsafe {
             moheguzari_event(
@@ -136,12 +160,16 @@ impl Monitor for Linked {
         };
         assert!(called, "the state and the answer have the right lengths");
         let answer = match answer {
-            [0, yes @ 0..=1, kept, room] => Answer::Verdict {
-                yes: yes == 1,
-                kept,
-                room,
-            },
-            [number, place, 0, 0] => Answer::Refused { number, place },
+            [0, yes @ 0..=1, kept, room, complements, swept] => {
+                let seen = visits(rows, nodes, &unpacked(&state).refs, kept);
+                assert_eq!((complements, swept), seen, "the visits of an event");
+                Answer::Verdict {
+                    yes: yes == 1,
+                    kept,
+                    room,
+                }
+            }
+            [number, place, 0, 0, 0, 0] => Answer::Refused { number, place },
             other => panic!("event answers {other:?}"),
         };
         (unpacked(&state), answer)
@@ -210,11 +238,11 @@ mod tests {
 
     #[test]
     fn a_state_or_an_answer_of_another_length_is_turned_down() {
-        for (state_len, answer_len) in [(0, 4), (70, 4), (72, 4), (71, 0), (71, 3), (71, 5)] {
+        for (state_len, answer_len) in [(0, 6), (70, 6), (72, 6), (71, 0), (71, 5), (71, 7)] {
             assert_eq!(start_with(state_len, answer_len), (false, false));
             assert_eq!(event_with(state_len, answer_len), (false, false));
         }
-        assert_eq!(start_with(71, 4), (true, true));
-        assert_eq!(event_with(71, 4), (true, true));
+        assert_eq!(start_with(71, 6), (true, true));
+        assert_eq!(event_with(71, 6), (true, true));
     }
 }
