@@ -58,6 +58,12 @@ pub lay-same : (k : ℕ) (L M : Lists) → ((v : ℕ) → v < 4 → L v ≡ M v)
 unfolding layValues
 lay-same k L M e = rw (e 0 (omega arith), e 1 (omega arith), e 2 (omega arith), e 3 (omega arith))
 
+-- nothing is written where no list has grown
+pub nothing-fresh : (k : ℕ) (before : List ℕ) (a : Asked) (L : Lists) → ((v : ℕ) → v < 4 → getD (a .counts) v 0 ≡ getD before v 0) → layValues k (withFresh before a L) ≡ layValues k L
+unfolding withFresh
+nothing-fresh k before a L e = lay-same k (withFresh before a L) L (λ v h.
+    let z : getD (a .counts) v 0 - getD before v 0 ≡ 0 = omega (arith, e v h) in rw z (append-nil (L v)))
+
 -- a store in one of four parts
 module _ (m : ℕ) (p q r s : List ℕ) (hp : length p ≡ m) (hq : length q ≡ m) (hr : length r ≡ m) (i a : ℕ) (h : i < m) where
   set-0 : set (p ++ (q ++ (r ++ s))) (0 * m + i) a ≡ set p i a ++ (q ++ (r ++ s))

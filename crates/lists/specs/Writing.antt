@@ -1,7 +1,7 @@
 -- What it is to write an event's fresh values into the value slice. Assumes nothing: these are definitions.
 use Prim.Native.Nat.{ℕ, _+_, _*_, _/_, _%_, _≤_, _<_}
 use mathlib.Core.Path.{_≡_}
-use mathlib.Core.Bool.{cond}
+use mathlib.Core.Bool.{Bool, true, false, cond}
 use mathlib.Core.List.{List}
 use lib.Dec.{ltb}
 use lib.ListN.{length, getD, set}
@@ -17,6 +17,11 @@ pub record Writable (k : ℕ) (before : List ℕ) (a : Asked) (values : List ℕ
   pub grown : (v : ℕ) → v < 4 → getD before v 0 ≤ getD (a .counts) v 0
   pub few : (v : ℕ) → v < 4 → getD (a .counts) v 0 ≤ getD before v 0 + 3
   pub room : (v : ℕ) → v < 4 → getD (a .counts) v 0 ≤ most k
+
+-- whether one of four counts is another one than before
+pub record Grows (before after : List ℕ) (b : Bool) : Type 0 where
+  pub none : b ≡ false → (v : ℕ) → v < 4 → getD after v 0 ≡ getD before v 0
+  pub some : b ≡ true → (v : ℕ) × (v < 4) × (getD after v 0 ≡ getD before v 0 → ⊥)
 
 -- the value slice after the place t of the twelve, where the parts have m numbers: y stands there if the variable's list, of b values before and n after
 -- the event, goes so far

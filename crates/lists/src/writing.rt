@@ -9,7 +9,7 @@ ghost use Rattle.meaning.specs.Rows.{firstBelow};
 ghost use Rattle.meaning.specs.Tables;
 ghost use Rattle.meaning.specs.Tables.{listOf, layValues};
 ghost use Rattle.numbers.specs.Asking.{withCounts, withFresh};
-ghost use Rattle.lists.specs.Writing.{Writable, WritableAt, written};
+ghost use Rattle.lists.specs.Writing.{Grows, Writable, WritableAt, written};
 
 // The lowest variable with more values than numbers, or 4.
 pub fn shortest(k: u32, counts: [u32; 4]) -> u32
@@ -38,12 +38,28 @@ fn write_one(m: usize, b: u32, n: u32, y: u32, values: &mut [u32], t: usize)
     values[t / 3 * m + at] = y;
 }
 
+// Whether some list has grown.
+fn grown(before: [u32; 4], after: [u32; 4]) -> bool
+    ensures { λ r. ⌜ Grows before after r ⌝ }
+{
+    for v in 0..4 {
+        if before[v] != after[v] {
+            return true;
+        }
+    }
+    false
+}
+
 // Writes the fresh values behind those of before. The caller has checked the lists (refusal 4), that no variable is short (refusal 6), and
 // got the fresh values from `ask`.
 pub fn write_fresh(k: u32, before: [u32; 4], asked: Asked, values: &mut [u32])
     requires { ⌜ Writable k before asked (now values) ⌝ }
     ensures { λ _. ⌜ now (values .exit) ≡ layValues k (withFresh before asked (listOf k (withCounts before) (now (values .entry)))) ⌝ }
 {
+    let after = asked.counts;
+    if !grown(before, after) {
+        return;
+    }
     let m = most(k) as usize;
     for t in 0..12 {
         let v = t / 3;

@@ -7,8 +7,9 @@ use lib.ListN.{length, getD, length-map}
 use Rattle.meaning.specs.Tables.{listOf, layValues}
 use Rattle.numbers.specs.Asking.{withCounts}
 use Rattle.numbers.proofs.StartLaws.{most-le, list-length}
-use Rattle.lists.proofs.WritingLaws.{firstFresh, fresh-none, fresh-more, fresh-all}
+use Rattle.lists.proofs.WritingLaws.{firstFresh, fresh-none, fresh-more, fresh-all, nothing-fresh}
 use borrow.Author.Needs.{needs}
+use borrow.Author.Tests.{not-true}
 use Rattle.lists.proofs.writing.write_fresh.Statement.{statement}
 use Rattle.lists.proofs.writing.write_fresh.Tie as tie
 
@@ -26,15 +27,24 @@ start s v h = list-length (s .args .k) (s .args .t2) (s .args .values .now) v h 
 twelve : (s : tie.Start Inv-loop μ-loop) → length (s .args .t3 .fresh) ≡ 12
 twelve s = sym (length-map (s .args .t3 .fresh) _) ∙ s .good .1 .1 .0 .1 .1 .1 .0 .1 .0 .1
 
+grown-requires : tie.Need-grown-requires Inv-loop μ-loop
+grown-requires c κs = search needs
+
+returns : tie.Need-returns Inv-loop μ-loop
+returns c =
+    let s = c .before .before .before .before in
+    let a = s .args in
+    sym (nothing-fresh (a .k) (a .t2) (a .t3) (listOf (a .k) (withCounts (a .t2)) (a .values .now)) (c .before .grown .ensures .none (not-true _ (c .if1 .taken))) ∙ s .pre .laid)
+
 most-requires : tie.Need-most-requires Inv-loop μ-loop
-most-requires c κs = c .before .pre .bits
+most-requires c κs = c .before .before .before .before .pre .bits
 
 cast-m : tie.Need-cast-m Inv-loop μ-loop
-cast-m c = let s = c .before .before in omega (arith, c .most .ensures, most-le (s .args .k) (s .pre .bits))
+cast-m c = let s = c .before .before .before .before .before in omega (arith, c .most .ensures, most-le (s .args .k) (s .pre .bits))
 
 loop-holds : tie.Need-loop-holds Inv-loop μ-loop
 loop-holds c =
-    let s = c .before .before in
+    let s = c .before .before .before .before .before in
     let a = s .args in (
       omega arith,
       refl,
@@ -61,7 +71,7 @@ element-copy-out-write-one-2 c = search needs
 
 write-one-requires : tie.Need-write-one-requires Inv-loop μ-loop
 write-one-requires c κs =
-    let s = c .before .before .before .before .before .before .before in
+    let s = c .before .before .before .before .before .before .before .before .before .before in
     let m = c .before .before .before .before .before .most .ensures in
     let l = c .before .before .before .before .loop in
     let v : l .t / 3 < 4 = omega arith in
@@ -81,7 +91,7 @@ loop-less c = search needs
 
 loop-again : tie.Need-loop-again Inv-loop μ-loop
 loop-again c =
-    let s = c .before .before .before .before .before .before .before .before .before .before in
+    let s = c .before .before .before .before .before .before .before .before .before .before .before .before .before in
     let a = s .args in
     let l = c .before .before .before .before .before .before .before .loop in
     let w = c .before .before .write-one in
@@ -96,9 +106,9 @@ loop-again c =
 same-length : tie.Need-same-length Inv-loop μ-loop
 same-length c = c .before .loop .inv .1
 
-returns : tie.Need-returns Inv-loop μ-loop
-returns c =
-    let s = c .before .before .before .before in
+returns-2 : tie.Need-returns-2 Inv-loop μ-loop
+returns-2 c =
+    let s = c .before .before .before .before .before .before .before in
     let a = s .args in
     let l = c .before .loop in
     let z : l .t ≡ 12 = omega arith in
@@ -110,6 +120,8 @@ write-fresh-spec =
     (tie.spec
     Inv-loop
     μ-loop
+    grown-requires
+    returns
     most-requires
     cast-m
     loop-holds
@@ -124,4 +136,4 @@ write-fresh-spec =
     loop-less
     loop-again
     same-length
-    returns)
+    returns-2)
