@@ -39,6 +39,11 @@ pub record Emitted (ns : List ℕ) (m p : ℕ) (w w′ : List ℕ) (c n n′ r v
   pub counted : (lo hi left : ℕ) → Fine lo hi (at (treesOf ns m) p) → hi ≤ lo + left
       → Refines (sweep ns left (treesOf (take (3 * c) w) n) (notesOf m c w) p) (treesOf (take (3 * c) w′) n′) (notesOf m c w′) r v
 
+-- a visit of r that goes no further added nothing; where no visit is counted, r is a node without a note
+pub record Known (ns : List ℕ) (m : ℕ) (w : List ℕ) (c n r : ℕ) (n′ r′ v : ℕ) : Type 0 where
+  pub seen : (v ≡ 0 → ⊥) → Emitted ns m r w w c n n′ r′ v
+  pub new : v ≡ 0 → (2 ≤ r) × (getD w (3 * c + (r - 2)) 0 ≡ 0)
+
 -- 64 numbers that wait for the references of the first `count` rows: 0 past them
 pub record Awaits (count : ℕ) (out : List ℕ) : Type 0 where
   pub wide : length out ≡ 64

@@ -9,7 +9,7 @@ ghost use Prim.Native.Nat.{ℕ, _+_, _*_, _-_, _/_, _<_, _≤_};
 ghost use mathlib.Core.List.{_++_};
 ghost use lib.ListN.{length, getD, set, take, replicate};
 ghost use Rattle.nodes.specs.Nodes.{Table, Rows};
-ghost use Rattle.sweeping.specs.Sweeps.{Noted, Ordered, Emitted, Awaits, Copied, Renewal};
+ghost use Rattle.sweeping.specs.Sweeps.{Noted, Ordered, Known, Emitted, Awaits, Copied, Renewal};
 
 // What the sweep of a diagram answers: the count of nodes of the new table, the diagram's reference there, and how many
 // visits the sweep took: one for each reference that it followed.
@@ -31,12 +31,10 @@ fn emit(work: &mut [u32], n: u32, j: usize, x: Node)
     work[j] = n + 3;
 }
 
-// Adds the diagram r of the first m nodes, over the levels that are left, to the new table of n nodes. A leaf, or a node that has
-// a note, is visited and goes no further.
-fn sweep(nodes: &[u32], m: u32, work: &mut [u32], c: usize, n: u32, left: u32, r: u32) -> Swept
-    requires { ⌜ Noted (now nodes) m (now work) c n ⌝ }
-    requires { ⌜ Ordered (now nodes) m left r ⌝ }
-    ensures { λ x. ⌜ Emitted (now (nodes .entry)) m r (now (work .entry)) (now (work .exit)) c n (x .count) (x .reference) (x .visits) ⌝ }
+// A visit of r that goes no further: r is a leaf, or has a note. No visit is counted where r is to be taken apart.
+fn known(nodes: &[u32], m: u32, work: &[u32], n: u32, r: u32) -> Swept
+    requires { ⌜ Noted (now nodes) m (now work) (length (now nodes) / 3) n × (r < m + 2) ⌝ }
+    ensures { λ x. ⌜ Known (now (nodes .entry)) m (now (work .entry)) (length (now (nodes .entry)) / 3) n r (x .count) (x .reference) (x .visits) ⌝ }
 {
     if r < 2 {
         return Swept {
@@ -45,9 +43,13 @@ fn sweep(nodes: &[u32], m: u32, work: &mut [u32], c: usize, n: u32, left: u32, r
             visits: 1,
         };
     }
-    let note = work[3 * c + (r as usize - 2)];
+    let note = work[nodes.len() + (r as usize - 2)];
     if note == 0 {
-        return apart(nodes, m, work, c, n, left, r);
+        return Swept {
+            count: n,
+            reference: 0,
+            visits: 0,
+        };
     }
     Swept {
         count: n,
@@ -58,16 +60,22 @@ fn sweep(nodes: &[u32], m: u32, work: &mut [u32], c: usize, n: u32, left: u32, r
 
 // Adds the node r, which has no note, and its sides: low side first, then high, then the node itself. It is in the new table
 // nowhere, so it is written without a search.
-fn apart(nodes: &[u32], m: u32, work: &mut [u32], c: usize, n: u32, left: u32, r: u32) -> Swept
-    requires { ⌜ Noted (now nodes) m (now work) c n ⌝ }
+fn apart(nodes: &[u32], m: u32, work: &mut [u32], n: u32, left: u32, r: u32) -> Swept
+    requires { ⌜ Noted (now nodes) m (now work) (length (now nodes) / 3) n ⌝ }
     requires { ⌜ Ordered (now nodes) m left r ⌝ }
-    requires { ⌜ (2 ≤ r) × (getD (now work) (3 * c + (r - 2)) 0 ≡ 0) ⌝ }
-    ensures { λ x. ⌜ Emitted (now (nodes .entry)) m r (now (work .entry)) (now (work .exit)) c n (x .count) (x .reference) (x .visits) ⌝ }
+    requires { ⌜ (2 ≤ r) × (getD (now work) (3 * (length (now nodes) / 3) + (r - 2)) 0 ≡ 0) ⌝ }
+    ensures { λ x. ⌜ Emitted (now (nodes .entry)) m r (now (work .entry)) (now (work .exit)) (length (now (nodes .entry)) / 3) n (x .count) (x .reference) (x .visits) ⌝ }
 {
-    let j = 3 * c + (r as usize - 2);
+    let j = nodes.len() + (r as usize - 2);
     let x = read(nodes, m, r);
-    let a = sweep(nodes, m, work, c, n, left - 1, x.low);
-    let b = sweep(nodes, m, work, c, a.count, left - 1, x.high);
+    let mut a = known(nodes, m, work, n, x.low);
+    if a.visits == 0 {
+        a = apart(nodes, m, work, n, left - 1, x.low);
+    }
+    let mut b = known(nodes, m, work, a.count, x.high);
+    if b.visits == 0 {
+        b = apart(nodes, m, work, a.count, left - 1, x.high);
+    }
     let y = Node {
         level: x.level,
         low: a.reference,
@@ -93,25 +101,27 @@ fn sweep_all(
     nodes: &[u32],
     m: u32,
     work: &mut [u32],
-    c: usize,
     levels: u32,
     refs: &[u32; 64],
     count: u32,
     out: &mut [u32; 64],
 ) -> Renewed
     requires { ⌜ Table (now nodes) m ⌝ }
-    requires { ⌜ (length (now nodes) ≡ 3 * c) × (4 * c ≤ length (now work)) × (length (now refs) ≡ 64) ⌝ }
+    requires { ⌜ (length (now nodes) ≡ 3 * (length (now nodes) / 3)) × (4 * (length (now nodes) / 3) ≤ length (now work)) × (length (now refs) ≡ 64) ⌝ }
     requires { ⌜ Awaits count (now out) ⌝ }
-    requires { ⌜ ((i : ℕ) → 3 * c ≤ i → i < 3 * c + m → getD (now work) i 0 ≡ 0) ⌝ }
+    requires { ⌜ ((i : ℕ) → 3 * (length (now nodes) / 3) ≤ i → i < 3 * (length (now nodes) / 3) + m → getD (now work) i 0 ≡ 0) ⌝ }
     requires { ⌜ Rows (now nodes) m levels (now refs) count ⌝ }
-    ensures { λ x. ⌜ Copied (now (nodes .entry)) m levels (now (refs .entry)) count (now (work .entry)) (now (work .exit)) c (x .kept) (now (out .exit)) (x .visits) ⌝ }
+    ensures { λ x. ⌜ Copied (now (nodes .entry)) m levels (now (refs .entry)) count (now (work .entry)) (now (work .exit)) (length (now (nodes .entry)) / 3) (x .kept) (now (out .exit)) (x .visits) ⌝ }
 {
     let mut n = 0;
     let mut visits = 0;
     let mut i = 0;
     while i < count {
         let j = i as usize;
-        let s = sweep(nodes, m, work, c, n, levels, refs[j]);
+        let mut s = known(nodes, m, work, n, refs[j]);
+        if s.visits == 0 {
+            s = apart(nodes, m, work, n, levels, refs[j]);
+        }
         out[j] = s.reference;
         n = s.count;
         visits += s.visits;
@@ -155,7 +165,7 @@ pub fn renew(
 {
     let c = nodes.len() / 3;
     zero(work, 3 * c, 3 * c + m as usize);
-    let x = sweep_all(nodes, m, work, c, levels, refs, count, out);
+    let x = sweep_all(nodes, m, work, levels, refs, count, out);
     copy_back(work, nodes, x.kept);
     x
 }
