@@ -41,7 +41,7 @@ AndCall levels x p q y r = Input levels x p × Input levels x q × Call levels x
 abbrev pub OrCall : ℕ → Held → ℕ → ℕ → Held → ℕ → Type 0
 OrCall levels x p q y r = Input levels x p × Input levels x q × Call levels x (sinceT levels (tree x 1) (tree x p) (tree x q)) y r
 
--- not of p: not_walk
+-- not of p: not_walk, whose promise says of the visits besides
 abbrev pub NotCall : ℕ → Held → ℕ → Held → ℕ → Type 0
 NotCall levels x p y r = Input levels x p × Call levels x (notT levels (tree x p)) y r
 
