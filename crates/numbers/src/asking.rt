@@ -147,7 +147,8 @@ fn next_match(rows: &[u32], from: usize, event: Event) -> usize
     let n = rows.len() / 9;
     let mut i = from;
     while i < n {
-        if matches(rows, i, event) {
+        let row = rule::row_at(rows, i);
+        if matches(row, event) {
             return i;
         }
         i += 1;

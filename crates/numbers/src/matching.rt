@@ -1,89 +1,110 @@
 // Which rows are atoms that match an event: predicate, constants, and equal values where a variable repeats.
 // What each function promises is in specs/Matching.antt.
-use super::value_at;
 use meaning::Event;
+use meaning::Value;
+use rule::Argument;
+use rule::Row;
 ghost use mathlib.Core.Path.{_≡_};
-ghost use mathlib.Core.Bool.{true};
-ghost use Prim.Native.Nat.{_/_, _<_, _≤_};
-ghost use lib.ListN.{length, getD, drop};
-ghost use Rattle.meaning.specs.Rows.{rowAt, rowRight, argumentAt};
+ghost use mathlib.Core.List.{[], _∷_};
+ghost use Prim.Native.Nat.{min};
+ghost use lib.ListN.{take};
 ghost use Rattle.meaning.specs.Numbering;
 ghost use Rattle.meaning.specs.Numbering.{fits};
 ghost use Rattle.meaning.specs.Outcome.{factOf};
-ghost use Rattle.numbers.specs.Matching.{Readable, matchesRow, argumentsOf, sameAt, fitsAt};
+ghost use Rattle.rule.specs.Decoded.{argumentOf, rowOf};
+ghost use Rattle.numbers.specs.Matching.{matchesRow, sameAt, fitsFirst};
 
-// Where the argument at place j of row i is the variable v, the event's value there is y.
-fn again(rows: &[u32], i: usize, event: Event, v: u32, y: u32, j: usize) -> bool
-    requires { ⌜ Readable (now rows) i event × (j < event .count) ⌝ }
-    ensures { λ r. ⌜ r ≡ sameAt v y (argumentAt (now (rows .entry)) i j) (getD (factOf event .values) j 0) ⌝ }
+// Where the argument is the variable v, its value z is y.
+fn again(v: u32, y: Value, argument: Argument, z: Value) -> bool
+    ensures { λ r. ⌜ r ≡ sameAt v (y .0) (argumentOf argument) (z .0) ⌝ }
 {
-    if rows[9 * i + (3 + 2 * j)] != 0 {
+    match argument {
+        Argument::Variable(w) => {
+            if v != w {
+                return true;
+            }
+            y.0 == z.0
+        }
+        Argument::Constant(_) => true,
+    }
+}
+
+// Where the variable v has the value y, it has it at the first n of two later places too: those of the arguments b and c, whose
+// values are z and w.
+fn repeats(v: u32, y: Value, n: u32, b: Argument, z: Value, c: Argument, w: Value) -> bool
+    ensures { λ r. ⌜ r ≡ Numbering.repeats v (y .0) (take n (argumentOf b ∷ argumentOf c ∷ [])) (take n (z .0 ∷ w .0 ∷ [])) ⌝ }
+{
+    if n == 0 {
         return true;
     }
-    if rows[9 * i + (4 + 2 * j)] != v {
+    if !again(v, y, b, z) {
+        return false;
+    }
+    if n == 1 {
         return true;
     }
-    y == value_at(event, j)
+    again(v, y, c, w)
 }
 
-// From place `from` on, the variable v of row i has the value y wherever it stands.
-fn repeats(rows: &[u32], i: usize, event: Event, v: u32, y: u32, from: usize) -> bool
-    requires { ⌜ Readable (now rows) i event ⌝ }
-    ensures { λ r. ⌜ r ≡ Numbering.repeats v y (drop from (argumentsOf (now (rows .entry)) i (event .count))) (drop from (factOf event .values)) ⌝ }
+// The argument a fits its value y: a constant is the value, and a variable has it at the later places too.
+fn first_fits(a: Argument, y: Value, n: u32, b: Argument, z: Value, c: Argument, w: Value) -> bool
+    ensures { λ r. ⌜ r ≡ fitsFirst (argumentOf a) (y .0) (take n (argumentOf b ∷ argumentOf c ∷ [])) (take n (z .0 ∷ w .0 ∷ [])) ⌝ }
 {
-    let n = event.count as usize;
-    let mut j = from;
-    while j < n {
-        if !again(rows, i, event, v, y, j) {
-            return false;
+    match a {
+        Argument::Variable(v) => repeats(v, y, n, b, z, c, w),
+        Argument::Constant(k) => k.0 == y.0,
+    }
+}
+
+// The first n arguments fit their values.
+fn all_fit(n: u32, a: Argument, y: Value, b: Argument, z: Value, c: Argument, w: Value) -> bool
+    ensures { λ r. ⌜ r ≡ fits (take n (argumentOf a ∷ argumentOf b ∷ argumentOf c ∷ [])) (take n (y .0 ∷ z .0 ∷ w .0 ∷ [])) ⌝ }
+{
+    if n == 0 {
+        return true;
+    }
+    if !first_fits(a, y, n - 1, b, z, c, w) {
+        return false;
+    }
+    if n == 1 {
+        return true;
+    }
+    if n == 2 {
+        return first_fits(b, z, 0, c, w, c, w);
+    }
+    if !first_fits(b, z, 1, c, w, c, w) {
+        return false;
+    }
+    first_fits(c, w, 0, c, w, c, w)
+}
+
+// An atom has at most three arguments, and an event three values.
+fn few(n: u32) -> u32
+    ensures { λ r. ⌜ r ≡ min n 3 ⌝ }
+{
+    if n < 3 { n } else { 3 }
+}
+
+// The row is an atom that matches the event.
+pub fn matches(row: Row, event: Event) -> bool
+    ensures { λ r. ⌜ r ≡ matchesRow (factOf event) (rowOf row) ⌝ }
+{
+    match row {
+        Row::True => false,
+        Row::Atom(p, q, a, b, c) => {
+            if event.predicate != p {
+                return false;
+            }
+            if few(event.count) != few(q) {
+                return false;
+            }
+            let vs = event.values;
+            all_fit(few(q), a, vs[0], b, vs[1], c, vs[2])
         }
-        j += 1;
+        Row::And(_, _) => false,
+        Row::Not(_) => false,
+        Row::Since(_, _) => false,
+        Row::Previous(_) => false,
+        Row::Exists(_, _) => false,
     }
-    true
-}
-
-// The argument at place j of row i fits: a constant is the event's value there, a variable has that value at its later places too.
-fn argument_fits(rows: &[u32], i: usize, event: Event, j: usize) -> bool
-    requires { ⌜ Readable (now rows) i event × (j < event .count) ⌝ }
-    ensures { λ r. ⌜ r ≡ fitsAt (argumentsOf (now (rows .entry)) i (event .count)) (factOf event .values) j ⌝ }
-{
-    let x = rows[9 * i + (4 + 2 * j)];
-    let y = value_at(event, j);
-    if rows[9 * i + (3 + 2 * j)] != 0 {
-        return x == y;
-    }
-    repeats(rows, i, event, x, y, j + 1)
-}
-
-// Every argument of row i fits.
-fn all_fit(rows: &[u32], i: usize, event: Event) -> bool
-    requires { ⌜ Readable (now rows) i event ⌝ }
-    ensures { λ r. ⌜ r ≡ fits (argumentsOf (now (rows .entry)) i (event .count)) (factOf event .values) ⌝ }
-{
-    let n = event.count as usize;
-    let mut j = 0;
-    while j < n {
-        if !argument_fits(rows, i, event, j) {
-            return false;
-        }
-        j += 1;
-    }
-    true
-}
-
-// Row i is an atom that matches the event.
-pub fn matches(rows: &[u32], i: usize, event: Event) -> bool
-    requires { ⌜ (i < length (now rows) / 9) × (rowRight (now rows) i ≡ true) × (event .count ≤ 3) ⌝ }
-    ensures { λ r. ⌜ r ≡ matchesRow (factOf event) (rowAt (now (rows .entry)) i) ⌝ }
-{
-    if rows[9 * i] != 2 {
-        return false;
-    }
-    if rows[9 * i + 1] != event.predicate {
-        return false;
-    }
-    if rows[9 * i + 2] != event.count {
-        return false;
-    }
-    all_fit(rows, i, event)
 }

@@ -55,7 +55,7 @@ fn work_rows(
     let mut i: usize = 0;
     while i < count {
         let read = rule::row_at(rows, i);
-        let matched = numbers::matches(rows, i, event);
+        let matched = numbers::matches(read, event);
         let x = instructions::instruction(read, matched, given);
         let Counted::At(m, r, v) = row(nodes, work, c, slots, n, k, i as u32, x, olds, news) else {
             return Run {

@@ -1,69 +1,44 @@
--- `all_fit` meets its contract. The loop's invariant: all arguments fit if those from j on do. The measure is the count of places left.
--- Assumes nothing.
-use native.Mathlib.Omega.{arith}
-use Prim.Native.Nat.{_≤_, _-_}
-use mathlib.Core.Path.{_≡_, sym, _∙_}
-use lib.ListN.{drop}
-use borrow.Author.Tests.{not-true, not-false}
-use Rattle.meaning.specs.Numbering.{fits}
-use Rattle.meaning.specs.Outcome.{factOf}
-use Rattle.numbers.specs.Matching.{argumentsOf}
-use Rattle.numbers.proofs.MatchingLaws.{fits-on, fits-off, fits-done}
+-- `all_fit` meets its contract: one law for each way out. Assumes nothing.
+use mathlib.Core.Path.{sym, _∙_}
+use Rattle.rule.specs.Decoded.{argumentOf}
+use Rattle.numbers.proofs.FitLaws.{fits-none, fits-off, fits-one, fits-two, fits-second, fits-all}
 use borrow.Author.Needs.{needs}
+use borrow.Author.Tests.{not-true, not-false}
 use Rattle.numbers.proofs.matching.all_fit.Statement.{statement}
 use Rattle.numbers.proofs.matching.all_fit.Tie as tie
 
-abbrev Inv-loop : tie.InvT-loop
-Inv-loop rows i event n j₀ j = (j ≤ event .count)
-    × (fits (argumentsOf rows i (event .count)) (factOf event .values) ≡ fits (drop j (argumentsOf rows i (event .count))) (drop j (factOf event .values)))
+returns : tie.Need-returns
+returns c = let a = c .before .args in fits-none (argumentOf (a .a)) (argumentOf (a .b)) (argumentOf (a .c)) (a .y .0) (a .z .0) (a .w .0) (a .n) (c .if1 .taken)
 
-abbrev μ-loop : tie.MeasureT-loop
-μ-loop rows i event n j₀ j = event .count - j
+sub-first-fits : tie.Need-sub-first-fits
+sub-first-fits c = search needs
 
-cast-n : tie.Need-cast-n Inv-loop μ-loop
-cast-n c = search needs
+first-fits-requires : tie.Need-first-fits-requires
+first-fits-requires c κs = tt
 
-loop-holds : tie.Need-loop-holds Inv-loop μ-loop
-loop-holds c = search needs
+returns-2 : tie.Need-returns-2
+returns-2 c = let a = c .before .before .before .args in fits-off (argumentOf (a .a)) (argumentOf (a .b)) (argumentOf (a .c)) (a .y .0) (a .z .0) (a .w .0) (a .n) (c .before .before .if1 .left) (sym (c .before .first-fits .ensures) ∙ not-true _ (c .if2 .taken))
 
-argument-fits-requires : tie.Need-argument-fits-requires Inv-loop μ-loop
-argument-fits-requires c κs = search needs
+returns-3 : tie.Need-returns-3
+returns-3 c = let a = c .before .before .before .before .args in fits-one (argumentOf (a .a)) (argumentOf (a .b)) (argumentOf (a .c)) (a .y .0) (a .z .0) (a .w .0) (a .n) (c .if3 .taken) (sym (c .before .before .first-fits .ensures) ∙ not-false _ (c .before .if2 .left))
 
-returns : tie.Need-returns Inv-loop μ-loop
-returns c =
-    let s = c .before .before .before .before .before .before in
-    let l = c .before .before .before .loop in
-    sym (l .inv .1 ∙ fits-off (s .args .rows .now) (s .args .i) (s .args .event) (s .pre) (l .j) (omega arith) (sym (c .before .argument-fits .ensures) ∙ not-true _ (c .if1 .taken)))
+first-fits-requires-2 : tie.Need-first-fits-requires-2
+first-fits-requires-2 c κs = tt
 
-add-j : tie.Need-add-j Inv-loop μ-loop
-add-j c = search needs
+returns-4 : tie.Need-returns-4
+returns-4 c = let a = c .before .before .before .before .before .before .args in c .first-fits2 .ensures ∙ fits-two (argumentOf (a .a)) (argumentOf (a .b)) (argumentOf (a .c)) (a .y .0) (a .z .0) (a .w .0) (a .n) (c .before .if4 .taken) (sym (c .before .before .before .before .first-fits .ensures) ∙ not-false _ (c .before .before .before .if2 .left))
 
-loop-less : tie.Need-loop-less Inv-loop μ-loop
-loop-less c = search needs
+first-fits-requires-3 : tie.Need-first-fits-requires-3
+first-fits-requires-3 c κs = tt
 
-loop-again : tie.Need-loop-again Inv-loop μ-loop
-loop-again c =
-    let s = c .before .before .before .before .before .before in
-    let l = c .before .before .before .loop in
-    (search needs, l .inv .1 ∙ fits-on (s .args .rows .now) (s .args .i) (s .args .event) (s .pre) (l .j) (omega arith) (sym (c .before .argument-fits .ensures) ∙ not-false _ (c .if1 .left)))
+returns-5 : tie.Need-returns-5
+returns-5 c = let a = c .before .before .before .before .before .before .before .args in fits-second (argumentOf (a .a)) (argumentOf (a .b)) (argumentOf (a .c)) (a .y .0) (a .z .0) (a .w .0) (a .n) (c .before .before .before .before .before .before .if1 .left) (c .before .before .before .if3 .left) (c .before .before .if4 .left) (sym (c .before .before .before .before .before .first-fits .ensures) ∙ not-false _ (c .before .before .before .before .if2 .left)) (sym (c .before .first-fits3 .ensures) ∙ not-true _ (c .if5 .taken))
 
-returns-2 : tie.Need-returns-2 Inv-loop μ-loop
-returns-2 c =
-    let s = c .before .before .before .before in
-    let l = c .before .loop in
-    sym (l .inv .1 ∙ fits-done (s .args .rows .now) (s .args .i) (s .args .event) (s .pre) (l .j) (omega arith))
+first-fits-requires-4 : tie.Need-first-fits-requires-4
+first-fits-requires-4 c κs = tt
+
+returns-6 : tie.Need-returns-6
+returns-6 c = let a = c .before .before .before .before .before .before .before .before .args in c .first-fits4 .ensures ∙ fits-all (argumentOf (a .a)) (argumentOf (a .b)) (argumentOf (a .c)) (a .y .0) (a .z .0) (a .w .0) (a .n) (c .before .before .before .before .before .before .before .if1 .left) (c .before .before .before .before .if3 .left) (c .before .before .before .if4 .left) (sym (c .before .before .before .before .before .before .first-fits .ensures) ∙ not-false _ (c .before .before .before .before .before .if2 .left)) (sym (c .before .before .first-fits3 .ensures) ∙ not-false _ (c .before .if5 .left))
 
 pub all-fit-spec : {M : Type 1} → statement M
-all-fit-spec =
-    tie.close
-    (tie.spec
-    Inv-loop
-    μ-loop
-    cast-n
-    loop-holds
-    argument-fits-requires
-    returns
-    add-j
-    loop-less
-    loop-again
-    returns-2)
+all-fit-spec = tie.close (tie.spec returns sub-first-fits first-fits-requires returns-2 returns-3 first-fits-requires-2 returns-4 first-fits-requires-3 returns-5 first-fits-requires-4 returns-6)
