@@ -25,7 +25,7 @@ and-all : (b : Bool) → (b && true) ≡ b
 and-all true = refl
 and-all false = refl
 
-and-none : (b : Bool) → (b && false) ≡ false
+pub and-none : (b : Bool) → (b && false) ≡ false
 and-none true = refl
 and-none false = refl
 
@@ -146,7 +146,7 @@ module _ (g h i : Qtl.Argument) (y z w : ℕ) where
     fits-all f = sym (all-three ∙ rw f)
 
 -- lists of different lengths never fit
-fits-length : (gs : List Qtl.Argument) (ys : List ℕ) → (length gs ≡ length ys → ⊥) → fits gs ys ≡ false
+pub fits-length : (gs : List Qtl.Argument) (ys : List ℕ) → (length gs ≡ length ys → ⊥) → fits gs ys ≡ false
 unfolding fits
 fits-length [] [] h = absurd (h refl)
 fits-length [] (y ∷ ys) h = refl

@@ -1,6 +1,6 @@
 -- What follows from the definitions of specs/, for the proofs of the functions.
-pub mod MatchingLaws
 pub mod FitLaws
+pub mod MatchingLaws
 pub mod PlaceLaws
 pub mod PartLaws
 pub mod TallyLaws

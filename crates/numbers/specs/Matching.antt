@@ -44,10 +44,6 @@ unfoldable pub fitsFirst : Argument → ℕ → List Argument → List ℕ → B
 fitsFirst (variable v) y gs ys = repeats v y gs ys
 fitsFirst (constant c) y gs ys = eqb c y
 
--- the argument at place j fits
-unfoldable pub fitsAt : List Argument → List ℕ → ℕ → Bool
-fitsAt gs ys j = fitsFirst (getD gs j (constant 0)) (getD ys j 0) (drop (suc j) gs) (drop (suc j) ys)
-
 -- an event has an array of three values, of which at most three count
 pub record Sized (e : Event) : Type 0 where
   pub few : e .count ≤ 3

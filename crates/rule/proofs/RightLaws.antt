@@ -1,6 +1,6 @@
 -- Laws of the row rules: a row is right exactly if the tests that the code makes of its numbers say so. Assumes nothing.
 use Prim.Native.Nat.{ℕ, min, _+_, _*_, _≤_, _<_}
-use mathlib.Core.Path.{_≡_, refl, sym, _∙_}
+use mathlib.Core.Path.{_≡_, refl, ap, sym, _∙_}
 use mathlib.Core.Bool.{Bool, true, false, cond, not, _&&_, and-false}
 use mathlib.Core.List.{List}
 use mathlib.Core.Logic.{⊎-elim}
@@ -12,13 +12,14 @@ use Rattle.trees.specs.Kept.{allBelow}
 use Rattle.trees.proofs.Tests.{EqCase, equal, other, eq-case, lt-or-ge, false-true, not-true, and-true-l, and-true-r}
 use Rattle.trees.proofs.KeptLaws.{all-at, all-of}
 use Rattle.meaning.specs.Rows.{field, Use, useOf, fieldRight, pairsUsed, pairRight, rowRight, disagree}
-use Rattle.rule.specs.Table.{useCoded}
+use Rattle.rule.specs.Table.{codeOf, useCoded, usedPairs}
 use Rattle.rule.specs.Checking.{pairsRight, agreesBefore, atomOf, otherCount}
+use Rattle.rule.proofs.TableLaws.{code-use}
 
 -- a pair whose mark and value were read
-pub pair-read : (raw : List ℕ) (i j : ℕ) (used : Bool) {m x : ℕ} {r : Bool} → m ≡ field raw i (3 + 2 * j) → x ≡ field raw i (4 + 2 * j)
-    → r ≡ pairRight used m x → r ≡ pairRight used (field raw i (3 + 2 * j)) (field raw i (4 + 2 * j))
-pair-read raw i j used p q e = e ∙ rw (p, q)
+pub pair-read : (raw : List ℕ) (i j : ℕ) (used : Bool) {u : Bool} {m x : ℕ} {r : Bool} → u ≡ used → m ≡ field raw i (3 + 2 * j) → x ≡ field raw i (4 + 2 * j)
+    → r ≡ pairRight u m x → r ≡ pairRight used (field raw i (3 + 2 * j)) (field raw i (4 + 2 * j))
+pair-read raw i j used s p q e = e ∙ rw (s, p, q)
 
 -- the three pairs
 pub pairs-are : (raw : List ℕ) (i n : ℕ) {a b c : Bool}
@@ -28,8 +29,8 @@ unfolding pairsRight allBelow
 pairs-are raw i n p q r = rw (p, q, r)
 
 -- a field whose use was looked up
-pub field-read : (i x u : ℕ) (how : Use) {r : Bool} → useCoded u ≡ how → r ≡ fieldRight i (useCoded u) x → r ≡ fieldRight i how x
-field-read i x u how h e = e ∙ rw h
+pub field-read : (i x kind f : ℕ) {u : ℕ} {r : Bool} → f < 2 → u ≡ codeOf kind f → r ≡ fieldRight i (useCoded u) x → r ≡ fieldRight i (useOf kind f) x
+field-read i x kind f l h e = e ∙ ap (λ (how : Use). fieldRight i how x) (ap useCoded h ∙ code-use kind f l)
 
 -- a row of kind 0
 pub row-low : (raw : List ℕ) (i : ℕ) {k : ℕ} → k ≡ field raw i 0 → k ≡ 0 → false ≡ rowRight raw i
@@ -43,8 +44,8 @@ row-high raw i {k} e h = rw (← e, lt-leb k 7 h, and-false (ltb 0 k))
 
 -- a row of one of the kinds
 pub row-parts : (raw : List ℕ) (i : ℕ) {k p q : ℕ} {a b : Bool} → k ≡ field raw i 0 → p ≡ field raw i 1 → q ≡ field raw i 2 → 0 < k → k ≤ 7
-    → a ≡ fieldRight i (useOf k 0) p → b ≡ fieldRight i (useOf k 1) q → rowRight raw i ≡ ((a && b) && pairsRight raw i (cond (eqb k 2) q 0))
-unfolding rowRight pairsRight pairsUsed
+    → a ≡ fieldRight i (useOf k 0) p → b ≡ fieldRight i (useOf k 1) q → rowRight raw i ≡ ((a && b) && pairsRight raw i (usedPairs k q))
+unfolding rowRight pairsRight pairsUsed usedPairs
 row-parts raw i {k} ek ep eq l h ea eb = rw (← ek, ← ep, ← eq, lt-ltb 0 k l, le-leb k 7 h, ← ea, ← eb)
 
 -- two atoms of one predicate, with different counts

@@ -1,26 +1,18 @@
 -- Laws of the table of uses: the constant of the code is the table of the meaning. Assumes nothing.
-use Prim.Native.Nat.{ℕ, zero, suc, _≤_}
+use Prim.Native.Nat.{ℕ, zero, suc, _+_, _-_, _≤_, _<_}
 use mathlib.Core.Path.{_≡_, refl, ap, sym, _∙_}
+use mathlib.Core.Bool.{Bool, true, false}
 use mathlib.Core.List.{List, [], _∷_, map}
 use native.Mathlib.Omega.{arith}
-use lib.ListN.{getD}
-use Rattle.meaning.specs.Rows.{Use, unused, asCount, uses}
-use Rattle.rule.specs.Table.{useCoded}
+use lib.Dec.{eqb, ltb}
+use lib.ListN.{getD, take}
+use lib.Seq.{getD-take}
+use borrow.Author.Tests.{le-ltb, ne-eqb}
+use Rattle.meaning.specs.Rows.{Use, unused, asCount, uses, useOf}
+use Rattle.rule.specs.Table.{table, codeOf, useCoded, usedPairs}
 
--- the constant `USES`
-unfoldable pub table : List (List ℕ)
-table =
-    (0 ∷ 0 ∷ [])
-    ∷ (1 ∷ 4 ∷ [])
-    ∷ (2 ∷ 2 ∷ [])
-    ∷ (2 ∷ 0 ∷ [])
-    ∷ (2 ∷ 2 ∷ [])
-    ∷ (2 ∷ 0 ∷ [])
-    ∷ (3 ∷ 2 ∷ [])
-    ∷ []
-
--- the test of the whole table: decoded, it is the table of the meaning
-table-right : map (map useCoded) table ≡ uses
+-- the test of the columns p and q: decoded, they are the table of the meaning
+table-right : map (λ (row : List ℕ). map useCoded (take 2 row)) table ≡ uses
 unfolding table useCoded uses
 table-right = refl
 
@@ -31,12 +23,13 @@ at-map f [] (suc i) d = refl
 at-map f (x ∷ xs) zero d = refl
 at-map f (x ∷ xs) (suc i) d = at-map f xs i d
 
--- each entry of the table says how its field is used
-pub table-at : (k f : ℕ) → useCoded (getD (getD table k []) f 0) ≡ getD (getD uses k []) f unused
-unfolding useCoded
-table-at k f =
-    sym (at-map useCoded (getD table k []) f 0)
-    ∙ ap (λ (us : List Use). getD us f unused) (sym (at-map (map useCoded) table k []) ∙ ap (λ (t : List (List Use)). getD t k []) table-right)
+-- each entry for p and q says how its field is used
+pub code-use : (kind f : ℕ) → f < 2 → useCoded (codeOf kind f) ≡ useOf kind f
+unfolding useCoded codeOf useOf
+code-use kind f h =
+    ap useCoded (sym (getD-take 2 (getD table (kind - 1) []) f 0 h))
+    ∙ sym (at-map useCoded (take 2 (getD table (kind - 1) [])) f 0)
+    ∙ ap (λ (us : List Use). getD us f unused) (sym (at-map (λ (row : List ℕ). map useCoded (take 2 row)) table (kind - 1) []) ∙ ap (λ (t : List (List Use)). getD t (kind - 1) []) table-right)
 
 -- a code over 3 is a count
 pub coded-count : (n : ℕ) → 4 ≤ n → useCoded n ≡ asCount
@@ -46,3 +39,45 @@ coded-count (suc zero) h = absurd (omega arith)
 coded-count (suc (suc zero)) h = absurd (omega arith)
 coded-count (suc (suc (suc zero))) h = absurd (omega arith)
 coded-count (suc (suc (suc (suc n)))) h = refl
+
+-- a kind whose pair j has the code 0 uses none
+pub pair-unused : (kind j q : ℕ) → 0 < kind → kind ≤ 7 → j < 3 → codeOf kind (2 + j) ≡ 0 → false ≡ ltb j (usedPairs kind q)
+unfolding usedPairs codeOf table
+pair-unused kind j q some few h e = rw (ne-eqb kind 2 (λ z. atom j h (rw z at e))) (sym (le-ltb j 0 (omega arith)))
+  where
+    atom : (j : ℕ) → j < 3 → codeOf 2 (2 + j) ≡ 0 → ⊥
+    atom zero h e = absurd (omega arith)
+    atom (suc zero) h e = absurd (omega arith)
+    atom (suc (suc zero)) h e = absurd (omega arith)
+    atom (suc (suc (suc j))) h e = absurd (omega arith)
+
+-- and where it has another code the kind is the atom's
+pub pair-used : (kind j q : ℕ) → 0 < kind → kind ≤ 7 → j < 3 → (codeOf kind (2 + j) ≡ 0 → ⊥) → ltb j q ≡ ltb j (usedPairs kind q)
+unfolding usedPairs codeOf table
+pair-used zero j q some few h e = absurd (omega arith)
+pair-used (suc zero) zero q some few h e = absurd (e refl)
+pair-used (suc zero) (suc zero) q some few h e = absurd (e refl)
+pair-used (suc zero) (suc (suc zero)) q some few h e = absurd (e refl)
+pair-used (suc zero) (suc (suc (suc j))) q some few h e = absurd (omega arith)
+pair-used (suc (suc zero)) j q some few h e = refl
+pair-used (suc (suc (suc zero))) zero q some few h e = absurd (e refl)
+pair-used (suc (suc (suc zero))) (suc zero) q some few h e = absurd (e refl)
+pair-used (suc (suc (suc zero))) (suc (suc zero)) q some few h e = absurd (e refl)
+pair-used (suc (suc (suc zero))) (suc (suc (suc j))) q some few h e = absurd (omega arith)
+pair-used (suc (suc (suc (suc zero)))) zero q some few h e = absurd (e refl)
+pair-used (suc (suc (suc (suc zero)))) (suc zero) q some few h e = absurd (e refl)
+pair-used (suc (suc (suc (suc zero)))) (suc (suc zero)) q some few h e = absurd (e refl)
+pair-used (suc (suc (suc (suc zero)))) (suc (suc (suc j))) q some few h e = absurd (omega arith)
+pair-used (suc (suc (suc (suc (suc zero))))) zero q some few h e = absurd (e refl)
+pair-used (suc (suc (suc (suc (suc zero))))) (suc zero) q some few h e = absurd (e refl)
+pair-used (suc (suc (suc (suc (suc zero))))) (suc (suc zero)) q some few h e = absurd (e refl)
+pair-used (suc (suc (suc (suc (suc zero))))) (suc (suc (suc j))) q some few h e = absurd (omega arith)
+pair-used (suc (suc (suc (suc (suc (suc zero)))))) zero q some few h e = absurd (e refl)
+pair-used (suc (suc (suc (suc (suc (suc zero)))))) (suc zero) q some few h e = absurd (e refl)
+pair-used (suc (suc (suc (suc (suc (suc zero)))))) (suc (suc zero)) q some few h e = absurd (e refl)
+pair-used (suc (suc (suc (suc (suc (suc zero)))))) (suc (suc (suc j))) q some few h e = absurd (omega arith)
+pair-used (suc (suc (suc (suc (suc (suc (suc zero))))))) zero q some few h e = absurd (e refl)
+pair-used (suc (suc (suc (suc (suc (suc (suc zero))))))) (suc zero) q some few h e = absurd (e refl)
+pair-used (suc (suc (suc (suc (suc (suc (suc zero))))))) (suc (suc zero)) q some few h e = absurd (e refl)
+pair-used (suc (suc (suc (suc (suc (suc (suc zero))))))) (suc (suc (suc j))) q some few h e = absurd (omega arith)
+pair-used (suc (suc (suc (suc (suc (suc (suc (suc kind)))))))) j q some few h e = absurd (omega arith)

@@ -1,7 +1,7 @@
 -- `rule::right::row_right` meets its contract: the kind, the two fields by the table, and the pairs. Assumes nothing.
 use mathlib.Core.Path.{refl, sym, _∙_}
 use native.Mathlib.Omega.{arith}
-use borrow.Author.Tests.{not-true, not-false, eq-eqb, ne-eqb}
+use borrow.Author.Tests.{not-true, not-false}
 use borrow.Author.Needs.{needs}
 use Rattle.rule.proofs.RightLaws.{field-read, row-low, row-high, row-parts}
 use Rattle.rule.proofs.right.row_right.Statement.{statement}
@@ -31,7 +31,7 @@ field-right-requires c κs = search needs
 returns-3 : tie.Need-returns-3
 returns-3 c =
     sym (row-parts _ _ (c .before .before .before .before .before .before .before .field-of .ensures) (c .before .before .field-of3 .ensures) (c .before .before .before .before .field-of2 .ensures) (omega arith) (omega arith)
-    (field-read _ _ _ _ (c .before .before .before .use-of .ensures) (c .before .field-right .ensures))
+    (field-read _ _ _ 0 (omega arith) (c .before .before .before .use-of .ensures) (c .before .field-right .ensures))
     refl
     ∙ rw (not-true (c .before .field-right .result) (c .if3 .taken)))
 
@@ -44,8 +44,8 @@ field-right-requires-2 c κs = search needs
 returns-4 : tie.Need-returns-4
 returns-4 c =
     sym (row-parts _ _ (c .before .before .before .before .before .before .before .before .before .before .field-of .ensures) (c .before .before .before .before .before .field-of3 .ensures) (c .before .before .before .before .before .before .before .field-of2 .ensures) (omega arith) (omega arith)
-    (field-read _ _ _ _ (c .before .before .before .before .before .before .use-of .ensures) (c .before .before .before .before .field-right .ensures))
-    (field-read _ _ _ _ (c .before .before .use-of2 .ensures) (c .before .field-right2 .ensures))
+    (field-read _ _ _ 0 (omega arith) (c .before .before .before .before .before .before .use-of .ensures) (c .before .before .before .before .field-right .ensures))
+    (field-read _ _ _ 1 (omega arith) (c .before .before .use-of2 .ensures) (c .before .field-right2 .ensures))
     ∙ rw (not-false (c .before .before .before .before .field-right .result) (c .before .before .before .if3 .left), not-true (c .before .field-right2 .result) (c .if4 .taken)))
 
 pairs-right-requires : tie.Need-pairs-right-requires
@@ -53,20 +53,10 @@ pairs-right-requires c κs = search needs
 
 returns-5 : tie.Need-returns-5
 returns-5 c =
-    sym (row-parts _ _ (c .before .before .before .before .before .before .before .before .before .before .before .before .field-of .ensures) (c .before .before .before .before .before .before .before .field-of3 .ensures) (c .before .before .before .before .before .before .before .before .before .field-of2 .ensures) (omega arith) (omega arith)
-    (field-read _ _ _ _ (c .before .before .before .before .before .before .before .before .use-of .ensures) (c .before .before .before .before .before .before .field-right .ensures))
-    (field-read _ _ _ _ (c .before .before .before .before .use-of2 .ensures) (c .before .before .before .field-right2 .ensures))
-    ∙ rw (not-false (c .before .before .before .before .before .before .field-right .result) (c .before .before .before .before .before .if3 .left), not-false (c .before .before .before .field-right2 .result) (c .before .before .if4 .left), eq-eqb _ _ (c .before .if5 .taken), c .pairs-right .ensures))
-
-pairs-right-requires-2 : tie.Need-pairs-right-requires-2
-pairs-right-requires-2 c κs = search needs
-
-returns-6 : tie.Need-returns-6
-returns-6 c =
-    sym (row-parts _ _ (c .before .before .before .before .before .before .before .before .before .before .before .before .field-of .ensures) (c .before .before .before .before .before .before .before .field-of3 .ensures) (c .before .before .before .before .before .before .before .before .before .field-of2 .ensures) (omega arith) (omega arith)
-    (field-read _ _ _ _ (c .before .before .before .before .before .before .before .before .use-of .ensures) (c .before .before .before .before .before .before .field-right .ensures))
-    (field-read _ _ _ _ (c .before .before .before .before .use-of2 .ensures) (c .before .before .before .field-right2 .ensures))
-    ∙ rw (not-false (c .before .before .before .before .before .before .field-right .result) (c .before .before .before .before .before .if3 .left), not-false (c .before .before .before .field-right2 .result) (c .before .before .if4 .left), ne-eqb _ _ (c .before .if5 .left), c .pairs-right2 .ensures))
+    sym (row-parts _ _ (c .before .before .before .before .before .before .before .before .before .before .before .field-of .ensures) (c .before .before .before .before .before .before .field-of3 .ensures) (c .before .before .before .before .before .before .before .before .field-of2 .ensures) (omega arith) (omega arith)
+    (field-read _ _ _ 0 (omega arith) (c .before .before .before .before .before .before .before .use-of .ensures) (c .before .before .before .before .before .field-right .ensures))
+    (field-read _ _ _ 1 (omega arith) (c .before .before .before .use-of2 .ensures) (c .before .before .field-right2 .ensures))
+    ∙ rw (not-false (c .before .before .before .before .before .field-right .result) (c .before .before .before .before .if3 .left), not-false (c .before .before .field-right2 .result) (c .before .if4 .left), c .pairs-right .ensures))
 
 pub row-right-spec : {M : Type 1} → statement M
 row-right-spec =
@@ -84,6 +74,4 @@ row-right-spec =
     field-right-requires-2
     returns-4
     pairs-right-requires
-    returns-5
-    pairs-right-requires-2
-    returns-6)
+    returns-5)

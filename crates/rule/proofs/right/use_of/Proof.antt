@@ -1,7 +1,7 @@
--- `rule::right::use_of` meets its contract: the constant is the table of the meaning, by one computed test (`TableLaws`). Assumes nothing.
+-- `rule::right::use_of` meets its contract: the constant is the table of specs/Table. Assumes nothing.
+use mathlib.Core.Path.{refl}
 use borrow.Author.Needs.{needs}
-use Rattle.meaning.specs.Rows.{useOf}
-use Rattle.rule.proofs.TableLaws.{table, table-at}
+use Rattle.rule.specs.Table.{table, codeOf}
 use Rattle.rule.proofs.right.use_of.Statement.{statement}
 use Rattle.rule.proofs.right.use_of.Tie as tie
 
@@ -21,8 +21,16 @@ index-2-result : tie.Need-index-2-result
 index-2-result c = search needs
 
 returns : tie.Need-returns
-unfolding useOf table
-returns c = table-at _ _
+unfolding codeOf table
+returns c = refl
 
 pub use-of-spec : {M : Type 1} → statement M
-use-of-spec = tie.close (tie.spec sub-k cast-k mul-result index-1-result index-2-result returns)
+use-of-spec =
+    tie.close
+    (tie.spec
+    sub-k
+    cast-k
+    mul-result
+    index-1-result
+    index-2-result
+    returns)

@@ -1,7 +1,7 @@
 -- `work_rows` meets its contract. The loop's invariant: the first i rows are worked and counted. The measure is the count of rows that
 -- are left. Assumes nothing.
 use Prim.Native.Nat.{ℕ, _+_, _*_, _-_, _/_, _≤_, _<_}
-use mathlib.Core.Path.{_≡_, refl, sym, ap₂, _∙_}
+use mathlib.Core.Path.{_≡_, refl, ap, ap₂, sym, _∙_}
 use mathlib.Core.Bool.{Bool}
 use mathlib.Core.List.{List}
 use native.Mathlib.Omega.{arith}
@@ -9,14 +9,14 @@ use lib.ListN.{length, getD}
 use denote.Ref.{now}
 use borrow.Author.Needs.{needs}
 use Rattle.trees.specs.Kept.{diagrams}
-use Rattle.meaning.specs.Rows.{rowCount, rowAt, right, checkRows}
+use Rattle.meaning.specs.Rows.{rowCount, right, checkRows}
 use Rattle.meaning.specs.Outcome.{factOf}
 use Rattle.meaning.specs.declared.Event.{Event}
 use Rattle.meaning.proofs.RowsLaws.{checked}
 use Rattle.rule.specs.declared.Row.{Row}
-use Rattle.rule.specs.Decoded.{rowReadAt}
+use Rattle.rule.specs.Decoded.{rowOf, rowReadAt}
+use Rattle.rule.proofs.DecodedLaws.{row-says}
 use Rattle.numbers.specs.Matching.{matchesRow}
-use Rattle.numbers.proofs.StartLaws.{row-right}
 use Rattle.diagram.specs.declared.Instruction.{Instruction}
 use Rattle.diagram.specs.declared.Instruction.the-variants.{Yes}
 use Rattle.instructions.specs.Read.{instructionRead}
@@ -39,8 +39,8 @@ count-is rows = refl
 
 -- the instruction that is read is the plan's
 reads : (rows : List ℕ) (e : Event) (given : List ℕ) (i : ℕ) → i < length rows / 9 → {x : Instruction} {r : Row} {b : Bool}
-    → x ≡ instructionRead r b given → r ≡ rowReadAt rows i → b ≡ matchesRow (factOf e) (rowAt rows i) → x ≡ getD (planned rows e given) i Yes
-reads rows e given i h p q s = p ∙ ap₂ (λ (r : Row) (b : Bool). instructionRead r b given) q s ∙ sym (planned-at rows e given i (omega (arith, count-is rows)))
+    → x ≡ instructionRead r b given → r ≡ rowReadAt rows i → b ≡ matchesRow (factOf e) (rowOf r) → x ≡ getD (planned rows e given) i Yes
+reads rows e given i h p q s = p ∙ ap₂ (λ (r : Row) (b : Bool). instructionRead r b given) q (s ∙ ap (matchesRow (factOf e)) (ap rowOf q ∙ row-says rows i)) ∙ sym (planned-at rows e given i (omega (arith, count-is rows)))
 
 abbrev Inv-loop : tie.InvT-loop
 Inv-loop nodes₀ work₀ c slots kept k rows event given olds news₀ count n₀ visits₀ i₀ nodes work news n visits i =
@@ -64,11 +64,7 @@ row-at-requires : tie.Need-row-at-requires Inv-loop μ-loop
 row-at-requires c κs = let l = c .before .loop in omega (arith, l .inv .0, c .loop-test .taken)
 
 matches-requires : tie.Need-matches-requires Inv-loop μ-loop
-matches-requires c κs =
-    let l = c .before .before .loop in
-    let s = c .before .before .before .before .before .before in
-    let h = c .before .loop-test .taken in
-    (omega (arith, l .inv .0), row-right _ _ (s .pre .0 .1) (omega (arith, l .inv .0, count-is (now (s .args .rows)))), s .pre .0 .2)
+matches-requires c κs = tt
 
 instruction-requires : tie.Need-instruction-requires Inv-loop μ-loop
 instruction-requires c κs = tt
