@@ -48,12 +48,11 @@ print-append g (x ∷ xs) ys =
 
 -- byte by byte the same is printed as line by line
 pub by-bytes : (g : Going) (bytes : List ℕ) → bytesPrint g bytes ++ endPrints (bytesLeave g bytes) ≡ told (g .stand) (linesFrom (g .begun) bytes)
-unfolding bytesPrint bytesLeave endPrints linesFrom
+unfolding bytesPrint bytesLeave bytePrints byteLeaves endPrints linesFrom told
 by-bytes g [] = refl
 by-bytes g (b ∷ bs) = append-assoc (bytePrints g b) (bytesPrint (byteLeaves g b) bs) (endPrints (bytesLeave (byteLeaves g b) bs)) ∙ ap (λ (l : List ℕ). bytePrints g b ++ l) (by-bytes (byteLeaves g b) bs) ∙ go (eqb b 10) refl
   where
     go : (q : Bool) → eqb b 10 ≡ q → bytePrints g b ++ told (byteLeaves g b .stand) (linesFrom (byteLeaves g b .begun) bs) ≡ told (g .stand) (cond (eqb b 10) (g .begun ∷ linesFrom [] bs) (linesFrom (g .begun ++ (b ∷ [])) bs))
-    unfolding bytePrints byteLeaves told
     go true e = rw e
     go false e = rw e
 

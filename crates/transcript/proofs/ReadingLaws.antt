@@ -29,12 +29,15 @@ digit-goes-on n d rest =
     let same : n * 10 + ((48 + d) - 48) ≡ n * 10 + d = omega arith in
     rw (ne-eqb (48 + d) 32 (λ e. omega (arith, e))) (ap (λ (m : ℕ). numbersFrom m rest) same)
 
+from-zero : (n : ℕ) → 0 * 10 + n ≡ n
+from-zero n = omega arith
+
 -- the digits of n are the number n
 numeral-number : (n : ℕ) (rest : List ℕ) → numbersFrom 0 (numeral n ++ rest) ≡ numbersFrom n rest
 numeral-number =
     numeral-every
     (λ n ds. (rest : List ℕ) → numbersFrom 0 (ds ++ rest) ≡ numbersFrom n rest)
-    (λ n h rest. digit-goes-on 0 n rest)
+    (λ n h rest. digit-goes-on 0 n rest ∙ ap (λ (m : ℕ). numbersFrom m rest) (from-zero n))
     (λ n d ds hn hd ih rest. ap (numbersFrom 0) (append-assoc ds ((48 + d) ∷ []) rest) ∙ ih ((48 + d) ∷ rest) ∙ digit-goes-on n d rest)
 
 -- the numbers of a run are its numbers
@@ -63,9 +66,9 @@ candidate-text (Sizes k c) r =
 candidate-text (Row a b c d e f g h i) r = ap rowWith (spaced-numbers 0 (a ∷ b ∷ c ∷ d ∷ e ∷ f ∷ g ∷ h ∷ i ∷ []))
 candidate-text (Event p n a b c d) r =
     let values : List ℕ = a ∷ b ∷ c ∷ d ∷ [] in
-    let count : length (p ∷ take n values) - 1 ≡ n = omega (arith, length-take n values, r .few) in
-    ap eventWith (spaced-numbers 0 (p ∷ take n values))
-    ∙ rw (count, take-reads n values 0 (r .rest), take-reads n values 1 (r .rest), take-reads n values 2 (r .rest), take-reads n values 3 (r .rest))
+    let count : length (0 ∷ p ∷ take n values) - 2 ≡ n = omega (arith, length-take n values, r .few) in
+    let at : (i : ℕ) → getD (take n values) i 0 ≡ getD values i 0 = λ i. take-reads n values i (r .rest) in
+    ap eventWith (spaced-numbers 0 (p ∷ take n values)) ∙ (λ i. Event p (count i) (at 0 i) (at 1 i) (at 2 i) (at 3 i))
 candidate-text Bad r = absurd r
 
 -- numbers that fit pass the test, and numbers that pass it fit
@@ -88,7 +91,8 @@ zero-passes (n ∷ ns) h = rw (eq-eqb n 0 (h 0)) (zero-passes ns (λ i. h (suc i
 
 passes-zero : (ns : List ℕ) → allZero ns ≡ true → (i : ℕ) → getD ns i 0 ≡ 0
 unfolding allZero
-passes-zero [] e i = List·getD-eq-default [] 0 (omega arith)
+passes-zero [] e zero = refl
+passes-zero [] e (suc i) = refl
 passes-zero (n ∷ ns) e zero = eqb-true n 0 (both-true (eqb n 0) (allZero ns) e .0)
 passes-zero (n ∷ ns) e (suc i) = passes-zero ns (both-true (eqb n 0) (allZero ns) e .1) i
 
