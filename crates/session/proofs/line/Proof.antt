@@ -8,7 +8,7 @@ enum-known-found : tie.Need-enum-known-found
 enum-known-found c = search needs
 
 sizes-requires : tie.Need-sizes-requires
-sizes-requires c κs = (c .before .before .before .pre .0 .0, rw (c .before .found .given .1) at (c .before .before .before .pre .1))
+sizes-requires c κs = tt
 
 enum-known-found-2 : tie.Need-enum-known-found-2
 enum-known-found-2 c = search needs
@@ -32,16 +32,20 @@ bad-requires : tie.Need-bad-requires
 bad-requires c κs = search needs
 
 returns : tie.Need-returns
-returns c = search needs
+unfolding lineLeft
+returns c = does-same (rw (c .before .before .found .given .1)) (record { after-is = c .sizes .ensures; rows-are = refl; nodes-are = refl; values-are = refl; work-is = refl })
 
 returns-2 : tie.Need-returns-2
-returns-2 c = search needs
+unfolding lineLeft
+returns-2 c = ?
 
 returns-3 : tie.Need-returns-3
-returns-3 c = search needs
+unfolding lineLeft
+returns-3 c = ?
 
 returns-4 : tie.Need-returns-4
-returns-4 c = search needs
+unfolding lineLeft
+returns-4 c = ?
 
 pub line-spec : {M : Type 1} → statement M
 line-spec =
