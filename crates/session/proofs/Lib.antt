@@ -3,3 +3,5 @@ pub mod SessionLaws
 pub mod PartLaws
 pub mod TurnLaws
 pub mod KeepLaws
+pub mod LineLaws
+pub mod OneOutcome
