@@ -5,7 +5,9 @@ use mathlib.Core.Bool.{Bool, true, false, cond}
 use mathlib.Core.List.{List, [], _∷_, _++_, append-assoc}
 use lib.Dec.{eqb}
 use Rattle.transcript.specs.Reading.{lineOf}
-use Rattle.transcript.specs.Output.{Stand, opening, Reply, due, tell, told, lastLine, linesFrom, output}
+use Rattle.lines.specs.declared.Line.{Line}
+use Rattle.lines.specs.declared.Line.the-variants as line
+use Rattle.transcript.specs.Output.{Stand, opening, ended, Reply, silent, tellBad, tellSizes, tellRow, due, judged, tellEvent, tell, told, lastLine, linesFrom, output}
 
 -- where a run stands in the middle of a line, of which these bytes have come
 pub record Going : Type 0 where
@@ -61,3 +63,31 @@ pub output-by-bytes : (input : List ℕ)
     → bytesPrint (record { stand = opening; begun = [] }) input ++ endPrints (bytesLeave (record { stand = opening; begun = [] }) input) ≡ output input
 unfolding output
 output-by-bytes input = by-bytes (record { stand = opening; begun = [] }) input
+
+-- past the last line nothing is printed
+tell-ended : (l : Line) → tell ended l ≡ silent ended
+unfolding tell tellSizes tellRow tellEvent tellBad due judged silent
+tell-ended (line.Sizes k C) = refl
+tell-ended (line.Row a b c d e f g h i) = refl
+tell-ended (line.Event p n a b c d) = refl
+tell-ended line.Bad = refl
+
+byte-ended : (begun : List ℕ) (b : ℕ) → (byteLeaves (record { stand = ended; begun = begun }) b .stand ≡ ended) × (bytePrints (record { stand = ended; begun = begun }) b ≡ [])
+unfolding byteLeaves bytePrints silent
+byte-ended begun b = go (eqb b 10) refl
+  where
+    go : (q : Bool) → eqb b 10 ≡ q → (byteLeaves (record { stand = ended; begun = begun }) b .stand ≡ ended) × (bytePrints (record { stand = ended; begun = begun }) b ≡ [])
+    go true e = rw e (ap (λ (r : Reply). r .stand) (tell-ended (lineOf begun)), ap (λ (r : Reply). r .bytes) (tell-ended (lineOf begun)))
+    go false e = rw e (refl, refl)
+
+lines-ended : (begun : List ℕ) → told ended (lastLine begun) ≡ []
+unfolding told lastLine due silent
+lines-ended [] = refl
+lines-ended (b ∷ bs) = rw (tell-ended (lineOf (b ∷ bs))) refl
+
+pub ended-prints : (g : Going) (bytes : List ℕ) → g .stand ≡ ended → bytesPrint g bytes ++ endPrints (bytesLeave g bytes) ≡ []
+unfolding bytesPrint bytesLeave endPrints
+ended-prints g [] e = rw e (lines-ended (g .begun))
+ended-prints g (b ∷ bs) e =
+    let now : (byteLeaves g b .stand ≡ ended) × (bytePrints g b ≡ []) = rw e (byte-ended (g .begun) b) in
+    rw (now .1) (ended-prints (byteLeaves g b) bs (now .0))
