@@ -64,8 +64,8 @@ le-ne a b h e = go (ltb a b) refl
         absurd (e (omega arith))
 
 module _ (from n : ℕ) (block : List ℕ) (held : ℕ) (line line′ : List ℕ) (r end : ℕ) (some : from < n) (room : n ≤ length block)
-  (first : end ≡ from + before (slice from n block)) (last : end ≤ n) (few : r ≤ 101)
-  (are : holding r line′ ≡ holdBytes (holding held line) (take (end - from) (drop from block))) where
+    (first : end ≡ from + before (slice from n block)) (last : end ≤ n) (few : r ≤ 101)
+    (are : holding r line′ ≡ holdBytes (holding held line) (take (end - from) (drop from block))) where
   held-are : holding r line′ ≡ holdBytes (holding held line) (take (before (slice from n block)) (slice from n block))
   held-are =
       let part : end - from ≡ before (slice from n block) = omega (arith, first) in

@@ -1,2 +1,3 @@
 -- What follows from the definitions. The proofs of the functions stand beside these files.
 pub mod BlockLaws
+pub mod ServeLaws

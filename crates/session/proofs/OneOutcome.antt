@@ -12,11 +12,10 @@ one-ready b r t ns vs ms ws p q = (p .after-is ∙ sym (q .after-is), p .nodes-a
 -- `line`: what it gives back, and the four tables
 pub one-line : (l : Left) (r t : After) (rs ns vs ws rs′ ns′ vs′ ws′ : List ℕ) → Does l r rs ns vs ws → Does l t rs′ ns′ vs′ ws′
     → (r ≡ t) × (rs ≡ rs′) × (ns ≡ ns′) × (vs ≡ vs′) × (ws ≡ ws′)
-one-line l r t rs ns vs ws rs′ ns′ vs′ ws′ p q =
-    (
-      p .after-is ∙ sym (q .after-is),
-      p .rows-are ∙ sym (q .rows-are),
-      p .nodes-are ∙ sym (q .nodes-are),
-      p .values-are ∙ sym (q .values-are),
-      p .work-is ∙ sym (q .work-is),
-    )
+one-line l r t rs ns vs ws rs′ ns′ vs′ ws′ p q = (
+  p .after-is ∙ sym (q .after-is),
+  p .rows-are ∙ sym (q .rows-are),
+  p .nodes-are ∙ sym (q .nodes-are),
+  p .values-are ∙ sym (q .values-are),
+  p .work-is ∙ sym (q .work-is),
+)

@@ -62,7 +62,7 @@ module _ (s : Session) (lent : Lent) (sized : Sized s lent) where
       λ i. eventOutcome (take (rows-lent i) rows) (machine (s .state) (take (nodes-lent i) nodes) (take (values-lent i) values) (take (work-lent i) work)) e
 
   module _ (rows nodes values : List ℕ) (t : Turn) (ns vs : List ℕ)
-    (starts : Starts (s .k) (take (lent .rows - 0) rows) (take (lent .nodes - 0) nodes) (take (lent .values - 0) values) t ns vs) where
+      (starts : Starts (s .k) (take (lent .rows - 0) rows) (take (lent .nodes - 0) nodes) (take (lent .values - 0) values) t ns vs) where
     begin-left : (r : After) → r ≡ begunAs (started s rows nodes values .answer) s (started s rows nodes values)
         → Begins (beginLeft s (started s rows nodes values) nodes values) r (ns ++ drop (lent .nodes - 0) nodes) (vs ++ drop (lent .values - 0) values)
     unfolding beginLeft
