@@ -1,3 +1,6 @@
 -- What follows from the definitions. The proofs of the functions stand beside these files.
 pub mod BlockLaws
 pub mod ServeLaws
+pub mod ShowLaws
+pub mod TurnShows
+pub mod LineShows
