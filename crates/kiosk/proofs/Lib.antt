@@ -4,3 +4,6 @@ pub mod ServeLaws
 pub mod ShowLaws
 pub mod TurnShows
 pub mod LineShows
+pub mod DeskLaws
+pub mod Printed
+pub mod OneOutcome
