@@ -300,7 +300,7 @@ fn happen(
     );
     let ordinal = s.ordinal + 1;
     let answer = turn.answer;
-    let state = turn.state;
+    let after = turn.state;
     After {
         session: Session {
             part: Part::Events,
@@ -308,7 +308,7 @@ fn happen(
             c: s.c,
             rows: n,
             ordinal,
-            state,
+            state: after,
         },
         told: Told {
             header,
