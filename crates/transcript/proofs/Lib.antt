@@ -3,3 +3,4 @@
 pub mod ReadingLaws
 pub mod ByteLaws
 pub mod LengthLaws
+pub mod Listing
