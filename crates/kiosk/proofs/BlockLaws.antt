@@ -12,7 +12,7 @@ use borrow.Author.Tests.{ltb-true, ltb-false, lt-ltb}
 use Rattle.answers.proofs.PutLaws.{drop-later}
 use Rattle.feed.specs.Feeds.{Held, holding, holdByte, holdBytes, before, Passed}
 use Rattle.feed.specs.declared.Piece.{Piece}
-use Rattle.kiosk.specs.Desks.{Desk, byteDesk, bytePuts, bytesDesk, bytesPut, servedDesk, servedPuts, endDesk, endPuts, blockDesk, blockPuts, Gives}
+use Rattle.kiosk.specs.Desks.{Desk, byteDesk, bytePuts, bytesDesk, bytesPut, servedDesk, servedPuts, endDesk, endPuts, blockDesk, blockPuts, Gives, Fills}
 
 -- the desk with another line held
 abbrev pub withHeld : Desk → Held → Desk
@@ -155,21 +155,21 @@ feeding-done {n} {block} {d₀} {out₀} {d} {out} {at} {from} f e =
 
 -- a block of some bytes
 pub feeding-some : {n : ℕ} {block : List ℕ} {d₀ : Desk} {out₀ : List ℕ} {d : Desk} {out : List ℕ} {at from : ℕ} → Feeding n block d₀ out₀ d out at from → from ≡ n → 0 < n
-    → n ≤ length block → Gives (blockDesk d₀ (take n block)) (blockPuts d₀ (take n block)) out₀ 0 d out at
+    → n ≤ length block → Fills d₀ (take n block) out₀ d out at
 unfolding blockDesk blockPuts
 feeding-some {n} {block} {d₀} {out₀} {d} {out} {at} {from} f e some room = go (take n block) refl (feeding-done f e)
   where
     go : (bytes : List ℕ) → take n block ≡ bytes → Gives (bytesDesk d₀ (take n block)) (bytesPut d₀ (take n block)) out₀ 0 d out at
-        → Gives (blockDesk d₀ (take n block)) (blockPuts d₀ (take n block)) out₀ 0 d out at
+        → Fills d₀ (take n block) out₀ d out at
     go [] q g = absurd (omega (arith, ap length q, length-take-le n block room))
     go (b ∷ bs) q g =
         let h : Gives (bytesDesk d₀ (b ∷ bs)) (bytesPut d₀ (b ∷ bs)) out₀ 0 d out at = subst (λ (l : List ℕ). Gives (bytesDesk d₀ l) (bytesPut d₀ l) out₀ 0 d out at) q g in
-        subst (λ (l : List ℕ). Gives (blockDesk d₀ l) (blockPuts d₀ l) out₀ 0 d out at) (sym q) h
+        subst (λ (l : List ℕ). Fills d₀ l out₀ d out at) (sym q) (record { desk-is = h .desk-is; put = h .put })
 
 -- a block of no bytes
 pub feeding-none : {n : ℕ} {block : List ℕ} {d₀ : Desk} {out₀ : List ℕ} {d : Desk} {out : List ℕ} {at from : ℕ} {d′ : Desk} {out′ : List ℕ} {next : ℕ}
     → Feeding n block d₀ out₀ d out at from → from ≡ n → n ≡ 0 → Gives (endDesk d) (endPuts d) out 0 d′ out′ next
-    → Gives (blockDesk d₀ (take n block)) (blockPuts d₀ (take n block)) out₀ 0 d′ out′ next
+    → Fills d₀ (take n block) out₀ d′ out′ next
 unfolding blockDesk blockPuts bytesDesk bytesPut
 feeding-none {n} {block} {d₀} {out₀} {d} {out} {at} {from} {d′} {out′} {next} f e zero g =
     let done = feeding-done f e in
@@ -177,5 +177,7 @@ feeding-none {n} {block} {d₀} {out₀} {d} {out} {at} {from} {d′} {out′} {
     let same : d ≡ d₀ = done .desk-is ∙ ap (bytesDesk d₀) no in
     let nothing : at ≡ 0 = omega (arith, done .put .past, ap (λ (l : List ℕ). length (bytesPut d₀ l)) no) in
     let was : out ≡ out₀ = subst (λ (m : ℕ). drop m out ≡ drop m out₀) nothing (f .rest) in
-    subst (λ (l : List ℕ). Gives (blockDesk d₀ l) (blockPuts d₀ l) out₀ 0 d′ out′ next) (sym no)
-    (subst (λ (o : List ℕ). Gives (endDesk d₀) (endPuts d₀) o 0 d′ out′ next) was (subst (λ (x : Desk). Gives (endDesk x) (endPuts x) out 0 d′ out′ next) same g))
+    let end : Gives (endDesk d₀) (endPuts d₀) out₀ 0 d′ out′ next =
+    subst (λ (o : List ℕ). Gives (endDesk d₀) (endPuts d₀) o 0 d′ out′ next) was (subst (λ (x : Desk). Gives (endDesk x) (endPuts x) out 0 d′ out′ next) same g) in
+    subst (λ (l : List ℕ). Fills d₀ l out₀ d′ out′ next) (sym no)
+    (record { desk-is = end .desk-is; put = end .put })

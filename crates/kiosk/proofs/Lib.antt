@@ -5,5 +5,6 @@ pub mod ShowLaws
 pub mod TurnShows
 pub mod LineShows
 pub mod DeskLaws
+pub mod ReachLaws
 pub mod Printed
 pub mod OneOutcome

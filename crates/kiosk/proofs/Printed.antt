@@ -11,13 +11,13 @@ use Rattle.session.specs.declared.Part.{Part}
 use Rattle.session.specs.declared.Part.the-variants.{First, Rows, Events, Over}
 use Rattle.session.specs.declared.Session.{Session}
 use Rattle.session.specs.Lefts.{isOver}
-use Rattle.kiosk.specs.Desks.{Desk, bytesDesk, bytesPut, endPuts, blockDesk, blockPuts, Gives}
+use Rattle.kiosk.specs.Desks.{Desk, bytesDesk, bytesPut, endPuts, blockDesk, blockPuts, Fills}
 use Rattle.kiosk.specs.Runs.{openedDesk, joined, Runs, ends, goes, stops}
 use Rattle.kiosk.proofs.ShowLaws.{standAs}
 use Rattle.kiosk.proofs.DeskLaws.{Stands, opened-stands, bytes-stand, end-prints}
 
 -- the bytes that a call put out
-put-out : {left d : Desk} {bytes out out′ : List ℕ} {n : ℕ} → Gives left bytes out 0 d out′ n → take n out′ ≡ bytes
+put-out : {d d′ : Desk} {block out out′ : List ℕ} {n : ℕ} → Fills d block out d′ out′ n → take n out′ ≡ blockPuts d block
 put-out g = g .put .shown
 
 -- a run that has ended stands at its end

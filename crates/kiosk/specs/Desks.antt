@@ -89,3 +89,8 @@ blockPuts d (b ∷ bs) = bytesPut d (b ∷ bs)
 pub record Gives (left : Desk) (bytes : List ℕ) (out : List ℕ) (at : ℕ) (d : Desk) (out′ : List ℕ) (next : ℕ) : Type 0 where
   pub desk-is : d ≡ left
   pub put : Put out at bytes out′ next
+
+-- a block left this desk, and put its bytes out from the front of the slice on
+pub record Fills (d : Desk) (block out : List ℕ) (d′ : Desk) (out′ : List ℕ) (n : ℕ) : Type 0 where
+  pub desk-is : d′ ≡ blockDesk d block
+  pub put : Put out 0 (blockPuts d block) out′ n

@@ -3,7 +3,7 @@ use session::Session;
 ghost use Prim.Native.Nat.{_+_, max, _≤_, _<_};
 ghost use Rattle.session.specs.Sessions.{Sound};
 ghost use lib.ListN.{length, take};
-ghost use Rattle.kiosk.specs.Desks.{deskOf, servedDesk, servedPuts, endDesk, endPuts, blockDesk, blockPuts, Gives};
+ghost use Rattle.kiosk.specs.Desks.{deskOf, servedDesk, servedPuts, endDesk, endPuts, Gives, Fills};
 ghost use Rattle.kiosk.specs.Blocks.{Serves, Takes};
 
 // A session, how many bytes of a line are held, and how many bytes are put out.
@@ -92,7 +92,7 @@ pub fn lines_of(
     requires { ⌜ Sound s × (s .ordinal + n < 18446744073709551615) ⌝ }
     requires { ⌜ (held ≤ 101) × (n ≤ 1024) ⌝ }
     ensures { λ r. ⌜ Takes s (max n 1) r ⌝ }
-    ensures { λ r. ⌜ Gives (blockDesk (deskOf s held (now (line .entry)) (now (rows .entry)) (now (nodes .entry)) (now (values .entry)) (now (work .entry))) (take n (now (block .entry)))) (blockPuts (deskOf s held (now (line .entry)) (now (rows .entry)) (now (nodes .entry)) (now (values .entry)) (now (work .entry))) (take n (now (block .entry)))) (now (out .entry)) 0 (deskOf (r .session) (r .held) (now (line .exit)) (now (rows .exit)) (now (nodes .exit)) (now (values .exit)) (now (work .exit))) (now (out .exit)) (r .at) ⌝ }
+    ensures { λ r. ⌜ Fills (deskOf s held (now (line .entry)) (now (rows .entry)) (now (nodes .entry)) (now (values .entry)) (now (work .entry))) (take n (now (block .entry))) (now (out .entry)) (deskOf (r .session) (r .held) (now (line .exit)) (now (rows .exit)) (now (nodes .exit)) (now (values .exit)) (now (work .exit))) (now (out .exit)) (r .at) ⌝ }
 {
     let mut fed = Fed {
         session: s,
