@@ -1,10 +1,12 @@
 -- The theorem: whatever bytes come, and however they are cut into blocks, the bytes put out are `output` of the input. It rests on nothing of the
 -- code but the contract of `lines_of`. Assumes nothing.
-use Prim.Native.Nat.{ℕ}
+use Prim.Native.Nat.{ℕ, _<_}
+use native.Mathlib.Omega.{arith}
 use mathlib.Core.Path.{_≡_, refl, sym, subst, _∙_}
 use mathlib.Core.Bool.{Bool, true, false, true≢false}
 use mathlib.Core.List.{List, [], _∷_, _++_, append-assoc}
-use lib.ListN.{take}
+use lib.ListN.{length, take}
+use lib.Seq.{take-length}
 use Rattle.transcript.specs.Output.{Stand, opening, ended, output}
 use Rattle.transcript.proofs.ByteLaws.{Going, bytesLeave, bytesPrint, endPrints, leave-append, print-append, ended-prints, output-by-bytes}
 use Rattle.session.specs.declared.Part.{Part}
@@ -49,3 +51,28 @@ runs-print g p (stops d blocks e) =
 -- the bytes put out for an input, cut into any blocks, are exactly `output` of it
 pub printed : (blocks : List (List ℕ)) (put : List ℕ) → Runs openedDesk blocks put → put ≡ output (joined blocks)
 printed blocks put r = runs-print (record { stand = opening; begun = [] }) opened-stands r ∙ output-by-bytes (joined blocks)
+
+-- a block has an outcome: a slice that just holds its bytes
+fills : (d : Desk) (block : List ℕ) → Fills d block (blockPuts d block) (blockDesk d block) (blockPuts d block) (length (blockPuts d block))
+fills d block = record {
+  desk-is = refl;
+  put = record { past = omega arith; inside = omega arith; shown = take-length (blockPuts d block); rest = refl };
+}
+
+-- each block has some bytes
+abbrev pub AllSome : List (List ℕ) → Type 0
+AllSome [] = Unit {0}
+AllSome (block ∷ blocks) = (0 < length block) × AllSome blocks
+
+pub record HasRun (d : Desk) (blocks : List (List ℕ)) : Type 0 where
+  pub put : List ℕ
+  pub run : Runs d blocks put
+
+-- every input has a run, however it is cut into blocks of some bytes
+pub every-input : (d : Desk) (blocks : List (List ℕ)) → AllSome blocks → HasRun d blocks
+every-input d [] h = record { put = take (length (blockPuts d [])) (blockPuts d []); run = ends d (blockDesk d []) (blockPuts d []) (blockPuts d []) (length (blockPuts d [])) (fills d []) }
+every-input d ([] ∷ blocks) h = absurd (omega (arith, h .0))
+every-input d ((b ∷ bs) ∷ blocks) h =
+    let later = every-input (blockDesk d (b ∷ bs)) blocks (h .1) in
+    let bytes : List ℕ = blockPuts d (b ∷ bs) in
+    record { put = take (length bytes) bytes ++ later .put; run = goes d (blockDesk d (b ∷ bs)) b bs bytes bytes (length bytes) blocks (later .put) (fills d (b ∷ bs)) (later .run) }

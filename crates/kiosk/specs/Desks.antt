@@ -90,6 +90,14 @@ pub record Gives (left : Desk) (bytes : List ℕ) (out : List ℕ) (at : ℕ) (d
   pub desk-is : d ≡ left
   pub put : Put out at bytes out′ next
 
+-- the line that is held was served, if it is whole
+abbrev pub Served : Bool → Desk → List ℕ → ℕ → Desk → List ℕ → ℕ → Type 0
+Served whole d out at d′ out′ next = Gives (servedDesk whole d) (servedPuts whole d) out at d′ out′ next
+
+-- the input was ended
+abbrev pub Ended : Desk → List ℕ → Desk → List ℕ → ℕ → Type 0
+Ended d out d′ out′ n = Gives (endDesk d) (endPuts d) out 0 d′ out′ n
+
 -- a block left this desk, and put its bytes out from the front of the slice on
 pub record Fills (d : Desk) (block out : List ℕ) (d′ : Desk) (out′ : List ℕ) (n : ℕ) : Type 0 where
   pub desk-is : d′ ≡ blockDesk d block

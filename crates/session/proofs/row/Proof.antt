@@ -1,4 +1,5 @@
 -- `session::row` meets its contract, by the part and by how many rows there are. Assumes nothing.
+use native.Mathlib.Omega.{arith}
 use mathlib.Core.Path.{_∙_, ap}
 use Rattle.session.specs.Lefts.{Rowed}
 use Rattle.session.proofs.PartLaws.{row-many, row-more, row-other}
@@ -22,7 +23,7 @@ bad-requires-2 c κs = search needs
 
 returns-2 : tie.Need-returns-2
 returns-2 c =
-    let e = row-many _ _ _ _ (c .before .before .enum-told .given .1) (c .before .if1 .taken) in
+    let e = row-many _ (c .before .before .before .before .args .s) _ _ (c .before .before .enum-told .given .1) (omega (arith, c .before .if1 .taken)) in
     (c .bad2 .ensures ∙ ap (λ (r : Rowed). r .after) e, ap (λ (r : Rowed). r .rows) e)
 
 put-row-requires : tie.Need-put-row-requires
@@ -36,7 +37,7 @@ quiet-requires c κs = search needs
 
 returns-3 : tie.Need-returns-3
 returns-3 c =
-    let e = row-more _ _ _ _ (c .before .before .before .before .before .enum-told .given .1) (c .before .before .before .before .if1 .left) in
+    let e = row-more _ (c .before .before .before .before .before .before .before .args .s) _ _ (c .before .before .before .before .before .enum-told .given .1) (omega (arith, c .before .before .before .before .if1 .left)) in
     (c .quiet .ensures ∙ ap (λ (r : Rowed). r .after) e, c .before .before .put-row .ensures ∙ ap (λ (r : Rowed). r .rows) e)
 
 pub row-spec : {M : Type 1} → statement M
