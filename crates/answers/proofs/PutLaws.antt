@@ -5,21 +5,26 @@ use native.Mathlib.Nat.{add-zero}
 use native.Mathlib.Numerals.{add-one}
 use mathlib.Core.Path.{_≡_, refl, sym, ap, subst, _∙_}
 use mathlib.Core.List.{List, [], _∷_, _++_, append-assoc, append-nil}
-use lib.ListN.{length, take, set, getD, length-append, length-set}
-use lib.Seq.{take-suc, take-suc-set, take-all}
+use lib.ListN.{length, take, drop, set, getD, length-append, length-set, take-append-drop}
+use lib.Seq.{take-suc, take-suc-set, take-all, drop-set-lt, drop-drop}
 use Rattle.lines.specs.Numeral.{numeral}
 use Rattle.lines.specs.Format.{spaced}
 use Rattle.lines.proofs.Numeral.{numeral-grows}
 use Rattle.answers.specs.Answers.{Put, wordLine}
 
--- the bytes before `at` are as they were, and the first i of the text stand behind them
+-- what two lists have in common from a place on they have in common from any later place on
+pub drop-later : (xs ys : List ℕ) (n m : ℕ) → drop n xs ≡ drop n ys → drop (n + m) xs ≡ drop (n + m) ys
+drop-later xs ys n m e = sym (drop-drop m n xs) ∙ ap (drop m) e ∙ drop-drop m n ys
+
+-- the bytes before `at` are as they were, the first i of the text stand behind them, and the bytes after those are as they were
 pub record Putting (before : List ℕ) (at : ℕ) (text after : List ℕ) (i : ℕ) : Type 0 where
   pub few : i ≤ length text
   pub size : length after ≡ length before
   pub shown : take (at + i) after ≡ take at before ++ take i text
+  pub rest : drop (at + i) after ≡ drop (at + i) before
 
 pub putting-none : (before : List ℕ) (at : ℕ) (text : List ℕ) → Putting before at text before 0
-putting-none before at text = record { few = omega arith; size = refl; shown = ap (λ (n : ℕ). take n before) (add-zero at) ∙ sym (append-nil (take at before)) }
+putting-none before at text = record { few = omega arith; size = refl; shown = ap (λ (n : ℕ). take n before) (add-zero at) ∙ sym (append-nil (take at before)); rest = refl }
 
 pub putting-more : {before : List ℕ} {at : ℕ} {text after : List ℕ} {i : ℕ} → at + i < length before → Putting before at text after i
     → i < length text → Putting before at text (set after (at + i) (getD text i 0)) (i + 1)
@@ -32,10 +37,17 @@ putting-more {before} {at} {text} {after} {i} room p h =
           ∙ ap (λ (l : List ℕ). l ++ (getD text i 0 ∷ [])) (p .shown)
           ∙ append-assoc (take at before) (take i text) (getD text i 0 ∷ [])
           ∙ ap (λ (l : List ℕ). take at before ++ l) (sym (take-suc text i 0 h) ∙ ap (λ (n : ℕ). take n text) (sym (add-one i)));
+      rest = drop-set-lt (at + (i + 1)) after (at + i) (getD text i 0) (omega arith) ∙ later;
     }
   where
     next : at + (i + 1) ≡ suc (at + i)
     next = omega arith
+
+    later : drop (at + (i + 1)) after ≡ drop (at + (i + 1)) before
+    later = subst (λ (n : ℕ). drop n after ≡ drop n before) further (drop-later after before (at + i) 1 (p .rest))
+      where
+        further : (at + i) + 1 ≡ at + (i + 1)
+        further = omega arith
 
     inside : at + i < length after
     inside = omega (arith, p .size)
@@ -47,11 +59,12 @@ putting-all {before} {at} {text} {after} {i} room p h =
       past = omega (arith, p .few);
       inside = omega (arith, p .few, p .size);
       shown = p .shown ∙ ap (λ (l : List ℕ). take at before ++ l) (take-all i text h);
+      rest = p .rest;
     }
 
 -- no text
 pub put-none : {before : List ℕ} {at : ℕ} → at ≤ length before → Put before at [] before at
-put-none {before} {at} h = record { past = omega arith; inside = h; shown = sym (append-nil (take at before)) }
+put-none {before} {at} h = record { past = omega arith; inside = h; shown = sym (append-nil (take at before)); rest = refl }
 
 -- one byte
 pub put-byte : {before : List ℕ} {at : ℕ} (b : ℕ) → at < length before → Put before at (b ∷ []) (set before at b) (at + 1)
@@ -60,6 +73,7 @@ put-byte {before} {at} b h =
       past = refl;
       inside = omega (arith, length-set before at b);
       shown = ap (λ (n : ℕ). take n (set before at b)) (add-one at) ∙ take-suc-set before at b h;
+      rest = drop-set-lt (at + 1) before at b (omega arith);
     }
 
 -- one text behind another
@@ -70,6 +84,7 @@ put-both {before} {at} {text} {mid} {n} {more} {after} {next} p q =
       past = omega (arith, p .past, q .past, length-append text more);
       inside = q .inside;
       shown = q .shown ∙ ap (λ (l : List ℕ). l ++ more) (p .shown) ∙ append-assoc (take at before) text more;
+      rest = q .rest ∙ subst (λ (m : ℕ). drop m mid ≡ drop m before) (sym (q .past)) (drop-later mid before n (length more) (p .rest));
     }
 
 -- another name of the text
@@ -89,3 +104,13 @@ word-line word a b =
     ap (λ (l : List ℕ). word ++ (32 ∷ l))
     (ap (λ (l : List ℕ). numeral a ++ (32 ∷ (l ++ (10 ∷ [])))) (sym (append-nil (numeral b)))
     ∙ sym (append-assoc (numeral a) (32 ∷ (numeral b ++ [])) (10 ∷ [])))
+
+-- a text is put in one way: two slices left, and two places, are the same
+pub one-put : {before : List ℕ} {at : ℕ} {text a b : List ℕ} {m n : ℕ} → Put before at text a m → Put before at text b n → (a ≡ b) × (m ≡ n)
+one-put {before} {at} {text} {a} {b} {m} {n} p q = (sym (take-append-drop m a) ∙ halves ∙ take-append-drop n b, place)
+  where
+    place : m ≡ n
+    place = p .past ∙ sym (q .past)
+
+    halves : take m a ++ drop m a ≡ take n b ++ drop n b
+    halves = cc (p .shown, q .shown, p .rest, q .rest, place)

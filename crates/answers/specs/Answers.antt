@@ -3,7 +3,7 @@ use Prim.Native.Nat.{ℕ, _+_, _≤_}
 use mathlib.Core.Path.{_≡_}
 use mathlib.Core.Bool.{Bool, true, false}
 use mathlib.Core.List.{List, [], _∷_, _++_}
-use lib.ListN.{length, take}
+use lib.ListN.{length, take, drop}
 use Rattle.lines.specs.Numeral.{numeral}
 use Rattle.lines.specs.Format.{spaced}
 use Rattle.meaning.specs.declared.Answer.{Answer}
@@ -12,11 +12,13 @@ use Rattle.answers.specs.declared.Said.{Said}
 use Rattle.answers.specs.declared.Said.the-variants.{Nothing, Bad, NoStart, Event}
 use Rattle.answers.specs.declared.Told.{Told}
 
--- the text was put from place `at` on: the bytes before it are as they were, it stands behind them, and `next` is the place past it
+-- the text was put from place `at` on: the bytes before it are as they were, it stands behind them, `next` is the place past it, and the bytes from
+-- there on are as they were
 pub record Put (before : List ℕ) (at : ℕ) (text after : List ℕ) (next : ℕ) : Type 0 where
   pub past : next ≡ at + length text
   pub inside : next ≤ length after
   pub shown : take next after ≡ take at before ++ text
+  pub rest : drop next after ≡ drop next before
 
 -- `event verdict kept room` and a line end
 abbrev pub header : List ℕ

@@ -2,11 +2,11 @@
 // No right line is longer than 100 bytes, so a longer one is known to be bad by its first 101 bytes, and the rest is not held.
 use lines::Line;
 ghost use mathlib.Core.Path.{_≡_};
-ghost use Prim.Native.Nat.{ℕ, _+_, _≤_, _<_};
-ghost use mathlib.Core.List.{_++_};
-ghost use lib.ListN.{length, take, getD};
+ghost use Prim.Native.Nat.{_+_, _≤_, _<_};
+ghost use lib.ListN.{length, take};
+ghost use lib.Seq.{slice};
 ghost use Rattle.lines.specs.Format.{Reads};
-ghost use Rattle.feed.specs.Feeds.{Passed};
+ghost use Rattle.feed.specs.Feeds.{holding, holdBytes, before, Passed};
 
 // The bytes up to a line end or to the end of the block: how many are held now, where the next line begins, and whether the line is whole.
 pub struct Piece {
@@ -18,9 +18,8 @@ pub struct Piece {
 // The place of the first line end from `from` on, or n where there is none before n.
 fn line_end(block: &[u8], from: usize, n: usize) -> usize
     requires { ⌜ (from ≤ n) × (n ≤ length (now block)) ⌝ }
-    ensures { λ r. ⌜ (from ≤ r) × (r ≤ n) ⌝ }
-    ensures { λ r. ⌜ (r < n → getD (now (block .entry)) r 0 ≡ 10) ⌝ }
-    ensures { λ r. ⌜ ((i : ℕ) → from ≤ i → i < r → getD (now (block .entry)) i 0 ≡ 10 → ⊥) ⌝ }
+    ensures { λ r. ⌜ r ≡ from + before (slice from n (now (block .entry))) ⌝ }
+    ensures { λ r. ⌜ r ≤ n ⌝ }
 {
     let mut i = from;
     while i < n {
@@ -36,7 +35,7 @@ fn line_end(block: &[u8], from: usize, n: usize) -> usize
 fn hold(held: usize, bytes: &[u8], line: &mut [u8]) -> usize
     requires { ⌜ held ≤ length (now line) ⌝ }
     ensures { λ r. ⌜ r ≤ length (now (line .entry)) ⌝ }
-    ensures { λ r. ⌜ take r (now (line .exit)) ≡ take (length (now (line .entry))) (take held (now (line .entry)) ++ now (bytes .entry)) ⌝ }
+    ensures { λ r. ⌜ holding r (now (line .exit)) ≡ holdBytes (holding held (now (line .entry))) (now (bytes .entry)) ⌝ }
 {
     let mut n = held;
     let mut i = 0;
@@ -54,7 +53,7 @@ fn hold(held: usize, bytes: &[u8], line: &mut [u8]) -> usize
 // Holds the bytes from `from` up to the next line end.
 pub fn next(held: usize, block: &[u8], from: usize, n: usize, line: &mut [u8; 101]) -> Piece
     requires { ⌜ (held ≤ 101) × (from < n) × (n ≤ length (now block)) ⌝ }
-    ensures { λ r. ⌜ Passed from n r ⌝ }
+    ensures { λ r. ⌜ Passed from n (now (block .entry)) held (now (line .entry)) r (now (line .exit)) ⌝ }
 {
     let end = line_end(block, from, n);
     let now_held = hold(held, &block[from..end], line);

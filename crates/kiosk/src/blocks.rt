@@ -2,6 +2,8 @@
 use session::Session;
 ghost use Prim.Native.Nat.{_+_, max, _≤_, _<_};
 ghost use Rattle.session.specs.Sessions.{Sound};
+ghost use lib.ListN.{length, take};
+ghost use Rattle.kiosk.specs.Desks.{deskOf, Served, Ended, Fills};
 ghost use Rattle.kiosk.specs.Blocks.{Serves, Takes};
 
 // A session, how many bytes of a line are held, and how many bytes are put out.
@@ -25,8 +27,9 @@ fn serve(
     at: usize,
 ) -> Fed
     requires { ⌜ Sound s × (s .ordinal < 18446744073709551615) ⌝ }
-    requires { ⌜ (held ≤ 101) × (at + 75 ≤ 76800) ⌝ }
+    requires { ⌜ (held ≤ 101) × (at + 75 ≤ 76800) × (at ≤ length (now out)) ⌝ }
     ensures { λ r. ⌜ Serves s at r ⌝ }
+    ensures { λ r. ⌜ Served whole (deskOf s held (now (line .entry)) (now (rows .entry)) (now (nodes .entry)) (now (values .entry)) (now (work .entry))) (now (out .entry)) at (deskOf (r .session) (r .held) (now (line .entry)) (now (rows .exit)) (now (nodes .exit)) (now (values .exit)) (now (work .exit))) (now (out .exit)) (r .at) ⌝ }
 {
     if !whole {
         return Fed {
@@ -60,6 +63,7 @@ fn rest(
     requires { ⌜ Sound s × (s .ordinal < 18446744073709551615) ⌝ }
     requires { ⌜ held ≤ 101 ⌝ }
     ensures { λ r. ⌜ Takes s 1 r ⌝ }
+    ensures { λ r. ⌜ Ended (deskOf s held (now (line .entry)) (now (rows .entry)) (now (nodes .entry)) (now (values .entry)) (now (work .entry))) (now (out .entry)) (deskOf (r .session) (r .held) (now (line .entry)) (now (rows .exit)) (now (nodes .exit)) (now (values .exit)) (now (work .exit))) (now (out .exit)) (r .at) ⌝ }
 {
     let fed = serve(s, held, 0 < held, line, rows, nodes, values, work, out, 0);
     let after = session::ready(fed.session, rows, nodes, values);
@@ -88,6 +92,7 @@ pub fn lines_of(
     requires { ⌜ Sound s × (s .ordinal + n < 18446744073709551615) ⌝ }
     requires { ⌜ (held ≤ 101) × (n ≤ 1024) ⌝ }
     ensures { λ r. ⌜ Takes s (max n 1) r ⌝ }
+    ensures { λ r. ⌜ Fills (deskOf s held (now (line .entry)) (now (rows .entry)) (now (nodes .entry)) (now (values .entry)) (now (work .entry))) (take n (now (block .entry))) (now (out .entry)) (deskOf (r .session) (r .held) (now (line .exit)) (now (rows .exit)) (now (nodes .exit)) (now (values .exit)) (now (work .exit))) (now (out .exit)) (r .at) ⌝ }
 {
     let mut fed = Fed {
         session: s,

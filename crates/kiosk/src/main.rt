@@ -7,7 +7,9 @@ use libc::STDERR_FILENO;
 use libc::STDIN_FILENO;
 use libc::STDOUT_FILENO;
 ghost use Prim.Native.Nat.{_≤_, _<_};
+ghost use lib.ListN.{take};
 ghost use Rattle.kiosk.specs.Reading.{Few, Left};
+ghost use Rattle.kiosk.specs.Runs.{Answers};
 
 // What was read: so many bytes, of which 0 is the end of the input, or nothing that counts.
 enum Got {
@@ -31,9 +33,9 @@ fn fill(block: &mut [u8; 1024], left: u64) -> Got
     Got::Bytes(n)
 }
 
-// Writes the first `n` bytes of the answers, and says so where it cannot.
+// Writes the first `n` bytes of the answers, which are what a block puts out, and says so where it cannot.
 fn write_out(out: &[u8; 76800], n: usize) -> bool
-    requires { ⌜ n ≤ 76800 ⌝ }
+    requires { ⌜ (n ≤ 76800) × Answers (take n (now out)) ⌝ }
 {
     let all: &[u8] = out;
     if io::write_all(STDOUT_FILENO, &all[0..n]) {

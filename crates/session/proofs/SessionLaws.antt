@@ -1,16 +1,12 @@
 -- Laws of what a session keeps. Assumes nothing.
 use Prim.Native.Nat.{ℕ, zero, suc, _+_, _≤_, _<_}
 use native.Mathlib.Omega.{arith}
-use mathlib.Core.Path.{_≡_, refl, sym, ap, _∙_}
-use mathlib.Core.List.{List, [], _∷_, _++_}
-use lib.ListN.{length, getD, take}
+use mathlib.Core.Path.{_≡_, refl, sym, ap, subst, _∙_}
+use mathlib.Core.List.{List, [], _∷_, _++_, append-assoc}
+use lib.ListN.{length, getD, take, drop, take-append-drop}
 use lib.Seq.{take-all}
 use borrow.Author.Tests.{lt-ltb}
-use Rattle.meaning.specs.declared.State.{State}
-use Rattle.meaning.specs.declared.Event.{Event}
-use Rattle.meaning.specs.Outcome.{eventOutcome}
 use Rattle.answers.proofs.PutLaws.{Putting}
-use Rattle.monitor.specs.Calls.{machine}
 use Rattle.session.specs.Sessions.{listedOf}
 
 -- a k past 10 asks for no values
@@ -36,17 +32,20 @@ listed-entry (suc (suc (suc (suc (suc (suc (suc (suc (suc zero))))))))) h = (ref
 listed-entry (suc (suc (suc (suc (suc (suc (suc (suc (suc (suc zero)))))))))) h = (refl, omega arith)
 listed-entry (suc (suc (suc (suc (suc (suc (suc (suc (suc (suc (suc k))))))))))) h = absurd (omega arith)
 
--- the answer to an event on parts of the tables goes by their lengths alone
-pub parts-same : (st : State) (e : Event) (rows nodes values work : List ℕ) (n n′ c c′ v v′ w w′ : ℕ) → n ≡ n′ → c ≡ c′ → v ≡ v′ → w ≡ w′
-    → eventOutcome (take n rows) (machine st (take c nodes) (take v values) (take w work)) e .answer
-    ≡ eventOutcome (take n′ rows) (machine st (take c′ nodes) (take v′ values) (take w′ work)) e .answer
-parts-same st e rows nodes values work n n′ c c′ v v′ w w′ p q r s = rw (p, q, r, s) refl
-
 -- nine numbers are there
-pub row-put : {before : List ℕ} {at : ℕ} {nine after : List ℕ} {i : ℕ} → at + 9 ≤ length before → length nine ≡ 9 → Putting before at nine after i
-    → 9 ≤ i → take (at + 9) after ≡ take at before ++ nine
-row-put {before} {at} {nine} {after} {i} room e p h =
+pub row-put : {before : List ℕ} {at : ℕ} {nine after : List ℕ} {i : ℕ} → length nine ≡ 9 → Putting before at nine after i → 9 ≤ i
+    → after ≡ take at before ++ (nine ++ drop (at + 9) before)
+row-put {before} {at} {nine} {after} {i} e p h =
     let s : i ≡ 9 = omega (arith, p .few, e) in
-    ap (λ (n : ℕ). take (at + n) after) (sym s)
-    ∙ p .shown
-    ∙ ap (λ (l : List ℕ). take at before ++ l) (take-all i nine (omega (arith, e, s)))
+    sym (take-append-drop (at + 9) after)
+    ∙ (λ j. shown s j ++ rest s j)
+    ∙ append-assoc (take at before) nine (drop (at + 9) before)
+  where
+    shown : i ≡ 9 → take (at + 9) after ≡ take at before ++ nine
+    shown s =
+        ap (λ (n : ℕ). take (at + n) after) (sym s)
+        ∙ p .shown
+        ∙ ap (λ (l : List ℕ). take at before ++ l) (take-all i nine (omega (arith, e, s)))
+
+    rest : i ≡ 9 → drop (at + 9) after ≡ drop (at + 9) before
+    rest s = subst (λ (n : ℕ). drop (at + n) after ≡ drop (at + n) before) s (p .rest)

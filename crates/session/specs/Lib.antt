@@ -1,2 +1,3 @@
--- What the contracts cite: what a line of the input leaves.
+-- What the contracts cite: what a session keeps, and what each call leaves.
 pub mod Sessions
+pub mod Lefts

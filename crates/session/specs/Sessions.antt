@@ -5,25 +5,15 @@ use mathlib.Core.Bool.{cond}
 use mathlib.Core.List.{List}
 use lib.Dec.{ltb}
 use lib.ListN.{length, take}
-use Rattle.lines.specs.declared.Line.{Line}
-use Rattle.lines.specs.declared.Line.the-variants.{Sizes, Row, Event, Bad}
 use Rattle.meaning.specs.Outcome.{Machine}
 use Rattle.monitor.specs.Calls.{machine}
 use Rattle.session.specs.declared.Session.{Session}
-use Rattle.session.specs.declared.After.{After}
 use Rattle.session.specs.declared.Lent.{Lent}
 
 -- the sizes and the rule fit the tables: C is at most 512, and the rule has at most 65 rows
 pub record Sound (s : Session) : Type 0 where
   pub nodes-few : s .c ≤ 512
   pub rows-few : s .rows ≤ 585
-
--- a line that reads has a C of at most 512
-abbrev pub Small : Line → Type 0
-Small (Sizes k c) = c ≤ 512
-Small (Row a b c d e f g h i) = Unit {0}
-Small (Event p n a b c d) = Unit {0}
-Small Bad = Unit {0}
 
 -- the tables have room for the largest sizes
 pub record Tables (rows nodes values work : List ℕ) : Type 0 where
@@ -46,16 +36,6 @@ pub record Sized (s : Session) (p : Lent) : Type 0 where
   pub nodes-few : p .nodes ≤ 1536
   pub values-few : p .values ≤ 4092
   pub work-few : p .work ≤ 9216
-
--- a line that is no event leaves a sound session
-pub record Stays (s : Session) (r : After) : Type 0 where
-  pub sound : Sound (r .session)
-  pub same : r .session .ordinal ≡ s .ordinal
-
--- a line leaves a sound session, and counts one event at most
-pub record Leaves (s : Session) (r : After) : Type 0 where
-  pub sound : Sound (r .session)
-  pub counted : r .session .ordinal ≤ s .ordinal + 1
 
 -- the parts of the tables that the sizes ask for, with the state
 unfoldable pub machineOf : Session → List ℕ → List ℕ → List ℕ → Machine

@@ -1,5 +1,5 @@
 // What each line of the input does: the parts come in order, and what does not read in its part ends the run.
-// What a line leaves, and what is put out for it, is in specs/Sessions.antt.
+// What a line leaves, and what is put out for it, is in specs/Lefts.antt.
 use answers::Said;
 use answers::Told;
 use lines::Line;
@@ -10,9 +10,10 @@ use meaning::Value;
 ghost use mathlib.Core.Path.{_≡_};
 ghost use Prim.Native.Nat.{_+_, _≤_, _<_};
 ghost use mathlib.Core.List.{_++_};
-ghost use lib.ListN.{length, take};
-ghost use Rattle.meaning.specs.Outcome.{eventOutcome};
-ghost use Rattle.session.specs.Sessions.{Sound, Small, Sized, Tables, Stays, Leaves, listedOf, machineOf};
+ghost use lib.ListN.{length, take, drop};
+ghost use Rattle.transcript.specs.Output.{eventOf};
+ghost use Rattle.session.specs.Sessions.{Sound, Sized, Tables, listedOf};
+ghost use Rattle.session.specs.Lefts.{openedSession, isOver, turnedTo, quietOf, badAs, sizesAs, rowAs, started, beginLeft, readyAs, happened, eventLeft, lineLeft, Begins, Judges, Does};
 
 // Which line may come next.
 pub enum Part {
@@ -83,7 +84,7 @@ fn lend(s: Session) -> Lent
 
 // The session before the first line.
 pub fn opened() -> Session
-    ensures { λ r. ⌜ Sound r × (r .ordinal ≡ 0) ⌝ }
+    ensures { λ r. ⌜ r ≡ openedSession ⌝ }
 {
     Session {
         part: Part::First,
@@ -102,7 +103,9 @@ pub fn opened() -> Session
 }
 
 // Whether the run has ended.
-pub fn over(s: Session) -> bool {
+pub fn over(s: Session) -> bool
+    ensures { λ r. ⌜ r ≡ isOver (s .part) ⌝ }
+{
     let part = s.part;
     if let Part::Over = part {
         return true;
@@ -112,8 +115,7 @@ pub fn over(s: Session) -> bool {
 
 // The session with another part.
 fn turned(s: Session, part: Part) -> Session
-    requires { ⌜ Sound s ⌝ }
-    ensures { λ r. ⌜ Sound r × (r .ordinal ≡ s .ordinal) ⌝ }
+    ensures { λ r. ⌜ r ≡ turnedTo s part ⌝ }
 {
     let state = s.state;
     Session {
@@ -128,8 +130,7 @@ fn turned(s: Session, part: Part) -> Session
 
 // Nothing is put out.
 fn quiet(s: Session) -> After
-    requires { ⌜ Sound s ⌝ }
-    ensures { λ r. ⌜ Stays s r ⌝ }
+    ensures { λ r. ⌜ r ≡ quietOf s ⌝ }
 {
     After {
         session: s,
@@ -142,8 +143,7 @@ fn quiet(s: Session) -> After
 
 // A line that does not read ends the run. Nothing is said of the lines after it.
 fn bad(s: Session) -> After
-    requires { ⌜ Sound s ⌝ }
-    ensures { λ r. ⌜ Stays s r ⌝ }
+    ensures { λ r. ⌜ r ≡ badAs (s .part) s ⌝ }
 {
     let part = s.part;
     if let Part::Over = part {
@@ -160,8 +160,7 @@ fn bad(s: Session) -> After
 
 // The first line.
 fn sizes(s: Session, k: u32, c: u32) -> After
-    requires { ⌜ Sound s × (c ≤ 512) ⌝ }
-    ensures { λ r. ⌜ Stays s r ⌝ }
+    ensures { λ r. ⌜ r ≡ sizesAs (s .part) s k c ⌝ }
 {
     let part = s.part;
     let Part::First = part else {
@@ -181,7 +180,7 @@ fn sizes(s: Session, k: u32, c: u32) -> After
 // The nine numbers of a row, from `at` on.
 fn put_row(rows: &mut [u32], at: usize, nine: [u32; 9])
     requires { ⌜ at + 9 ≤ length (now rows) ⌝ }
-    ensures { λ _. ⌜ take (at + 9) (now (rows .exit)) ≡ take at (now (rows .entry)) ++ nine ⌝ }
+    ensures { λ _. ⌜ now (rows .exit) ≡ take at (now (rows .entry)) ++ (nine ++ drop (at + 9) (now (rows .entry))) ⌝ }
 {
     let mut i = 0;
     while i < 9 {
@@ -192,8 +191,7 @@ fn put_row(rows: &mut [u32], at: usize, nine: [u32; 9])
 
 // One row more. A rule has up to 65 lines: 64 rows are the most that start takes.
 fn row(s: Session, nine: [u32; 9], rows: &mut [u32; 585]) -> After
-    requires { ⌜ Sound s ⌝ }
-    ensures { λ r. ⌜ Stays s r ⌝ }
+    ensures { λ r. ⌜ (r ≡ rowAs (s .part) s nine (now (rows .entry)) .after) × (now (rows .exit) ≡ rowAs (s .part) s nine (now (rows .entry)) .rows) ⌝ }
 {
     let part = s.part;
     let Part::Rows = part else {
@@ -219,7 +217,7 @@ fn row(s: Session, nine: [u32; 9], rows: &mut [u32; 585]) -> After
 fn begin(s: Session, rows: &[u32], nodes: &mut [u32], values: &mut [u32]) -> After
     requires { ⌜ Sound s ⌝ }
     requires { ⌜ (length (now rows) ≡ 585) × (length (now nodes) ≡ 1536) × (length (now values) ≡ 4092) ⌝ }
-    ensures { λ r. ⌜ Stays s r ⌝ }
+    ensures { λ r. ⌜ Begins (beginLeft s (started s (now (rows .entry)) (now (nodes .entry)) (now (values .entry))) (now (nodes .entry)) (now (values .entry))) r (now (nodes .exit)) (now (values .exit)) ⌝ }
 {
     let lent = lend(s);
     let n = lent.rows;
@@ -261,7 +259,7 @@ pub fn ready(
     values: &mut [u32; 4092],
 ) -> After
     requires { ⌜ Sound s ⌝ }
-    ensures { λ r. ⌜ Stays s r ⌝ }
+    ensures { λ r. ⌜ Begins (readyAs (s .part) s (now (rows .entry)) (now (nodes .entry)) (now (values .entry))) r (now (nodes .exit)) (now (values .exit)) ⌝ }
 {
     let part = s.part;
     match part {
@@ -284,8 +282,7 @@ fn happen(
 ) -> After
     requires { ⌜ Sound s × (s .ordinal < 18446744073709551615) ⌝ }
     requires { ⌜ Tables (now rows) (now nodes) (now values) (now work) ⌝ }
-    ensures { λ r. ⌜ Sound (r .session) × (r .session .ordinal ≡ s .ordinal + 1) ⌝ }
-    ensures { λ r. ⌜ r .told .said ≡ Said.Event (s .ordinal + 1) (eventOutcome (take (s .rows) (now (rows .entry))) (machineOf s (now (nodes .entry)) (now (values .entry)) (now (work .entry))) event .answer) ⌝ }
+    ensures { λ r. ⌜ Judges (happened s header event (now (rows .entry)) (now (nodes .entry)) (now (values .entry)) (now (work .entry))) r (now (nodes .exit)) (now (values .exit)) (now (work .exit)) ⌝ }
 {
     let lent = lend(s);
     let n = lent.rows;
@@ -303,7 +300,7 @@ fn happen(
     );
     let ordinal = s.ordinal + 1;
     let answer = turn.answer;
-    let state = turn.state;
+    let after = turn.state;
     After {
         session: Session {
             part: Part::Events,
@@ -311,7 +308,7 @@ fn happen(
             c: s.c,
             rows: n,
             ordinal,
-            state,
+            state: after,
         },
         told: Told {
             header,
@@ -321,7 +318,9 @@ fn happen(
 }
 
 // The event of a line. The fourth value only makes the count 4, which is refused.
-fn event_of(predicate: u32, count: u32, a: u32, b: u32, c: u32) -> Event {
+fn event_of(predicate: u32, count: u32, a: u32, b: u32, c: u32) -> Event
+    ensures { λ r. ⌜ r ≡ eventOf predicate count a b c ⌝ }
+{
     Event {
         predicate,
         count,
@@ -339,7 +338,7 @@ fn event(
     work: &mut [u32; 9216],
 ) -> After
     requires { ⌜ Sound s × (s .ordinal < 18446744073709551615) ⌝ }
-    ensures { λ r. ⌜ Leaves s r ⌝ }
+    ensures { λ r. ⌜ Judges (eventLeft s event (now (rows .entry)) (now (nodes .entry)) (now (values .entry)) (now (work .entry))) r (now (nodes .exit)) (now (values .exit)) (now (work .exit)) ⌝ }
 {
     let begun = ready(s, rows, nodes, values);
     let started = begun.session;
@@ -361,8 +360,7 @@ pub fn line(
     work: &mut [u32; 9216],
 ) -> After
     requires { ⌜ Sound s × (s .ordinal < 18446744073709551615) ⌝ }
-    requires { ⌜ Small found ⌝ }
-    ensures { λ r. ⌜ Leaves s r ⌝ }
+    ensures { λ r. ⌜ Does (lineLeft s found (now (rows .entry)) (now (nodes .entry)) (now (values .entry)) (now (work .entry))) r (now (rows .exit)) (now (nodes .exit)) (now (values .exit)) (now (work .exit)) ⌝ }
 {
     match found {
         Line::Sizes(k, c) => sizes(s, k, c),

@@ -1,41 +1,31 @@
--- `feed::line_end` meets its contract: no byte passed is a line end. The measure is what is left of the block. Assumes nothing.
+-- `feed::line_end` meets its contract: the line end that is looked for is the first from any place passed. The measure is what is left of the
+-- block. Assumes nothing.
 use native.Mathlib.Omega.{arith}
-use mathlib.Core.Path.{_≡_, refl, subst}
-use mathlib.Core.Bool.{Bool, true, false}
-use mathlib.Core.List.{List}
-use lib.Dec.{ltb}
-use borrow.Author.Tests.{ltb-true, ltb-false}
-use Prim.Native.Nat.{ℕ, _≤_, _<_, _-_}
-use lib.ListN.{getD}
+use mathlib.Core.Path.{_≡_}
+use Prim.Native.Nat.{_+_, _-_, _≤_}
+use lib.Seq.{slice}
+use Rattle.feed.specs.Feeds.{before}
+use Rattle.feed.proofs.EndLaws.{end-here, end-later, end-none}
 use Rattle.feed.proofs.line_end.Statement.{statement}
 use Rattle.feed.proofs.line_end.Tie as tie
 
--- what holds of no place before i, nor of i, holds of none up to i
-below : (block : List ℕ) (from i : ℕ) → ((j : ℕ) → from ≤ j → j < i → getD block j 0 ≡ 10 → ⊥) → (getD block i 0 ≡ 10 → ⊥)
-    → (j : ℕ) → from ≤ j → j ≤ i → getD block j 0 ≡ 10 → ⊥
-below block from i before here j p q e = go (ltb j i) refl
-  where
-    go : (b : Bool) → ltb j i ≡ b → ⊥
-    go true f = before j p (ltb-true j i f) e
-    go false f =
-        let h : i ≤ j = ltb-false j i f in
-        let s : j ≡ i = omega arith in
-        here (subst (λ (m : ℕ). getD block m 0 ≡ 10) s e)
-
 abbrev Inv-loop : tie.InvT-loop
-Inv-loop block from n i₀ i = (from ≤ i) × (i ≤ n) × ((j : ℕ) → from ≤ j → j < i → getD block j 0 ≡ 10 → ⊥)
+Inv-loop block from n i₀ i = (i + before (slice i n block) ≡ from + before (slice from n block)) × (i ≤ n)
 
 abbrev μ-loop : tie.MeasureT-loop
 μ-loop block from n i₀ i = n - i
 
 loop-holds : tie.Need-loop-holds Inv-loop μ-loop
-loop-holds c = (omega arith, omega arith, λ j a b e. omega arith)
+loop-holds c = (omega arith, omega arith)
 
 shared-slice-read-if1 : tie.Need-shared-slice-read-if1 Inv-loop μ-loop
 shared-slice-read-if1 c = omega arith
 
 returns : tie.Need-returns Inv-loop μ-loop
-returns c = ((omega arith, omega arith), ((λ h. c .if1 .taken), c .before .before .before .loop .inv .2))
+returns c =
+    let s = c .before .before .before in
+    let none = end-here (s .before .args .block .now) (s .loop .i) (s .before .args .n) (omega arith) (omega arith) (c .if1 .taken) in
+    (omega (arith, s .loop .inv .0, none), omega arith)
 
 add-i : tie.Need-add-i Inv-loop μ-loop
 add-i c = omega arith
@@ -44,10 +34,16 @@ loop-less : tie.Need-loop-less Inv-loop μ-loop
 loop-less c = omega arith
 
 loop-again : tie.Need-loop-again Inv-loop μ-loop
-loop-again c = (omega arith, omega arith, λ j p q e. below (c .before .before .before .before .args .block .now) (c .before .before .before .before .args .from) (c .before .before .before .loop .i) (c .before .before .before .loop .inv .2) (c .if1 .left) j p (omega arith) e)
+loop-again c =
+    let s = c .before .before .before in
+    let later = end-later (s .before .args .block .now) (s .loop .i) (s .before .args .n) (omega arith) (omega arith) (c .if1 .left) in
+    (omega (arith, s .loop .inv .0, later), omega arith)
 
 returns-2 : tie.Need-returns-2 Inv-loop μ-loop
-returns-2 c = ((omega arith, omega arith), ((λ h. absurd (omega arith)), c .before .loop .inv .2))
+returns-2 c =
+    let s = c .before in
+    let all = end-none (s .before .args .block .now) (s .loop .i) (s .before .args .n) (omega arith) in
+    (omega (arith, s .loop .inv .0, all), omega arith)
 
 pub line-end-spec : {M : Type 1} → statement M
 line-end-spec =

@@ -4,12 +4,16 @@ use native.Mathlib.Omega.{arith}
 use borrow.Author.Needs.{needs}
 use Prim.Native.Nat.{_+_, _≤_}
 use Rattle.session.specs.Sessions.{Sound}
+use Rattle.kiosk.specs.Desks.{deskOf}
+use Rattle.kiosk.specs.Runs.{Reached}
+use Rattle.kiosk.proofs.ReachLaws.{reached-first, reached-more, reached-answers}
+use Rattle.kiosk.proofs.ServeLaws.{opened-sound}
 use Rattle.kiosk.proofs.main.Statement.{statement}
 use Rattle.kiosk.proofs.main.Tie as tie
 
 abbrev Inv-loop : tie.InvT-loop
 Inv-loop block₀ line₀ rows₀ nodes₀ values₀ work₀ out₀ s₀ held₀ left₀ block line rows nodes values work out s held left =
-    Sound s × (held ≤ 101) × (s .ordinal + left ≤ 18446744073709551614)
+    Sound s × (held ≤ 101) × (s .ordinal + left ≤ 18446744073709551614) × Reached (deskOf s held line rows nodes values work)
 
 abbrev μ-loop : tie.MeasureT-loop
 μ-loop block₀ line₀ rows₀ nodes₀ values₀ work₀ out₀ s₀ held₀ left₀ block line rows nodes values work out s held left = left
@@ -21,7 +25,9 @@ sub-left : tie.Need-sub-left Inv-loop μ-loop
 sub-left c = omega arith
 
 loop-holds : tie.Need-loop-holds Inv-loop μ-loop
-loop-holds c = (c .opened .ensures .0, omega arith, omega (arith, c .opened .ensures .1))
+loop-holds c =
+    let opened = opened-sound (c .opened .ensures) in
+    (opened .0, omega arith, omega (arith, opened .1), reached-first (c .opened .ensures))
 
 fill-requires : tie.Need-fill-requires Inv-loop μ-loop
 fill-requires c κs = tt
@@ -44,7 +50,7 @@ over-requires : tie.Need-over-requires Inv-loop μ-loop
 over-requires c κs = tt
 
 write-out-requires : tie.Need-write-out-requires Inv-loop μ-loop
-write-out-requires c κs = omega (arith, c .before .before .before .lines-of .ensures .near)
+write-out-requires c κs = (omega (arith, c .before .before .before .lines-of .ensures .0 .near), reached-answers (c .before .before .before .before .before .before .before .before .before .before .before .before .before .before .before .before .before .loop .inv .3) (c .before .before .before .lines-of .ensures .1))
 
 left-after-requires : tie.Need-left-after-requires Inv-loop μ-loop
 left-after-requires c κs =
@@ -55,7 +61,7 @@ loop-less : tie.Need-loop-less Inv-loop μ-loop
 loop-less c = c .left-after .ensures .less
 
 loop-again : tie.Need-loop-again Inv-loop μ-loop
-loop-again c = (c .before .before .before .before .before .lines-of .ensures .sound, c .before .before .before .before .before .lines-of .ensures .few, omega (arith, c .before .before .before .before .before .lines-of .ensures .counted, c .left-after .ensures .counted, c .before .before .before .before .before .before .before .before .before .before .before .before .before .before .before .before .before .before .before .loop .inv .2))
+loop-again c = (c .before .before .before .before .before .lines-of .ensures .0 .sound, c .before .before .before .before .before .lines-of .ensures .0 .few, omega (arith, c .before .before .before .before .before .lines-of .ensures .0 .counted, c .left-after .ensures .counted, c .before .before .before .before .before .before .before .before .before .before .before .before .before .before .before .before .before .before .before .loop .inv .2), reached-more (c .before .before .before .before .before .before .before .before .before .before .before .before .before .before .before .before .before .before .before .loop .inv .3) (c .before .before .before .before .before .lines-of .ensures .1))
 
 returns-2 : tie.Need-returns-2 Inv-loop μ-loop
 returns-2 c = tt

@@ -1,8 +1,9 @@
--- `session::begin` meets its contract: the session that is left has the sizes that it had. Assumes nothing.
+-- `session::begin` meets its contract, by the answer of the start. Assumes nothing.
 use native.Mathlib.Omega.{arith}
 use borrow.Author.Needs.{needs}
 use Prim.Native.Nat.{zero-le}
 use mathlib.Core.Path.{refl}
+use Rattle.session.proofs.TurnLaws.{begin-refused, begin-started}
 use Rattle.session.proofs.begin.Statement.{statement}
 use Rattle.session.proofs.begin.Tie as tie
 
@@ -43,7 +44,7 @@ enum-known-answer : tie.Need-enum-known-answer
 enum-known-answer c = search needs
 
 turned-requires : tie.Need-turned-requires
-turned-requires c κs = c .before .before .before .before .before .before .before .before .before .before .before .before .before .before .before .pre .0
+turned-requires c κs = tt
 
 same-length : tie.Need-same-length
 same-length c = search needs
@@ -52,7 +53,11 @@ same-length-2 : tie.Need-same-length-2
 same-length-2 c = search needs
 
 returns : tie.Need-returns
-returns c = record { sound = c .turned .ensures .0; same = c .turned .ensures .1 }
+returns c =
+    let s = c .before .before .before .before .before .before .before .before .before .before .before .before .before .before .before .before in
+    let lend = c .before .before .before .before .before .before .before .before .before .before .before .before .lend in
+    let start = c .before .before .before .before .before .before .before .before .start in
+    begin-refused (s .args .s) (lend .result) (lend .ensures) (s .args .rows .now) (s .args .nodes .now) (s .args .values .now) (start .result) (start .last .1 .1 .0) (start .last .1 .1 .1 .0) (start .ensures) (c .before .before .answer .given .1) (c .turned .ensures)
 
 same-length-3 : tie.Need-same-length-3
 same-length-3 c = search needs
@@ -61,7 +66,11 @@ same-length-4 : tie.Need-same-length-4
 same-length-4 c = search needs
 
 returns-2 : tie.Need-returns-2
-returns-2 c = record { sound = record { nodes-few = c .before .before .before .before .before .before .before .before .before .before .before .before .before .before .pre .0 .nodes-few; rows-few = c .before .before .before .before .before .before .before .before .before .before .lend .ensures .rows-few }; same = refl }
+returns-2 c =
+    let s = c .before .before .before .before .before .before .before .before .before .before .before .before .before .before in
+    let lend = c .before .before .before .before .before .before .before .before .before .before .lend in
+    let start = c .before .before .before .before .before .before .start in
+    begin-started (s .args .s) (lend .result) (lend .ensures) (s .args .rows .now) (s .args .nodes .now) (s .args .values .now) (start .result) (start .last .1 .1 .0) (start .last .1 .1 .1 .0) (start .ensures) _ (c .before .match .keys2) refl
 
 pub begin-spec : {M : Type 1} → statement M
 begin-spec =

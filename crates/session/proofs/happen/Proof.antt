@@ -1,12 +1,8 @@
--- `session::happen` meets its contract: the answer is that of the event's outcome. Assumes nothing.
+-- `session::happen` meets its contract: answer, state and tables are those of the event's outcome. Assumes nothing.
 use native.Mathlib.Omega.{arith}
 use borrow.Author.Needs.{needs}
-use Prim.Native.Nat.{_+_, _-_, _*_, zero-le}
-use native.Mathlib.Nat.{sub-zero}
-use mathlib.Core.Path.{refl, ap, _∙_}
-use Rattle.session.proofs.SessionLaws.{parts-same}
-use Rattle.answers.specs.declared.Said.the-variants.{Event}
-use Rattle.session.specs.Sessions.{machineOf, listedOf}
+use Prim.Native.Nat.{zero-le}
+use Rattle.session.proofs.TurnLaws.{happen-left}
 use Rattle.session.proofs.happen.Statement.{statement}
 use Rattle.session.proofs.happen.Tie as tie
 
@@ -65,14 +61,11 @@ same-length-3 : tie.Need-same-length-3
 same-length-3 c = search needs
 
 returns : tie.Need-returns
-unfolding machineOf
 returns c =
-    let s = c .before .before .before .before .before .before .before .before .before .before .before .before .before .before .before .before .before .before .before .args in
-    let sized = c .before .before .before .before .before .before .before .before .before .before .before .before .before .before .lend .ensures in (
-      (record { nodes-few = c .before .before .before .before .before .before .before .before .before .before .before .before .before .before .before .before .before .before .before .pre .0 .0 .nodes-few; rows-few = sized .rows-few }, refl),
-      ap (Event (s .s .ordinal + 1)) (c .before .before .before .before .before .before .before .before .event .ensures .answer
-          ∙ parts-same (s .s .state) (s .event) (s .rows .now) (s .nodes .now) (s .values .now) (s .work .now) (c .before .before .before .before .before .before .before .before .before .before .before .before .before .before .lend .result .rows - 0) (s .s .rows) (c .before .before .before .before .before .before .before .before .before .before .before .before .before .before .lend .result .nodes - 0) (3 * s .s .c) (c .before .before .before .before .before .before .before .before .before .before .before .before .before .before .lend .result .values - 0) (listedOf (s .s .k)) (c .before .before .before .before .before .before .before .before .before .before .before .before .before .before .lend .result .work - 0) (16 * s .s .c + 1024) (sub-zero _ ∙ sized .rows-are) (sub-zero _ ∙ sized .nodes-are) (sub-zero _ ∙ sized .values-are) (sub-zero _ ∙ sized .work-is)),
-    )
+    let s = c .before .before .before .before .before .before .before .before .before .before .before .before .before .before .before .before .before .before .before in
+    let lend = c .before .before .before .before .before .before .before .before .before .before .before .before .before .before .lend in
+    let event = c .before .before .before .before .before .before .before .before .event in
+    happen-left (s .args .s) (lend .result) (lend .ensures) (s .args .header) (s .args .event) (s .args .rows .now) (s .args .nodes .now) (s .args .values .now) (s .args .work .now) (event .result) (event .last .1 .1 .0) (event .last .1 .1 .1 .0) (event .last .1 .1 .1 .1 .0) (event .ensures)
 
 pub happen-spec : {M : Type 1} → statement M
 happen-spec =

@@ -46,7 +46,7 @@ same-length : tie.Need-same-length Inv-loop μ-loop
 same-length c = c .before .loop .inv .1 .size
 
 returns : tie.Need-returns Inv-loop μ-loop
-returns c = row-put (omega (arith, c .before .loop .inv .0)) (c .before .loop .inv .0) (c .before .loop .inv .1) (omega arith)
+returns c = row-put (c .before .loop .inv .0) (c .before .loop .inv .1) (omega arith)
 
 pub put-row-spec : {M : Type 1} → statement M
 put-row-spec =
