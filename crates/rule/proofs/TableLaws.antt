@@ -1,13 +1,11 @@
 -- Laws of the table of uses: the constant of the code is the table of the meaning. Assumes nothing.
-use Prim.Native.Nat.{ℕ, zero, suc, _+_, _-_, _≤_, _<_}
+use Prim.Native.Nat.{ℕ, zero, suc, _-_, _≤_, _<_}
 use mathlib.Core.Path.{_≡_, refl, ap, sym, _∙_}
-use mathlib.Core.Bool.{Bool, true, false}
 use mathlib.Core.List.{List, [], _∷_, map}
 use native.Mathlib.Omega.{arith}
-use lib.Dec.{eqb, ltb}
 use lib.ListN.{getD, take}
 use lib.Seq.{getD-take}
-use borrow.Author.Tests.{le-ltb, ne-eqb}
+use borrow.Author.Tests.{ne-eqb}
 use Rattle.meaning.specs.Rows.{Use, unused, asCount, uses, useOf}
 use Rattle.rule.specs.Table.{table, codeOf, useCoded, usedPairs}
 
@@ -40,44 +38,20 @@ coded-count (suc (suc zero)) h = absurd (omega arith)
 coded-count (suc (suc (suc zero))) h = absurd (omega arith)
 coded-count (suc (suc (suc (suc n)))) h = refl
 
--- a kind whose pair j has the code 0 uses none
-pub pair-unused : (kind j q : ℕ) → 0 < kind → kind ≤ 7 → j < 3 → codeOf kind (2 + j) ≡ 0 → false ≡ ltb j (usedPairs kind q)
+-- a kind whose pairs have the code 0 uses none
+pub pairs-unused : (kind q : ℕ) → codeOf kind 2 ≡ 0 → 0 ≡ usedPairs kind q
 unfolding usedPairs codeOf table
-pair-unused kind j q some few h e = rw (ne-eqb kind 2 (λ z. atom j h (rw z at e))) (sym (le-ltb j 0 (omega arith)))
-  where
-    atom : (j : ℕ) → j < 3 → codeOf 2 (2 + j) ≡ 0 → ⊥
-    atom zero h e = absurd (omega arith)
-    atom (suc zero) h e = absurd (omega arith)
-    atom (suc (suc zero)) h e = absurd (omega arith)
-    atom (suc (suc (suc j))) h e = absurd (omega arith)
+pairs-unused kind q e = rw (ne-eqb kind 2 (λ z. let f = rw z at e in absurd (omega arith)))
 
--- and where it has another code the kind is the atom's
-pub pair-used : (kind j q : ℕ) → 0 < kind → kind ≤ 7 → j < 3 → (codeOf kind (2 + j) ≡ 0 → ⊥) → ltb j q ≡ ltb j (usedPairs kind q)
+-- and one where they have another code is the atom's
+pub pairs-used : (kind q : ℕ) → 0 < kind → kind ≤ 7 → (codeOf kind 2 ≡ 0 → ⊥) → q ≡ usedPairs kind q
 unfolding usedPairs codeOf table
-pair-used zero j q some few h e = absurd (omega arith)
-pair-used (suc zero) zero q some few h e = absurd (e refl)
-pair-used (suc zero) (suc zero) q some few h e = absurd (e refl)
-pair-used (suc zero) (suc (suc zero)) q some few h e = absurd (e refl)
-pair-used (suc zero) (suc (suc (suc j))) q some few h e = absurd (omega arith)
-pair-used (suc (suc zero)) j q some few h e = refl
-pair-used (suc (suc (suc zero))) zero q some few h e = absurd (e refl)
-pair-used (suc (suc (suc zero))) (suc zero) q some few h e = absurd (e refl)
-pair-used (suc (suc (suc zero))) (suc (suc zero)) q some few h e = absurd (e refl)
-pair-used (suc (suc (suc zero))) (suc (suc (suc j))) q some few h e = absurd (omega arith)
-pair-used (suc (suc (suc (suc zero)))) zero q some few h e = absurd (e refl)
-pair-used (suc (suc (suc (suc zero)))) (suc zero) q some few h e = absurd (e refl)
-pair-used (suc (suc (suc (suc zero)))) (suc (suc zero)) q some few h e = absurd (e refl)
-pair-used (suc (suc (suc (suc zero)))) (suc (suc (suc j))) q some few h e = absurd (omega arith)
-pair-used (suc (suc (suc (suc (suc zero))))) zero q some few h e = absurd (e refl)
-pair-used (suc (suc (suc (suc (suc zero))))) (suc zero) q some few h e = absurd (e refl)
-pair-used (suc (suc (suc (suc (suc zero))))) (suc (suc zero)) q some few h e = absurd (e refl)
-pair-used (suc (suc (suc (suc (suc zero))))) (suc (suc (suc j))) q some few h e = absurd (omega arith)
-pair-used (suc (suc (suc (suc (suc (suc zero)))))) zero q some few h e = absurd (e refl)
-pair-used (suc (suc (suc (suc (suc (suc zero)))))) (suc zero) q some few h e = absurd (e refl)
-pair-used (suc (suc (suc (suc (suc (suc zero)))))) (suc (suc zero)) q some few h e = absurd (e refl)
-pair-used (suc (suc (suc (suc (suc (suc zero)))))) (suc (suc (suc j))) q some few h e = absurd (omega arith)
-pair-used (suc (suc (suc (suc (suc (suc (suc zero))))))) zero q some few h e = absurd (e refl)
-pair-used (suc (suc (suc (suc (suc (suc (suc zero))))))) (suc zero) q some few h e = absurd (e refl)
-pair-used (suc (suc (suc (suc (suc (suc (suc zero))))))) (suc (suc zero)) q some few h e = absurd (e refl)
-pair-used (suc (suc (suc (suc (suc (suc (suc zero))))))) (suc (suc (suc j))) q some few h e = absurd (omega arith)
-pair-used (suc (suc (suc (suc (suc (suc (suc (suc kind)))))))) j q some few h e = absurd (omega arith)
+pairs-used zero q some few e = absurd (omega arith)
+pairs-used (suc zero) q some few e = absurd (e refl)
+pairs-used (suc (suc zero)) q some few e = refl
+pairs-used (suc (suc (suc zero))) q some few e = absurd (e refl)
+pairs-used (suc (suc (suc (suc zero)))) q some few e = absurd (e refl)
+pairs-used (suc (suc (suc (suc (suc zero))))) q some few e = absurd (e refl)
+pairs-used (suc (suc (suc (suc (suc (suc zero)))))) q some few e = absurd (e refl)
+pairs-used (suc (suc (suc (suc (suc (suc (suc zero))))))) q some few e = absurd (e refl)
+pairs-used (suc (suc (suc (suc (suc (suc (suc (suc kind)))))))) q some few e = absurd (omega arith)

@@ -9,13 +9,13 @@ use Rattle.meaning.specs.Rows.{Use, unused, asPredicate, asRow, asVariable, asC
 -- the constant `USES`: p, q and the three pairs of the kinds 1 to 7
 unfoldable pub table : List (List ℕ)
 table =
-    (0 ∷ 0 ∷ 0 ∷ 0 ∷ 0 ∷ [])
-    ∷ (1 ∷ 4 ∷ 5 ∷ 5 ∷ 5 ∷ [])
-    ∷ (2 ∷ 2 ∷ 0 ∷ 0 ∷ 0 ∷ [])
-    ∷ (2 ∷ 0 ∷ 0 ∷ 0 ∷ 0 ∷ [])
-    ∷ (2 ∷ 2 ∷ 0 ∷ 0 ∷ 0 ∷ [])
-    ∷ (2 ∷ 0 ∷ 0 ∷ 0 ∷ 0 ∷ [])
-    ∷ (3 ∷ 2 ∷ 0 ∷ 0 ∷ 0 ∷ [])
+    (0 ∷ 0 ∷ 0 ∷ [])
+    ∷ (1 ∷ 4 ∷ 5 ∷ [])
+    ∷ (2 ∷ 2 ∷ 0 ∷ [])
+    ∷ (2 ∷ 0 ∷ 0 ∷ [])
+    ∷ (2 ∷ 2 ∷ 0 ∷ [])
+    ∷ (2 ∷ 0 ∷ 0 ∷ [])
+    ∷ (3 ∷ 2 ∷ 0 ∷ [])
     ∷ []
 
 -- its entry for a kind and a field

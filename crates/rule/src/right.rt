@@ -3,27 +3,26 @@ use super::field_of;
 ghost use mathlib.Core.Path.{_≡_};
 ghost use mathlib.Core.Bool.{true};
 ghost use Prim.Native.Nat.{ℕ, _+_, _*_, _<_, _≤_};
-ghost use lib.Dec.{ltb};
 ghost use lib.ListN.{length};
 ghost use Rattle.meaning.specs.Rows.{field, fieldRight, pairRight, rowRight};
 ghost use Rattle.rule.specs.Table.{codeOf, useCoded, usedPairs};
 ghost use Rattle.rule.specs.Checking.{pairsRight, agreesBefore, atomOf, otherCount};
 
 // Which fields a kind uses: p, q and the three pairs of the kinds 1 to 7. 0 is not used, 1 a predicate, 2 a row, 3 a variable, 4 a
-// count, 5 an argument, where the count reaches so far.
-pub const USES: [[u8; 5]; 7] = [
-    [0, 0, 0, 0, 0],
-    [1, 4, 5, 5, 5],
-    [2, 2, 0, 0, 0],
-    [2, 0, 0, 0, 0],
-    [2, 2, 0, 0, 0],
-    [2, 0, 0, 0, 0],
-    [3, 2, 0, 0, 0],
+// count, 5 arguments, as many as the count says.
+pub const USES: [[u8; 3]; 7] = [
+    [0, 0, 0],
+    [1, 4, 5],
+    [2, 2, 0],
+    [2, 0, 0],
+    [2, 2, 0],
+    [2, 0, 0],
+    [3, 2, 0],
 ];
 
-// How the kind uses the field: 0 is p, 1 is q, 2 to 4 are the pairs.
+// How the kind uses the field: 0 is p, 1 is q, 2 stands for the pairs.
 fn use_of(kind: u32, f: usize) -> u8
-    requires { ⌜ (0 < kind) × (kind ≤ 7) × (f < 5) ⌝ }
+    requires { ⌜ (0 < kind) × (kind ≤ 7) × (f < 3) ⌝ }
     ensures { λ r. ⌜ r ≡ codeOf kind f ⌝ }
 {
     let k = (kind - 1) as usize;
@@ -59,32 +58,29 @@ fn pair_right(used: bool, mark: u32, x: u32) -> bool
     mark == 1
 }
 
-// A row of this kind uses its pair j, where its field q is `q`.
-fn pair_used(kind: u32, j: usize, q: u32) -> bool
-    requires { ⌜ (0 < kind) × (kind ≤ 7) × (j < 3) ⌝ }
-    ensures { λ r. ⌜ r ≡ ltb j (usedPairs kind q) ⌝ }
+// How many pairs a row of this kind uses, where its field q is `q`.
+fn pairs_used(kind: u32, q: u32) -> u32
+    requires { ⌜ (0 < kind) × (kind ≤ 7) ⌝ }
+    ensures { λ r. ⌜ r ≡ usedPairs kind q ⌝ }
 {
-    if use_of(kind, 2 + j) == 0 {
-        return false;
+    if use_of(kind, 2) == 0 {
+        return 0;
     }
-    j < q as usize
+    q
 }
 
-// The three pairs of the row at place `i`, which is of this kind and whose field q is `q`.
-fn pairs_right(rows: &[u32], i: usize, kind: u32, q: u32) -> bool
-    requires { ⌜ (9 * i + 9 ≤ length (now rows)) × (0 < kind) × (kind ≤ 7) ⌝ }
-    ensures { λ r. ⌜ r ≡ pairsRight (now (rows .entry)) i (usedPairs kind q) ⌝ }
+// The three pairs of the row at place `i`, of which the first `used` are used.
+fn pairs_right(rows: &[u32], i: usize, used: u32) -> bool
+    requires { ⌜ 9 * i + 9 ≤ length (now rows) ⌝ }
+    ensures { λ r. ⌜ r ≡ pairsRight (now (rows .entry)) i used ⌝ }
 {
-    let a = pair_used(kind, 0, q);
-    if !pair_right(a, field_of(rows, i, 3), field_of(rows, i, 4)) {
+    if !pair_right(0 < used, field_of(rows, i, 3), field_of(rows, i, 4)) {
         return false;
     }
-    let b = pair_used(kind, 1, q);
-    if !pair_right(b, field_of(rows, i, 5), field_of(rows, i, 6)) {
+    if !pair_right(1 < used, field_of(rows, i, 5), field_of(rows, i, 6)) {
         return false;
     }
-    let c = pair_used(kind, 2, q);
-    pair_right(c, field_of(rows, i, 7), field_of(rows, i, 8))
+    pair_right(2 < used, field_of(rows, i, 7), field_of(rows, i, 8))
 }
 
 // The row at place `i` keeps the row rules.
@@ -106,7 +102,7 @@ pub fn row_right(rows: &[u32], i: usize) -> bool
     if !field_right(i, use_of(kind, 1), q) {
         return false;
     }
-    pairs_right(rows, i, kind, q)
+    pairs_right(rows, i, pairs_used(kind, q))
 }
 
 // The row at place `i` is an atom of this predicate.

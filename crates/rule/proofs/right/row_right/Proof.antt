@@ -48,15 +48,18 @@ returns-4 c =
     (field-read _ _ _ 1 (omega arith) (c .before .before .use-of2 .ensures) (c .before .field-right2 .ensures))
     ∙ rw (not-false (c .before .before .before .before .field-right .result) (c .before .before .before .if3 .left), not-true (c .before .field-right2 .result) (c .if4 .taken)))
 
+pairs-used-requires : tie.Need-pairs-used-requires
+pairs-used-requires c κs = search needs
+
 pairs-right-requires : tie.Need-pairs-right-requires
 pairs-right-requires c κs = search needs
 
 returns-5 : tie.Need-returns-5
 returns-5 c =
-    sym (row-parts _ _ (c .before .before .before .before .before .before .before .before .before .before .before .field-of .ensures) (c .before .before .before .before .before .before .field-of3 .ensures) (c .before .before .before .before .before .before .before .before .field-of2 .ensures) (omega arith) (omega arith)
-    (field-read _ _ _ 0 (omega arith) (c .before .before .before .before .before .before .before .use-of .ensures) (c .before .before .before .before .before .field-right .ensures))
-    (field-read _ _ _ 1 (omega arith) (c .before .before .before .use-of2 .ensures) (c .before .before .field-right2 .ensures))
-    ∙ rw (not-false (c .before .before .before .before .before .field-right .result) (c .before .before .before .before .if3 .left), not-false (c .before .before .field-right2 .result) (c .before .if4 .left), c .pairs-right .ensures))
+    sym (row-parts _ _ (c .before .before .before .before .before .before .before .before .before .before .before .before .field-of .ensures) (c .before .before .before .before .before .before .before .field-of3 .ensures) (c .before .before .before .before .before .before .before .before .before .field-of2 .ensures) (omega arith) (omega arith)
+    (field-read _ _ _ 0 (omega arith) (c .before .before .before .before .before .before .before .before .use-of .ensures) (c .before .before .before .before .before .before .field-right .ensures))
+    (field-read _ _ _ 1 (omega arith) (c .before .before .before .before .use-of2 .ensures) (c .before .before .before .field-right2 .ensures))
+    ∙ rw (not-false (c .before .before .before .before .before .before .field-right .result) (c .before .before .before .before .before .if3 .left), not-false (c .before .before .before .field-right2 .result) (c .before .before .if4 .left), ← c .before .pairs-used .ensures, c .pairs-right .ensures))
 
 pub row-right-spec : {M : Type 1} → statement M
 row-right-spec =
@@ -73,5 +76,6 @@ row-right-spec =
     use-of-requires-2
     field-right-requires-2
     returns-4
+    pairs-used-requires
     pairs-right-requires
     returns-5)
