@@ -68,7 +68,7 @@ module _ (k : ℕ) (rows nodes values : List ℕ) where
 
 -- and so does an event
 module _ (rows : List ℕ) (m : Machine) (e : Event) where
-  verdict-taken : (y : Bool) (n r : ℕ) → eventOutcome rows m e .answer ≡ Verdict y n r → decideEvent rows m e ≡ taken
+  pub verdict-taken : (y : Bool) (n r : ℕ) → eventOutcome rows m e .answer ≡ Verdict y n r → decideEvent rows m e ≡ taken
   unfolding eventOutcome settleEvent
   verdict-taken y n r q = go (decideEvent rows m e) q
     where

@@ -1,6 +1,6 @@
 -- The demands, in the mission's words, of the code: each is a theorem about what `start` and `event` promise, by `Starts` and `Happens`
 -- alone. Assumes nothing.
-use Prim.Native.Nat.{ℕ, suc, _+_, _-_, _≤_, _<_}
+use Prim.Native.Nat.{ℕ, suc, _+_, _-_, _*_, _≤_, _<_}
 use mathlib.Core.Path.{_≡_, sym, _∙_}
 use mathlib.Core.Bool.{Bool, true, cond}
 use mathlib.Core.List.{List, [], _∷_, _++_}
@@ -21,9 +21,10 @@ use Rattle.meaning.specs.Refusals.{StartSentence, Sentence, First}
 use Rattle.meaning.specs.Verdicts.{Stepped, Answered}
 use Rattle.meaning.specs.Disguise.{Disguise, Disguised, DisguisedLog, Alike}
 use Rattle.monitor.specs.Calls.{IsVerdict, IsRefusal, Starts, machine, Happens}
-use Rattle.monitor.specs.Runs.{Fresh, Call, Calls, takenIn}
+use Rattle.monitor.specs.Runs.{Fresh, Call, Calls, takenIn, AllTaken}
 use Rattle.monitor.proofs.AnsweredLaws.{starts-refuses, starts-keeps, starts-takes, starts-leaves, starts-answers, happens-refuses, happens-keeps, happens-takes, happens-answers, happens-steps, happens-alike, happens-larger}
-use Rattle.monitor.proofs.FreshRuns.{run-sets, run-numbers, run-verdict, both-answer, both-alike, hidden-verdict}
+use Rattle.monitor.proofs.LargerRuns.{runs-alike}
+use Rattle.monitor.proofs.FreshRuns.{run-sets, run-numbers, run-verdict, same-verdict, both-answer, both-alike, hidden-verdict}
 
 -- Demand 1, of `start`, for any numbers whatever handed to it, and what it then answers and leaves.
 module _ (k : ℕ) (rows nodes values : List ℕ) (t : Turn) (ns vs : List ℕ) (s : Starts k rows nodes values t ns vs) where
@@ -99,6 +100,18 @@ module _ (k : ℕ) (rows nodes values : List ℕ) (m₀ : Machine) (fresh : Fres
   -- the rule holds of the events taken so far, this one among them; n is the count of kept nodes, and r the room of document 01.
   pub verdicts : (e : Event) (y : Bool) (n r : ℕ) (m′ : Machine) → Call rows m e (Verdict y n r) m′ → Answered rows m e y n r m′ (takenIn es xs)
   verdicts e y n r m′ c = run-verdict k rows nodes values m₀ fresh es xs m calls e y n r m′ c
+
+-- "Take the same rule and events from a fresh start, same k, and a larger C: up to the first refusal of the smaller, both answer alike."
+pub larger-runs : (k : ℕ) (rows nodes values nodes′ values′ : List ℕ) (m₀ n₀ : Machine) → Fresh k rows nodes values m₀ → Fresh k rows nodes′ values′ n₀
+    → (d : ℕ) → length nodes′ ≡ length nodes + 3 * d → workSize (capacity nodes′) ≤ length (n₀ .work)
+    → (es : List Event) (xs ys : List Answer) (m n : Machine) → Calls rows m₀ es xs m → Calls rows n₀ es ys n → AllTaken xs → ys ≡ xs
+larger-runs k rows nodes values nodes′ values′ m₀ n₀ a b d more long = runs-alike k rows nodes values nodes′ values′ m₀ n₀ a b d more long
+
+-- "With a larger k, wherever both have taken the same events their verdicts agree."
+pub other-k : (k k′ : ℕ) (rows nodes values nodes′ values′ : List ℕ) (m₀ n₀ : Machine) → Fresh k rows nodes values m₀ → Fresh k′ rows nodes′ values′ n₀
+    → (es fs : List Event) (xs ys : List Answer) (m n : Machine) → Calls rows m₀ es xs m → Calls rows n₀ fs ys n → takenIn fs ys ≡ takenIn es xs
+    → (e f : Event) → factOf f ≡ factOf e → (y z : Bool) (i r j s : ℕ) (m′ n′ : Machine) → Call rows m e (Verdict y i r) m′ → Call rows n f (Verdict z j s) n′ → z ≡ y
+other-k = same-verdict
 
 -- Demand 3. "Disguised logs: rename values one to one, each constant of the rule to itself and nothing else to a constant. From a fresh start,
 -- with the same rule and table sizes ..", whatever the values past an event's count:

@@ -7,6 +7,7 @@ use mathlib.Core.Logic.{_↔_}
 use lib.ListN.{length, getD}
 use Rattle.trees.specs.Bits.{Bits}
 use Rattle.trees.specs.Tree.{off, eval}
+use Rattle.trees.proofs.Tests.{iff-eq}
 use Rattle.meaning.specs.declared.Event.{Event}
 use Rattle.meaning.specs.declared.Answer.{Answer}
 use Rattle.meaning.specs.declared.Answer.the-variants.{Started, Verdict}
@@ -43,6 +44,15 @@ module _ (k : ℕ) (rows nodes values : List ℕ) (m₀ : Machine) (fresh : Fres
   run-verdict e y n r m′ c =
       subst (λ (x : Machine). Answered rows m e y n r x (takenIn es xs)) (sym (call-left rows m m′ e (Verdict y n r) c))
       ((rw (after-is, facts-are) at (Demands.verdicts k rows nodes values (m₀ .work) started es e y n r)) (sym (c .answer)))
+
+-- two runs of one rule, with any k and any tables, that took the same facts
+pub same-verdict : (k k′ : ℕ) (rows nodes values nodes′ values′ : List ℕ) (m₀ n₀ : Machine) → Fresh k rows nodes values m₀ → Fresh k′ rows nodes′ values′ n₀
+    → (es fs : List Event) (xs ys : List Answer) (m n : Machine) → Calls rows m₀ es xs m → Calls rows n₀ fs ys n → takenIn fs ys ≡ takenIn es xs
+    → (e f : Event) → factOf f ≡ factOf e → (y z : Bool) (i r j s : ℕ) (m′ n′ : Machine) → Call rows m e (Verdict y i r) m′ → Call rows n f (Verdict z j s) n′ → z ≡ y
+same-verdict k k′ rows nodes values nodes′ values′ m₀ n₀ a b es fs xs ys m n c d t e f u y z i r j s m′ n′ p q =
+    let v = run-verdict k rows nodes values m₀ a es xs m c e y i r m′ p .verdict (λ x. 0) in
+    let w = rw (t, u) at (run-verdict k′ rows nodes′ values′ n₀ b fs ys n d f z j s n′ q .verdict (λ x. 0)) in
+    iff-eq z y (λ h. v .1 (w .0 h)) (λ h. w .1 (v .0 h))
 
 -- a log and its disguise
 module _ (k : ℕ) (rows nodes values nodes′ values′ : List ℕ) (m₀ n₀ : Machine) (plain : Fresh k rows nodes values m₀) (hidden : Fresh k rows nodes′ values′ n₀)

@@ -12,4 +12,5 @@ pub mod WorkedLaws
 pub mod RunLaws
 pub mod AnsweredLaws
 pub mod FreshRuns
+pub mod LargerRuns
 pub mod Demands
