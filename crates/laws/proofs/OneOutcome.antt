@@ -1,5 +1,5 @@
--- Two outcomes that keep the promise of a function of crates/nodes, making or walks are the same: what it answers, and what it leaves in
--- the node slice. What it leaves in the work slice is not promised. Assumes nothing.
+-- Two outcomes that keep the promise of a function of crates/nodes, making, walks or diagram are the same: what it answers, and what it
+-- leaves in the node slice. What it leaves in the work slice is not promised. Assumes nothing.
 use Prim.Native.Nat.{ℕ, suc, _+_, _*_, _/_, _≤_, _<_}
 use mathlib.Core.Path.{_≡_, refl, ap, ap₂, sym, _∙_}
 use mathlib.Core.Bool.{Bool, true, false}
@@ -8,6 +8,7 @@ use mathlib.Core.Logic.{⊎-elim}
 use native.Mathlib.Omega.{arith}
 use lib.ListN.{length, getD, take}
 use lib.Seq.{ext-getD, getD-take}
+use Rattle.trees.specs.Bits.{Function}
 use Rattle.trees.specs.Tree.{Tree, notT}
 use Rattle.trees.specs.Table.{addTree, at, treesOf, show, Ref}
 use Rattle.trees.proofs.Tests.{lt-or-ge}
@@ -19,6 +20,9 @@ use Rattle.making.specs.Tables.{Added}
 use Rattle.walks.specs.declared.Counted.{Counted}
 use Rattle.walks.specs.declared.Counted.the-variants as counted
 use Rattle.walks.specs.Complements.{Complemented}
+use Rattle.diagram.specs.declared.Instruction.{Instruction}
+use Rattle.diagram.specs.declared.Instruction.the-variants as instruction
+use Rattle.diagram.specs.Works.{Reached, Short, Tolled, RowDone}
 
 -- `nodes::chain::holds`
 pub one-held : (ns : List ℕ) (j l a b : ℕ) (x y : Bool) → Holds ns j l a b x → Holds ns j l a b y → x ≡ y
@@ -91,4 +95,52 @@ one-complemented ns xs ys n levels left p w v u c slots (counted.At a r i) (coun
     let n : a ≡ b = z .0 in
     let m : r ≡ s = z .1 in
     let k : i ≡ j = sym (f .2 .visits) ∙ g .2 .visits in
+    (cc, z .2)
+
+-- `row`: a diagram that was reached
+one-reached : {levels : ℕ} {ns xs ys : List ℕ} {n a b r s : ℕ} {gs : List Function} {f : Function} → Table xs a → Table ys b → Reached levels ns xs n a r gs f → Reached levels ns ys n b s gs f
+    → (a ≡ b) × (r ≡ s) × (xs ≡ ys)
+one-reached {ns = ns} {xs = xs} {ys = ys} {a = a} {b = b} {r = r} {s = s} t u g h =
+    let e : treesOf xs a ≡ treesOf ys b = g .trees ∙ sym (h .trees) in
+    let z = same-slice ns xs ys a b t u e (g .size) (h .size) (g .rest) (h .rest) in
+    let q : s < a + 2 = let q = h .ref .below in omega (arith, z .0) in
+    (z .0, t .one r s (g .ref .below) q (g .ref .is ∙ sym (ap (λ (ts : List Tree). at ts s) e ∙ h .ref .is)), z .1)
+
+-- there was room for what the row meets, or there was none
+never-reached : {levels : ℕ} {ns xs ys : List ℕ} {n b s : ℕ} {gs : List Function} {f : Function} → Table ys b → Short levels ns xs n gs → Reached levels ns ys n b s gs f → ⊥
+never-reached {ys = ys} {b = b} u g h =
+    let o = g .over in
+    let l = sym (ap length (h .trees)) ∙ length-trees ys b in
+    let f = u .fits in
+    let z = h .size in
+    omega arith
+
+-- and its visits
+one-toll : (levels : ℕ) (ns xs ys : List ℕ) (n a b r s : ℕ) (news w v u : List ℕ) (c i j : ℕ) (x : Instruction)
+    → Tolled levels ns xs n a r news w v c i x → Tolled levels ns ys n b s news w u c j x → i ≡ j
+one-toll levels ns xs ys n a b r s news w v u c i j instruction.Yes p q = p .none ∙ sym (q .none)
+one-toll levels ns xs ys n a b r s news w v u c i j instruction.No p q = p .none ∙ sym (q .none)
+one-toll levels ns xs ys n a b r s news w v u c i j (instruction.Cube _ _ _ _) p q = p .none ∙ sym (q .none)
+one-toll levels ns xs ys n a b r s news w v u c i j (instruction.And _ _) p q = p .none ∙ sym (q .none)
+one-toll levels ns xs ys n a b r s news w v u c i j (instruction.Not _) p q = sym (p .refines .visits) ∙ q .refines .visits
+one-toll levels ns xs ys n a b r s news w v u c i j (instruction.Since _ _) p q = p .none ∙ sym (q .none)
+one-toll levels ns xs ys n a b r s news w v u c i j (instruction.Old _) p q = p .none ∙ sym (q .none)
+one-toll levels ns xs ys n a b r s news w v u c i j (instruction.Drop _ _) p q = p .none ∙ sym (q .none)
+
+-- the nodes are one where there was room
+abbrev pub SameNodes : Counted → List ℕ → List ℕ → Type 0
+SameNodes counted.Full xs ys = Unit {0}
+SameNodes (counted.At a r v) xs ys = xs ≡ ys
+
+-- `row`: the answer with its visits, and the node slice where there was room
+pub one-row : (k : ℕ) (ns xs ys : List ℕ) (n : ℕ) (olds news : List ℕ) (i : ℕ) (x : Instruction) (w v u : List ℕ) (c slots : ℕ) (p q : Counted)
+    → RowDone k ns xs n olds news i x w v c slots p → RowDone k ns ys n olds news i x w u c slots q → (p ≡ q) × SameNodes p xs ys
+one-row k ns xs ys n olds news i x w v u c slots counted.Full counted.Full f g = (refl, tt)
+one-row k ns xs ys n olds news i x w v u c slots counted.Full (counted.At b s j) f g = absurd (never-reached (g .1 .shelf .table) f (g .0))
+one-row k ns xs ys n olds news i x w v u c slots (counted.At a r l) counted.Full f g = absurd (never-reached (f .1 .shelf .table) g (f .0))
+one-row k ns xs ys n olds news i x w v u c slots (counted.At a r l) (counted.At b s j) f g =
+    let z = one-reached (f .1 .shelf .table) (g .1 .shelf .table) (f .0) (g .0) in
+    let m : a ≡ b = z .0 in
+    let o : r ≡ s = z .1 in
+    let t : l ≡ j = one-toll (4 * k) ns xs ys n a b r s news w v u c l j x (f .2) (g .2) in
     (cc, z .2)
