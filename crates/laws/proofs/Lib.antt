@@ -4,3 +4,4 @@ pub mod CallLaws
 pub mod SideLaws
 pub mod FormLaws
 pub mod References
+pub mod OneOutcome

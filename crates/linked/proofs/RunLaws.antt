@@ -14,12 +14,12 @@ use Rattle.meaning.specs.declared.Answer.the-variants.{Started}
 use Rattle.meaning.specs.Step.{Shown, step}
 use Rattle.meaning.specs.Rows.{rowCount, ruleOf}
 use Rattle.meaning.specs.Tables.{keptTable, layState}
-use Rattle.meaning.specs.Outcome.{Decision, taken, refused, capacity, factOf, stateOf, settleStart, decideStart, startOutcome, Machine, shows, decideEvent, settleEvent, eventOutcome}
+use Rattle.meaning.specs.Outcome.{Decision, taken, refused, capacity, factOf, stateOf, settleStart, decideStart, startOutcome, Machine, Arrays, shows, decideEvent, settleEvent, eventOutcome}
 use Rattle.meaning.specs.Outcome as outcome
 use Rattle.monitor.specs.Runs.{Fresh, Call}
 use Rattle.meaning.proofs.PartsLaws.{padded-length}
 use Rattle.meaning.proofs.RunLaws.{few, laid-on}
-use Rattle.meaning.proofs.AnyState.{Arrays, passed, laid-of}
+use Rattle.meaning.proofs.AnyState.{passed, laid-of}
 use Rattle.linked.specs.Packing.{figuresOf, referencesOf, packedState, unpackedState}
 use Rattle.linked.specs.Calls.{fits, startLeft, LinkedStart, machineOf, eventLeft, LinkedEvent}
 use Rattle.linked.specs.Calls as calls

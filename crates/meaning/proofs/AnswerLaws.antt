@@ -17,6 +17,7 @@ use Rattle.meaning.specs.Qtl.{Fact, Assignment, Holds, free}
 use Rattle.meaning.specs.Rows.{Row, ruleOf, rowCount, rowsUpTo, formulaAt, right, checkRows}
 use Rattle.meaning.specs.Step.{saysAt, Shown, step, counted, roomOf}
 use Rattle.meaning.specs.Tables.{keptTable, layState}
+use Rattle.meaning.specs.Verdicts.{Counts, Answered}
 use Rattle.meaning.specs.Outcome.{kRight, factOf, Decision, taken, refused, Machine, shows, decideEvent, verdictOf, settleEvent, eventOutcome, log}
 use Rattle.meaning.proofs.RowsLaws.{Checked, checked, rows-length, free-beyond}
 use Rattle.meaning.proofs.Simulation.{Faithful}
@@ -34,24 +35,57 @@ verdict-1 x y a b n r e = cc
 verdict-2 : (x y : Bool) (a b n r : ℕ) → Verdict x a b ≡ Verdict y n r → b ≡ r
 verdict-2 x y a b n r e = cc
 
-module _ (rows : List ℕ) (k C : ℕ) (kr : kRight k ≡ true) (cr : checkRows rows ≡ right) (m : Machine) (fs : List Fact) (run : Running rows k C kr cr m fs) (e : Event) where
-  -- what a verdict of y with n kept nodes and room r says
-  pub record Answered (y : Bool) (n r : ℕ) : Type 0 where
-    pub is-taken : decideEvent rows m e ≡ taken
-    pub verdict : (a : Assignment) → (y ≡ true) ↔ Holds (log (fs ++ factOf e ∷ [])) (formulaAt (ruleOf rows) (length (ruleOf rows) - 1)) (suc (length fs)) a
-    pub kept : n ≡ eventOutcome rows m e .left .state .kept
-    pub room : Room (4 * k) (counted k (ruleOf rows) (shows rows m .trees) (shows rows (eventOutcome rows m e .left) .trees)) r
+-- an answer that is a verdict tells that the event was taken
+pub verdict-taken : (rows : List ℕ) (m : Machine) (e : Event) (y : Bool) (n r : ℕ) → eventOutcome rows m e .answer ≡ Verdict y n r → decideEvent rows m e ≡ taken
+unfolding eventOutcome settleEvent
+verdict-taken rows m e y n r q = go (decideEvent rows m e) q
+  where
+    go : (d : Decision) → settleEvent d rows m e .answer ≡ Verdict y n r → d ≡ taken
+    go (refused j p) z = let x : _≡_ {A = ℕ} 0 1 = cc in absurd (omega arith)
+    go taken z = refl
 
-  last-row : length (ruleOf rows) - 1 < length (ruleOf rows)
+-- and what is taken is answered by one
+pub taken-verdict : (rows : List ℕ) (m : Machine) (e : Event) → decideEvent rows m e ≡ taken
+    → eventOutcome rows m e .answer ≡ verdictOf (m .state .k) (ruleOf rows) (shows rows m) (step (m .state .k) (ruleOf rows) (shows rows m) (factOf e))
+unfolding eventOutcome settleEvent
+taken-verdict rows m e d = rw d
+
+-- the last row has no free variable
+module _ (rows : List ℕ) (cr : checkRows rows ≡ right) where
+  pub last-row : length (ruleOf rows) - 1 < length (ruleOf rows)
   unfolding ruleOf
   last-row = let c = checked rows cr .some in let l = rows-length rows (rowCount rows) in omega arith
 
-  closed-all : (v : ℕ) → free (formulaAt (ruleOf rows) (length (ruleOf rows) - 1)) v ≡ false
+  pub closed-all : (v : ℕ) → free (formulaAt (ruleOf rows) (length (ruleOf rows) - 1)) v ≡ false
   closed-all v = ⊎-elim (λ h. checked rows cr .sentence v h) (λ h. free-beyond (ruleOf rows) (checked rows cr .rows) (length (ruleOf rows) - 1) v last-row h) (lt-or-ge v 4)
 
-  verdict-is : verdictOf (m .state .k) (ruleOf rows) (shows rows m) (step (m .state .k) (ruleOf rows) (shows rows m) (factOf e)) ≡ verdictOf k (ruleOf rows) (run .s) (step k (ruleOf rows) (run .s) (factOf e))
-  verdict-is = rw (shows-is rows k C kr cr m (run .s) (run .laid), k-is rows k C kr cr m (run .s) (run .laid))
+-- a machine that is the layout of s
+module _ (rows : List ℕ) (k C : ℕ) (kr : kRight k ≡ true) (cr : checkRows rows ≡ right) (m : Machine) (s : Shown) (laid : Laid rows k C kr cr m s) (e : Event) (y : Bool) (n r : ℕ) where
+  -- the verdict of the step, in its parts
+  pub verdict-parts : decideEvent rows m e ≡ taken → eventOutcome rows m e .answer ≡ Verdict y n r
+      → (isOn (getD (step k (ruleOf rows) s (factOf e) .trees) (length (ruleOf rows) - 1) off) ≡ y)
+      × (length (keptTable (step k (ruleOf rows) s (factOf e))) ≡ n) × (roomOf k (ruleOf rows) (s .trees) (step k (ruleOf rows) s (factOf e) .trees) ≡ r)
+  unfolding verdictOf
+  verdict-parts d q =
+      let v = rw (shows-is rows k C kr cr m s laid, k-is rows k C kr cr m s laid) at (sym (taken-verdict rows m e d) ∙ q) in
+      (verdict-0 _ y _ _ n r v, verdict-1 _ y _ _ n r v, verdict-2 _ y _ _ n r v)
 
+  -- kept and room are document 01's
+  pub counts-of : eventOutcome rows m e .answer ≡ Verdict y n r → Counts rows m e y n r (eventOutcome rows m e .left)
+  counts-of q =
+      let d = verdict-taken rows m e y n r q in
+      let l = laid-on rows k C kr cr m s laid e d in
+      let p = verdict-parts d q in
+      let after = shows-is rows k C kr cr (eventOutcome rows m e .left) (step k (ruleOf rows) s (factOf e)) l in
+      record {
+        kept = sym (p .1) ∙ sym (unfold layState in ap (λ (t : State). t .kept) (l .state-is));
+        nodes-kept = rw after (sym (p .1));
+        room =
+            rw (shows-is rows k C kr cr m s laid, after, k-is rows k C kr cr m s laid)
+            (rw (p .2) at (room-is k (ruleOf rows) (s .trees) (step k (ruleOf rows) s (factOf e) .trees) (laid .proper .fine) (l .proper .fine)));
+      }
+
+module _ (rows : List ℕ) (k C : ℕ) (kr : kRight k ≡ true) (cr : checkRows rows ≡ right) (m : Machine) (fs : List Fact) (run : Running rows k C kr cr m fs) (e : Event) where
   says : decideEvent rows m e ≡ taken → (a : Assignment)
       → (isOn (getD (step k (ruleOf rows) (run .s) (factOf e) .trees) (length (ruleOf rows) - 1) off) ≡ true)
       ↔ Holds (log (fs ++ factOf e ∷ [])) (formulaAt (ruleOf rows) (length (ruleOf rows) - 1)) (suc (length fs)) a
@@ -59,32 +93,14 @@ module _ (rows : List ℕ) (k C : ℕ) (kr : kRight k ≡ true) (cr : checkRows 
   says d a =
       let f = after-faithful rows k C kr cr m fs run e d in
       sentence k (step k (ruleOf rows) (run .s) (factOf e) .lists) (getD (step k (ruleOf rows) (run .s) (factOf e) .trees) (length (ruleOf rows) - 1) off)
-      (log (fs ++ factOf e ∷ [])) _ (suc (length fs)) closed-all (f .fine (length (ruleOf rows) - 1)) (unfold saysAt in f .means (length (ruleOf rows) - 1) last-row) a
+      (log (fs ++ factOf e ∷ [])) _ (suc (length fs)) (closed-all rows cr) (f .fine (length (ruleOf rows) - 1)) (unfold saysAt in f .means (length (ruleOf rows) - 1) (last-row rows cr)) a
 
-  -- the verdict of the step, in its parts
-  parts : (y : Bool) (n r : ℕ) → verdictOf k (ruleOf rows) (run .s) (step k (ruleOf rows) (run .s) (factOf e)) ≡ Verdict y n r
-      → (isOn (getD (step k (ruleOf rows) (run .s) (factOf e) .trees) (length (ruleOf rows) - 1) off) ≡ y)
-      × (length (keptTable (step k (ruleOf rows) (run .s) (factOf e))) ≡ n) × (roomOf k (ruleOf rows) (run .s .trees) (step k (ruleOf rows) (run .s) (factOf e) .trees) ≡ r)
-  unfolding verdictOf
-  parts y n r v = (verdict-0 _ y _ _ n r v, verdict-1 _ y _ _ n r v, verdict-2 _ y _ _ n r v)
-
-  answer-taken : (y : Bool) (n r : ℕ) → decideEvent rows m e ≡ taken → verdictOf k (ruleOf rows) (run .s) (step k (ruleOf rows) (run .s) (factOf e)) ≡ Verdict y n r → Answered y n r
-  answer-taken y n r d v =
-      let l = laid-on rows k C kr cr m (run .s) (run .laid) e d in
-      let p = parts y n r v in
+  -- a verdict was taken, and says what QTL says
+  pub answered : (y : Bool) (n r : ℕ) → eventOutcome rows m e .answer ≡ Verdict y n r → Answered rows m e y n r (eventOutcome rows m e .left) fs
+  answered y n r q =
+      let d = verdict-taken rows m e y n r q in
+      let p = verdict-parts rows k C kr cr m (run .s) (run .laid) e y n r d q in
       record {
-        is-taken = d;
         verdict = λ a. rw (p .0) at (says d a);
-        kept = sym (p .1) ∙ sym (unfold layState in ap (λ (t : State). t .kept) (l .state-is));
-        room =
-            rw (shows-is rows k C kr cr m (run .s) (run .laid), shows-is rows k C kr cr (eventOutcome rows m e .left) (step k (ruleOf rows) (run .s) (factOf e)) l)
-            (rw (p .2) at (room-is k (ruleOf rows) (run .s .trees) (step k (ruleOf rows) (run .s) (factOf e) .trees) (run .laid .proper .fine) (l .proper .fine)));
+        counts = counts-of rows k C kr cr m (run .s) (run .laid) e y n r q;
       }
-
-  pub answered : (y : Bool) (n r : ℕ) → eventOutcome rows m e .answer ≡ Verdict y n r → Answered y n r
-  unfolding eventOutcome settleEvent
-  answered y n r q = go (decideEvent rows m e) refl q
-    where
-      go : (d : Decision) → decideEvent rows m e ≡ d → settleEvent d rows m e .answer ≡ Verdict y n r → Answered y n r
-      go (refused j p) d z = let x : _≡_ {A = ℕ} 0 1 = cc in absurd (omega arith)
-      go taken d z = answer-taken y n r d (sym verdict-is ∙ z)

@@ -10,22 +10,26 @@ use lib.Dec.{eqb, ltb, leb}
 use lib.ListN.{length, getD, length-append, List·getD-append}
 use lib.Seq.{ext-getD, getD-append-seam}
 use borrow.Author.Tests.{eqb-true}
-use Rattle.trees.specs.Bits.{Function, Same}
-use Rattle.trees.specs.Tree.{Tree, off, eval}
-use Rattle.trees.proofs.Tests.{and-true-l, and-true-r, lt-or-ge}
+use Rattle.trees.specs.Bits.{Bits, Function, Same}
+use Rattle.trees.specs.Tree.{Tree, off, on, node, eval, isOn}
+use Rattle.trees.specs.Kept.{levels}
+use Rattle.trees.proofs.Tests.{false-true, and-true-l, and-true-r, lt-or-ge}
 use Rattle.trees.proofs.BitsLaws.{drops-same}
 use Rattle.trees.proofs.TreeLaws.{canon, fine-off}
 use Rattle.meaning.specs.declared.Event.{Event}
-use Rattle.meaning.specs.Qtl.{Fact}
+use Rattle.meaning.specs.declared.Answer.the-variants.{Verdict}
+use Rattle.meaning.specs.Qtl.{Fact, free}
 use Rattle.meaning.specs.Rows.{Row, truth, atom, both, neg, since, previous, exists, ruleOf, right, checkRows}
 use Rattle.meaning.specs.Numbering.{Lists, askRows}
-use Rattle.meaning.specs.Step.{rowSays, saysAt, rowTree, rowTrees, Shown, step}
-use Rattle.meaning.specs.Tables.{most, read, layState, layNodes, layValues, wellFormed}
-use Rattle.meaning.specs.Outcome.{kRight, capacity, nodesRight, valuesRight, workSize, factOf, Decision, taken, judgeStart, judgeEvent, Machine, shows, decideEvent, eventOutcome}
+use Rattle.meaning.specs.Step.{rowSays, saysAt, rowTree, rowTrees, Shown, step, OneStep}
+use Rattle.meaning.specs.Tables.{most, read, freeLevel, layState, layNodes, layValues, wellFormed}
+use Rattle.meaning.specs.Outcome.{kRight, capacity, nodesRight, valuesRight, workSize, cleared, factOf, Decision, taken, judgeStart, judgeEvent, Machine, Arrays, WellFormed, shows, decideEvent, settleEvent, eventOutcome}
+use Rattle.meaning.specs.Verdicts.{Stepped}
 use Rattle.meaning.proofs.RowsLaws.{RowOk, RowsOk, Checked, checked}
 use Rattle.meaning.proofs.StepLaws.{AllFine, fine-snoc, fine-row, eval-row, trees-keep}
 use Rattle.meaning.proofs.ProperLaws.{Proper, Shaped, proper-read, lay-nodes, lay-state, lay-values}
-use Rattle.meaning.proofs.RunLaws.{start-taken, event-taken, positive, few, Laid, shows-is, formed-is, laid-on}
+use Rattle.meaning.proofs.RunLaws.{start-taken, event-taken, positive, few, Laid, k-is, C-is, shows-is, formed-is, laid-on}
+use Rattle.meaning.proofs.AnswerLaws.{verdict-taken, verdict-parts, counts-of, last-row, closed-all}
 
 -- a row reads the functions of earlier rows only
 row-now : (k : ℕ) (L : Lists) (e : Fact) (old now new : ℕ → Function) (i n : ℕ) (r : Row) → RowOk n r → ((j : ℕ) → j < n → Same (now j) (new j))
@@ -61,12 +65,7 @@ module _ (k : ℕ) (L : Lists) (e : Fact) (old : List Tree) (wold : AllFine (4 *
       let z : length ts + suc i ≡ length (ts ++ t ∷ []) + i = omega arith in
       rw z (trees-say rs (ts ++ t ∷ []) (rw m (o .1)) (fine-snoc (4 * k) ts t w (fine-row k L e old wold ts r)) i (omega arith) s)
 
--- "one step of the meaning, read over numbers": s′ is got from s by the fact e
-pub record OneStep (k : ℕ) (rule : List Row) (s : Shown) (e : Fact) (s′ : Shown) : Type 0 where
-  pub lists-are : s′ .lists ≡ askRows e (s .lists) rule
-  pub rows-say : (i : ℕ) → i < length rule
-      → Same (saysAt (s′ .trees) i) (rowSays k (s′ .lists) e (saysAt (s .trees)) (saysAt (s′ .trees)) i (getD rule i truth))
-
+-- the step of the definitions is one step of the meaning
 pub one-step : (k C : ℕ) (rule : List Row) (s : Shown) (e : Fact) → RowsOk 0 rule → Proper k C rule s → OneStep k rule s e (step k rule s e)
 unfolding step
 one-step k C rule s e o p = record {
@@ -75,10 +74,6 @@ one-step k C rule s e o p = record {
       let z : 0 + i ≡ i = omega arith in
       rw z at (trees-say k (askRows e (s .lists) rule) e (s .trees) (p .fine) rule [] o (λ j. fine-off 0 (4 * k)) i h b);
 }
-
--- the lengths that the arrays of a state have
-abbrev pub Arrays : Machine → Type 0
-Arrays m = (length (m .state .counts) ≡ 4) × (length (m .state .refs) ≡ 64)
 
 -- a state that passes the tests of 1 to 4
 module _ (rows : List ℕ) (m : Machine) (arrays : Arrays m) (kr : kRight (m .state .k) ≡ true) (cr : checkRows rows ≡ right)
@@ -136,14 +131,76 @@ module _ (rows : List ℕ) (m : Machine) (e : Event) (arrays : Arrays m) (d : de
   pub any-formed : let n = eventOutcome rows m e .left in wellFormed (n .state .k) (capacity (n .nodes)) (ruleOf rows) (n .state) (n .nodes) (n .values) ≡ true
   any-formed = formed-is rows (m .state .k) (capacity (m .nodes)) (passed .0) (passed .1) (eventOutcome rows m e .left) _ left-laid
 
--- two layouts that show the same lists and functions are the same numbers
-module _ (rows : List ℕ) (k C : ℕ) (kr : kRight k ≡ true) (cr : checkRows rows ≡ right) where
-  pub one-layout : (m n : Machine) (s t : Shown) → Laid rows k C kr cr m s → Laid rows k C kr cr n t → s .lists ≡ t .lists
-      → ((i : ℕ) → i < length (ruleOf rows) → Same (saysAt (s .trees) i) (saysAt (t .trees) i))
+-- the diagram of a row without free variables is a leaf
+leaf : (p : ℕ → Bool) → ((l : ℕ) → p l ≡ false) → (t : Tree) → levels p t ≡ true → (s : Bits) → eval t s ≡ isOn t
+unfolding levels eval isOn
+leaf p none off h s = refl
+leaf p none on h s = refl
+leaf p none (node l a b) h s = absurd (false-true (none l) (and-true-l (p l) (levels p a && levels p b) h))
+
+-- the work slice after an event that was taken
+pub work-left : (rows : List ℕ) (m : Machine) (e : Event) → decideEvent rows m e ≡ taken → eventOutcome rows m e .left .work ≡ cleared (capacity (m .nodes)) (m .work)
+unfolding eventOutcome settleEvent
+work-left rows m e d = rw d refl
+
+-- what a verdict says of any well-formed state
+module _ (rows : List ℕ) (m : Machine) (e : Event) (arrays : Arrays m) (y : Bool) (n r : ℕ) (q : eventOutcome rows m e .answer ≡ Verdict y n r) where
+  d : decideEvent rows m e ≡ taken
+  d = verdict-taken rows m e y n r q
+
+  abbrev left : Machine
+  left = eventOutcome rows m e .left
+
+  after : shows rows left ≡ step (m .state .k) (ruleOf rows) (shows rows m) (factOf e)
+  after = shows-is rows (m .state .k) (capacity (m .nodes)) (passed rows m e arrays d .0) (passed rows m e arrays d .1) left _ (left-laid rows m e arrays d)
+
+  k-left : left .state .k ≡ m .state .k
+  k-left = k-is rows (m .state .k) (capacity (m .nodes)) (passed rows m e arrays d .0) (passed rows m e arrays d .1) left _ (left-laid rows m e arrays d)
+
+  C-left : capacity (left .nodes) ≡ capacity (m .nodes)
+  C-left = C-is rows (m .state .k) (capacity (m .nodes)) (passed rows m e arrays d .0) (passed rows m e arrays d .1) left _ (left-laid rows m e arrays d)
+
+  last : ℕ
+  last = length (ruleOf rows) - 1
+
+  says : (s : Bits) → eval (getD (shows rows left .trees) (length (ruleOf rows) - 1) off) s ≡ y
+  unfolding last freeLevel
+  says s =
+      let cr = passed rows m e arrays d .1 in
+      let p = verdict-parts rows (m .state .k) (capacity (m .nodes)) (passed rows m e arrays d .0) cr m (shows rows m) (laid-of rows m e arrays d) e y n r d q in
+      rw after
+      (leaf (freeLevel (m .state .k) (ruleOf rows) last) (λ l. closed-all rows cr (l / m .state .k)) (getD (step (m .state .k) (ruleOf rows) (shows rows m) (factOf e) .trees) last off)
+      (left-laid rows m e arrays d .proper .free last (last-row rows cr)) s
+      ∙ p .0)
+
+  pub stepped : Stepped rows m e y n r left
+  stepped = record {
+    step = any-step rows m e arrays d;
+    formed = rw (k-left, C-left) at (any-formed rows m e arrays d);
+    k-stays = k-left;
+    C-stays = C-left;
+    verdict = says;
+    counts = counts-of rows (m .state .k) (capacity (m .nodes)) (passed rows m e arrays d .0) (passed rows m e arrays d .1) m (shows rows m) (laid-of rows m e arrays d) e y n r q;
+    work = work-left rows m e d;
+  }
+
+-- two well-formed states that show the same lists and functions are the same numbers
+module _ (rows : List ℕ) (m n : Machine) (p : WellFormed rows m) (q : WellFormed rows n) where
+  laid-m : Laid rows (m .state .k) (capacity (m .nodes)) (p .k-right) (p .rows-right) m (shows rows m)
+  laid-m = laid-formed rows m (p .arrays) (p .k-right) (p .rows-right) (p .lengths) (p .formed)
+
+  laid-n : Laid rows (n .state .k) (capacity (n .nodes)) (q .k-right) (q .rows-right) n (shows rows n)
+  laid-n = laid-formed rows n (q .arrays) (q .k-right) (q .rows-right) (q .lengths) (q .formed)
+
+  pub one-tables : m .state .k ≡ n .state .k → capacity (m .nodes) ≡ capacity (n .nodes) → shows rows m .lists ≡ shows rows n .lists
+      → ((i : ℕ) → i < length (ruleOf rows) → Same (saysAt (shows rows m .trees) i) (saysAt (shows rows n .trees) i))
       → (m .state ≡ n .state) × (m .nodes ≡ n .nodes) × (m .values ≡ n .values)
   unfolding saysAt
-  one-layout m n s t a b l f =
-      let trees : s .trees ≡ t .trees = ext-getD off (s .trees) (t .trees) (a .proper .count ∙ sym (b .proper .count))
-      (λ i h. canon (4 * k) (getD (s .trees) i off) (getD (t .trees) i off) (a .proper .fine i) (b .proper .fine i) (f i (rw (a .proper .count) at h))) in
-      let same : s ≡ t = λ i. record { lists = l i; trees = trees i } in
-      (a .state-is ∙ ap (layState k) same ∙ sym (b .state-is), a .nodes-are ∙ ap (layNodes C) same ∙ sym (b .nodes-are), a .values-are ∙ ap (λ (x : Shown). layValues k (x .lists)) same ∙ sym (b .values-are))
+  one-tables k C l f =
+      let trees : shows rows m .trees ≡ shows rows n .trees = ext-getD off (shows rows m .trees) (shows rows n .trees) (laid-m .proper .count ∙ sym (laid-n .proper .count))
+      (λ i h. canon (4 * m .state .k) (getD (shows rows m .trees) i off) (getD (shows rows n .trees) i off) (laid-m .proper .fine i) (rw k (laid-n .proper .fine i)) (f i (rw (laid-m .proper .count) at h))) in
+      let same : shows rows m ≡ shows rows n = λ i. record { lists = l i; trees = trees i } in (
+        laid-m .state-is ∙ ap₂ layState k same ∙ sym (laid-n .state-is),
+        laid-m .nodes-are ∙ ap₂ layNodes C same ∙ sym (laid-n .nodes-are),
+        laid-m .values-are ∙ ap₂ (λ (j : ℕ) (x : Shown). layValues j (x .lists)) k same ∙ sym (laid-n .values-are),
+      )

@@ -25,7 +25,7 @@ use Rattle.meaning.specs.Refusals.{BadK, BadShape, FirstFault, OpenRule,
 use Rattle.meaning.proofs.RowsLaws.{first-le, first-none, first-some, rows-length}
 
 -- a test that failed
-and-false : (a b : Bool) → (a && b) ≡ false → (a ≡ false) ⊎ (b ≡ false)
+pub and-false : (a b : Bool) → (a && b) ≡ false → (a ≡ false) ⊎ (b ≡ false)
 and-false true b e = inr e
 and-false false b e = inl refl
 

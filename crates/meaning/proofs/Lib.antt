@@ -12,13 +12,17 @@ pub mod ProperLaws
 pub mod RoomOfLaws
 pub mod StepProper
 pub mod ExactLaws
+pub mod IllFormedLaws
 pub mod RefusalLaws
 pub mod RunLaws
 pub mod AnswerLaws
 pub mod StartLaws
+pub mod FromStart
 pub mod AnyState
+pub mod LargerTable
 pub mod RenameLaws
 pub mod DisguiseLaws
+pub mod IgnoredLaws
 pub mod HidingLaws
 pub mod HiddenRuns
 pub mod Demands

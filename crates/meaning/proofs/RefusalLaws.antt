@@ -20,11 +20,12 @@ use Rattle.meaning.specs.Numbering.{askRows}
 use Rattle.meaning.specs.Step.{step, counted, roomOf}
 use Rattle.meaning.specs.Tables.{read, wellFormed}
 use Rattle.meaning.specs.Outcome.{kRight, capacity, nodesRight, valuesRight, workSize, factOf, countRight, shortest, Decision, taken, refused, judgeStart, judgeEvent, decideStart, decideEvent, Machine, shows}
-use Rattle.meaning.specs.Refusals.{BadNodes, BadValues, BadWork, Short, NoRoom, StartSentence, Sentence, First}
+use Rattle.meaning.specs.Refusals.{BadNodes, BadValues, BadWork, IllFormed, Short, NoRoom, StartSentence, Sentence, First}
 use Rattle.meaning.proofs.RowsLaws.{Checked, checked}
 use Rattle.meaning.proofs.StepLaws.{AllFine, fine-rows}
 use Rattle.meaning.proofs.ProperLaws.{read-fine}
 use Rattle.meaning.proofs.RoomOfLaws.{room-is}
+use Rattle.meaning.proofs.IllFormedLaws.{formed-bad}
 use Rattle.meaning.proofs.ExactLaws.{k-bad, RowsFound, well, ill, rows-found, nodes-bad, values-bad, either-bad, count-bad, short-found}
 
 -- no sentence below j applies
@@ -131,6 +132,9 @@ module _ (rows : List ℕ) (m : Machine) (e : Event) where
       (either-bad (valuesRight (m .state .k) (m .values)) (leb (workSize (capacity (m .nodes))) (length (m .work))) _ _ (values-bad (m .state .k) (m .values))
       (leb-false _ _, lt-leb _ _))
 
+  bad-formed : (formed ≡ false) ↔ IllFormed (m .state .k) (capacity (m .nodes)) (ruleOf rows) (m .state) (m .nodes) (m .values)
+  bad-formed = formed-bad (m .state .k) (capacity (m .nodes)) (ruleOf rows) (m .state) (m .nodes) (m .values)
+
   positive : kRight (m .state .k) ≡ true → 0 < m .state .k
   unfolding kRight
   positive a = ltb-true 0 (m .state .k) (and-true-l (ltb 0 (m .state .k)) (leb (m .state .k) 10) a)
@@ -191,8 +195,8 @@ module _ (rows : List ℕ) (m : Machine) (e : Event) where
       five n h true z = six n (one-more Q 5 h (λ p y. false-true (count-bad rows e .1 (y .1)) z)) (ltb W 4) refl
 
       four : kRight (m .state .k) ≡ true → checkRows rows ≡ right → NoneBelow Q 4 → (b : Bool) → formed ≡ b → Judged Q (judgeEvent taken b count (ltb W 4) W (leb R C))
-      four a r h false z = fails 4 0 (refl, z) h (λ p y. y .0)
-      four a r h true z = five (no-room a r z) (one-more Q 4 h (λ p y. false-true (y .1) z)) count refl
+      four a r h false z = fails 4 0 (refl, bad-formed .0 z) h (λ p y. y .0)
+      four a r h true z = five (no-room a r z) (one-more Q 4 h (λ p y. false-true (bad-formed .1 (y .1)) z)) count refl
 
       three : kRight (m .state .k) ≡ true → checkRows rows ≡ right → NoneBelow Q 3 → (b : Bool) → lengths ≡ b
           → Judged Q (judgeEvent (judgeStart true right b) formed count (ltb W 4) W (leb R C))

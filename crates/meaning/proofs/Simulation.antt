@@ -20,16 +20,12 @@ use Rattle.trees.proofs.TreeLaws.{fine-off}
 use Rattle.meaning.specs.Qtl.{Argument, variable, constant, Fact, Formula, Assignment, bind, Matches, Holds}
 use Rattle.meaning.specs.Qtl
 use Rattle.meaning.specs.Rows.{Row, truth, atom, both, neg, since, previous, exists, follow, formulasFrom, formulas}
-use Rattle.meaning.specs.Numbering.{Lists, place, listed, repeats, fits, askRows, Stands}
+use Rattle.meaning.specs.Numbering.{Lists, place, listed, repeats, fits, askRows, Stands, Shows}
 use Rattle.meaning.specs.Step.{argumentsSay, rowSays, saysAt, rowTree, rowTrees, Shown, fresh, step}
 use Rattle.meaning.proofs.RowsLaws.{ArgumentsOk, RowOk, RowsOk, formulas-keep, formulas-here, formulas-length}
 use Rattle.meaning.proofs.ValuesLaws.{Distinct, stands-back, value-of, number-of, stands-place, place-stands}
 use Rattle.meaning.proofs.AskingLaws.{has-place, GrowsL, DistinctL, Asked, InLists, Covered, AllCovered, askRows-grows, askRows-distinct, askRows-covers}
 use Rattle.meaning.proofs.StepLaws.{AllFine, asks-at, fine-row, eval-row, fine-snoc, fine-rows, variable-fits}
-
--- the bits show numbers that stand for the values of the assignment
-abbrev pub Shows : ℕ → Lists → Bits → Assignment → Type 0
-Shows k L s a = (v : ℕ) → v < 4 → Stands (L v) (number s (v * k) k) (a v)
 
 -- no variable has more values than numbers
 abbrev pub Enough : ℕ → Lists → Type 0

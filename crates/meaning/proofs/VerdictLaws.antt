@@ -14,9 +14,9 @@ use Rattle.trees.proofs.Tests.{or-l, or-r, eqb-same, false-true, not-true}
 use Rattle.trees.proofs.TreeLaws.{canon, fine-off, fine-on}
 use Rattle.meaning.specs.Qtl.{Argument, variable, constant, Fact, Formula, Assignment, bind, Matches, Holds, free, freeArguments}
 use Rattle.meaning.specs.Qtl
-use Rattle.meaning.specs.Numbering.{Lists}
+use Rattle.meaning.specs.Numbering.{Lists, Shows}
 use Rattle.meaning.proofs.ValuesLaws.{value-of}
-use Rattle.meaning.proofs.Simulation.{Shows, Sim, bind-own, bind-other}
+use Rattle.meaning.proofs.Simulation.{Sim, bind-own, bind-other}
 
 -- assignments alike on F
 abbrev pub Alike : (ℕ → Bool) → Assignment → Assignment → Type 0

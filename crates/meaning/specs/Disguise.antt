@@ -7,7 +7,7 @@ use lib.Dec.{eqb}
 use Rattle.meaning.specs.declared.Event.{Event}
 use Rattle.meaning.specs.Qtl.{Argument, variable, constant, Fact}
 use Rattle.meaning.specs.Rows.{Row, truth, atom, both, neg, since, previous, exists}
-use Rattle.meaning.specs.Outcome.{factOf}
+use Rattle.meaning.specs.Outcome.{factOf, Machine, shows}
 
 -- whether a value is in a list
 unfoldable pub among : ℕ → List ℕ → Bool
@@ -41,9 +41,26 @@ pub record Disguise (rule : List Row) (es : List Event) (π : ℕ → ℕ) : Typ
   pub keeps : (c : ℕ) → among c (constants rule) ≡ true → π c ≡ c
   pub else : (x c : ℕ) → among x (used es) ≡ true → among c (constants rule) ≡ true → π x ≡ c → x ≡ c
 
--- an event and its fact, disguised
+-- an event with all its values disguised, and a fact
 unfoldable pub disguised : (ℕ → ℕ) → Event → Event
 disguised π e = record { predicate = e .predicate; count = e .count; values = map (λ v. record { 0 = π (v .0) }) (e .values) }
 
 unfoldable pub disguisedFact : (ℕ → ℕ) → Fact → Fact
 disguisedFact π f = record { predicate = f .predicate; values = map π (f .values) }
+
+-- f is e in disguise: "Values past an event's count are ignored", so f may have any there
+abbrev pub Disguised : (ℕ → ℕ) → Event → Event → Type 0
+Disguised π e f = (factOf f ≡ disguisedFact π (factOf e)) × (f .count ≡ e .count)
+
+-- a log in disguise, event by event
+unfoldable pub DisguisedLog : (ℕ → ℕ) → List Event → List Event → Type 0
+DisguisedLog π [] [] = Unit {0}
+DisguisedLog π [] (f ∷ fs) = ⊥
+DisguisedLog π (e ∷ es) [] = ⊥
+DisguisedLog π (e ∷ es) (f ∷ fs) = Disguised π e f × DisguisedLog π es fs
+
+-- two machines that show the same but for the disguise: "The value lists differ only by the disguise"
+pub record Alike (π : ℕ → ℕ) (rows : List ℕ) (m n : Machine) : Type 0 where
+  pub states : n .state ≡ m .state
+  pub node-slices : n .nodes ≡ m .nodes
+  pub lists : (v : ℕ) → shows rows n .lists v ≡ map π (shows rows m .lists v)

@@ -6,7 +6,7 @@ use mathlib.Core.List.{List, [], _∷_, _++_}
 use mathlib.Core.Logic.{_≢_}
 use lib.Dec.{eqb, ltb}
 use lib.ListN.{length, getD}
-use Rattle.trees.specs.Bits.{Bits}
+use Rattle.trees.specs.Bits.{Bits, number}
 use Rattle.meaning.specs.Qtl.{Argument, variable, constant, Fact, Assignment}
 use Rattle.meaning.specs.Rows.{Row, truth, atom, both, neg, since, previous, exists}
 
@@ -89,3 +89,7 @@ bitsOf k c l = eqb (c (l / k) / 2 ^ (l % k) % 2) 1
 unfoldable pub shown : ℕ → Lists → Assignment → Bits
 unfolding bitsOf
 shown k L a = bitsOf k (λ v. numberOf k (L v) (a v))
+
+-- the bits show, for each variable, a number that stands for its value: every number that may stand for it counts
+abbrev pub Shows : ℕ → Lists → Bits → Assignment → Type 0
+Shows k L s a = (v : ℕ) → v < 4 → Stands (L v) (number s (v * k) k) (a v)

@@ -1,6 +1,7 @@
 -- The outcome of start and of event for every input whatsoever: the answer, the state and every lent slice.
 -- Assumes nothing: these are definitions.
 use Prim.Native.Nat.{ℕ, zero, suc, _+_, _-_, _*_, _/_, _%_}
+use mathlib.Core.Path.{_≡_}
 use mathlib.Core.Bool.{Bool, true, false, cond, not, _&&_, _||_}
 use mathlib.Core.List.{List, [], _∷_, _++_, map}
 use lib.Dec.{eqb, ltb, leb}
@@ -42,6 +43,10 @@ cleared C work = replicate (workSize C) 0 ++ drop (workSize C) work
 -- the fact of an event: "Values past an event's count are ignored."
 unfoldable pub factOf : Event → Fact
 factOf e = record { predicate = e .predicate; values = map (λ v. v .0) (take (e .count) (e .values)) }
+
+-- f is e but for what is ignored: the same fact, and the same count
+abbrev pub SameEvent : Event → Event → Type 0
+SameEvent e f = (factOf f ≡ factOf e) × (f .count ≡ e .count)
 
 -- refusal 5 is given where this does not hold: "event count over 3, or not the rule's count for its predicate"
 unfoldable pub agrees : Event → Row → Bool
@@ -112,6 +117,22 @@ pub record Machine : Type 0 where
   pub nodes : List ℕ
   pub values : List ℕ
   pub work : List ℕ
+
+-- "four value counts and 64 references": the arrays of a state have these lengths by their type
+abbrev pub Arrays : Machine → Type 0
+Arrays m = (length (m .state .counts) ≡ 4) × (length (m .state .refs) ≡ 64)
+
+-- "any well-formed state", its slices of the right lengths: refusals 1 to 4 do not apply
+pub record WellFormed (rows : List ℕ) (m : Machine) : Type 0 where
+  pub arrays : Arrays m
+  pub k-right : kRight (m .state .k) ≡ true
+  pub rows-right : checkRows rows ≡ right
+  pub lengths : (nodesRight (m .nodes) && (valuesRight (m .state .k) (m .values) && leb (workSize (capacity (m .nodes))) (length (m .work)))) ≡ true
+  pub formed : wellFormed (m .state .k) (capacity (m .nodes)) (ruleOf rows) (m .state) (m .nodes) (m .values) ≡ true
+
+-- the same state with room for d nodes more: zeros behind the nodes, and another work slice
+unfoldable pub enlarged : ℕ → List ℕ → Machine → Machine
+enlarged d work m = record { state = m .state; nodes = m .nodes ++ replicate (3 * d) 0; values = m .values; work = work }
 
 -- what the machine shows of a rule
 unfoldable pub shows : List ℕ → Machine → Shown

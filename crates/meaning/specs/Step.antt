@@ -1,11 +1,12 @@
 -- One step of the meaning, read over numbers: the function of each row after an event, and the functions counted for room.
 -- Assumes nothing: these are definitions.
-use Prim.Native.Nat.{ℕ, zero, suc, _+_, _*_}
+use Prim.Native.Nat.{ℕ, zero, suc, _+_, _*_, _<_}
+use mathlib.Core.Path.{_≡_}
 use mathlib.Core.Bool.{Bool, true, false, not, _&&_, _||_}
 use mathlib.Core.List.{List, [], _∷_, _++_, map}
 use lib.Dec.{eqb}
 use lib.ListN.{length, getD, replicate}
-use Rattle.trees.specs.Bits.{Function, number, drop, drops}
+use Rattle.trees.specs.Bits.{Function, Same, number, drop, drops}
 use Rattle.trees.specs.Tree.{Tree, off, eval, treeOf}
 use Rattle.trees.specs.Table.{addTrees}
 use Rattle.meaning.specs.Qtl.{Argument, variable, constant, Fact}
@@ -56,6 +57,12 @@ unfoldable pub step : ℕ → List Row → Shown → Fact → Shown
 step k rule s e =
     let L = askRows e (s .lists) rule in
     record { lists = L; trees = rowTrees k L e (s .trees) [] rule }
+
+-- "one step of the meaning, read over numbers": s′ is got from s by the fact e
+pub record OneStep (k : ℕ) (rule : List Row) (s : Shown) (e : Fact) (s′ : Shown) : Type 0 where
+  pub lists-are : s′ .lists ≡ askRows e (s .lists) rule
+  pub rows-say : (i : ℕ) → i < length rule
+      → Same (saysAt (s′ .trees) i) (rowSays k (s′ .lists) e (saysAt (s .trees)) (saysAt (s′ .trees)) i (getD rule i truth))
 
 -- "the functions met when its variable's bits are removed one at a time, from bit k − 1 down to bit 0"
 unfoldable pub removals : ℕ → ℕ → Function → List Function

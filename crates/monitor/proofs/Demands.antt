@@ -1,111 +1,132 @@
--- The demands, in the mission's words, of the code: each is a theorem about what `start` and `event` promise. Assumes nothing.
-use Prim.Native.Nat.{ℕ, suc, _-_, _*_, _<_}
-use mathlib.Core.Path.{_≡_, refl, ap, sym, subst, _∙_}
-use mathlib.Core.Bool.{Bool, true, false, cond}
-use mathlib.Core.List.{List, [], _∷_, _++_, map}
-use mathlib.Core.Logic.{_↔_}
+-- The demands, in the mission's words, of the code: each is a theorem about what `start` and `event` promise, by `Starts` and `Happens`
+-- alone. Assumes nothing.
+use Prim.Native.Nat.{ℕ, suc, _+_, _-_, _*_, _≤_, _<_}
+use mathlib.Core.Path.{_≡_, sym, _∙_}
+use mathlib.Core.Bool.{Bool, true, cond}
+use mathlib.Core.List.{List, [], _∷_, _++_}
+use mathlib.Core.Logic.{_↔_, _⊎_}
 use lib.Dec.{leb}
-use lib.ListN.{length, getD}
+use lib.ListN.{length, getD, replicate}
+use Rattle.trees.specs.Bits.{Bits}
 use Rattle.trees.specs.Tree.{off, eval}
-use Rattle.trees.specs.Room.{Room}
 use Rattle.meaning.specs.declared.Event.{Event}
 use Rattle.meaning.specs.declared.Answer.{Answer}
 use Rattle.meaning.specs.declared.Answer.the-variants.{Started, Verdict, Refused}
 use Rattle.meaning.specs.declared.Turn.{Turn}
-use Rattle.meaning.specs.Qtl.{Fact, Assignment, Holds}
-use Rattle.meaning.specs.Rows.{ruleOf, formulaAt}
-use Rattle.meaning.specs.Numbering.{shown}
-use Rattle.meaning.specs.Step.{counted}
-use Rattle.meaning.specs.Outcome.{capacity, cleared, factOf, stateOf, startOutcome, Machine, machineOf, shows, eventOutcome, runs, answers, takenOf, log}
+use Rattle.meaning.specs.Qtl.{Assignment, Holds}
+use Rattle.meaning.specs.Rows.{rowCount, ruleOf, formulaAt}
+use Rattle.meaning.specs.Numbering.{shown, Shows}
+use Rattle.meaning.specs.Outcome.{capacity, workSize, cleared, factOf, SameEvent, stateOf, Machine, Arrays, WellFormed, enlarged, shows, log}
 use Rattle.meaning.specs.Refusals.{StartSentence, Sentence, First}
-use Rattle.meaning.specs.Disguise.{Disguise, disguised}
-use Rattle.meaning.proofs.Demands
-use Rattle.meaning.proofs.HiddenRuns.{Alike}
-use Rattle.monitor.specs.Calls.{Starts, Happens}
-use Rattle.monitor.specs.Runs.{Fresh, Call, Calls, takenIn}
-use Rattle.monitor.proofs.RunLaws.{start-answer, start-refused, event-answer, event-refused, fresh-started, fresh-is, calls-left, taken-are}
+use Rattle.meaning.specs.Verdicts.{Stepped, Answered}
+use Rattle.meaning.specs.Disguise.{Disguise, Disguised, DisguisedLog, Alike}
+use Rattle.monitor.specs.Calls.{IsVerdict, IsRefusal, Starts, machine, Happens}
+use Rattle.monitor.specs.Runs.{Fresh, Call, Calls, takenIn, AllTaken}
+use Rattle.monitor.proofs.AnsweredLaws.{starts-refuses, starts-keeps, starts-takes, starts-leaves, starts-answers, happens-refuses, happens-keeps, happens-takes, happens-answers, happens-steps, happens-alike, happens-larger}
+use Rattle.monitor.proofs.LargerRuns.{runs-alike}
+use Rattle.monitor.proofs.FreshRuns.{run-sets, run-numbers, run-verdict, same-verdict, both-answer, both-alike, hidden-verdict}
 
--- Demand 1. "Bad input gets exactly the refusal number of document 01", for any numbers whatever handed to `start` ..
-pub start-refuses : (k : ℕ) (rows nodes values : List ℕ) (t : Turn) (ns vs : List ℕ) → Starts k rows nodes values t ns vs → (n p : ℕ)
-    → (t .answer ≡ Refused n p) ↔ First (StartSentence k rows nodes values) n p
-start-refuses k rows nodes values t ns vs s n p =
-    let d = Demands.start-refuses k rows nodes values n p in
-    (λ q. d .0 (start-answer k rows nodes values n p (sym (s .answer) ∙ q)), λ q. s .answer ∙ start-refused k rows nodes values n p (d .1 q) .0)
+-- Demand 1, of `start`, for any numbers whatever handed to it, and what it then answers and leaves.
+module _ (k : ℕ) (rows nodes values : List ℕ) (t : Turn) (ns vs : List ℕ) (s : Starts k rows nodes values t ns vs) where
+  -- "Bad input gets exactly the refusal number of document 01": "the first that applies is given".
+  pub start-refuses : (n p : ℕ) → (t .answer ≡ Refused n p) ↔ First (StartSentence k rows nodes values) n p
+  start-refuses n p = starts-refuses k rows nodes values t ns vs s n p
 
--- .. which then writes nothing and gives an all-zero state;
-pub start-keeps : (k : ℕ) (rows nodes values : List ℕ) (t : Turn) (ns vs : List ℕ) → Starts k rows nodes values t ns vs → (n p : ℕ) → t .answer ≡ Refused n p
-    → (t .state ≡ stateOf 0 0) × (ns ≡ nodes) × (vs ≡ values)
-start-keeps k rows nodes values t ns vs s n p q =
-    let r = start-refused k rows nodes values n p (start-answer k rows nodes values n p (sym (s .answer) ∙ q)) in
-    (s .state ∙ r .1, s .nodes-are ∙ r .2, s .values-are ∙ r .3)
+  -- "A refused start returns an all-zero state and writes nothing."
+  pub start-keeps : (n p : ℕ) → t .answer ≡ Refused n p → (t .state ≡ stateOf 0 0) × (ns ≡ nodes) × (vs ≡ values)
+  start-keeps n p q = starts-keeps k rows nodes values t ns vs s n p q
 
--- .. and to `event`: "An event is refused exactly where 01 says so."
-pub event-refuses : (rows : List ℕ) (m : Machine) (e : Event) (t : Turn) (ns vs ws : List ℕ) → Happens rows m e t ns vs ws → (n p : ℕ)
-    → (t .answer ≡ Refused n p) ↔ First (Sentence rows m e) n p
-event-refuses rows m e t ns vs ws h n p =
-    let d = Demands.event-refuses rows m e n p in
-    (λ q. d .0 (event-answer rows m e n p (sym (h .answer) ∙ q)), λ q. h .answer ∙ event-refused rows m e n p (d .1 q) .0)
+  -- A start that no sentence refuses is taken ..
+  pub start-takes : (t .answer ≡ Started) ↔ ((n p : ℕ) → StartSentence k rows nodes values n p → ⊥)
+  start-takes = starts-takes k rows nodes values t ns vs s
 
--- ".. leaves the tables as it says; a refused event gives the state back as it was."
-pub event-keeps : (rows : List ℕ) (m : Machine) (e : Event) (t : Turn) (ns vs ws : List ℕ) → Happens rows m e t ns vs ws → (n p : ℕ) → t .answer ≡ Refused n p
-    → (t .state ≡ m .state) × (ns ≡ m .nodes) × (vs ≡ m .values) × (ws ≡ cond (leb 4 n) (cleared (capacity (m .nodes)) (m .work)) (m .work))
-event-keeps rows m e t ns vs ws h n p q =
-    let r = event-refused rows m e n p (event-answer rows m e n p (sym (h .answer) ∙ q)) in
-    (h .state ∙ r .1, h .nodes-are ∙ r .2, h .values-are ∙ r .3, h .work-is ∙ r .4)
+  -- .. and "fills nodes and values with 0 and sets every reference to 0".
+  pub start-leaves : t .answer ≡ Started → (t .state ≡ stateOf k (rowCount rows)) × (ns ≡ replicate (length nodes) 0) × (vs ≡ replicate (length values) 0)
+  start-leaves q = starts-leaves k rows nodes values t ns vs s q
+
+  -- There is no other answer.
+  pub start-answers : (t .answer ≡ Started) ⊎ IsRefusal (t .answer)
+  start-answers = starts-answers k rows nodes values t ns vs s
+
+-- Demand 1, of `event`, and what demand 2 says of one event, for any state and any numbers whatever handed to it.
+module _ (rows : List ℕ) (m : Machine) (e : Event) (t : Turn) (ns vs ws : List ℕ) (h : Happens rows m e t ns vs ws) where
+  -- "An event is refused exactly where 01 says so" ..
+  pub event-refuses : (n p : ℕ) → (t .answer ≡ Refused n p) ↔ First (Sentence rows m e) n p
+  event-refuses n p = happens-refuses rows m e t ns vs ws h n p
+
+  -- ".. leaves the tables as it says; a refused event gives the state back as it was." "Work: untouched after 1 to 3; after 4 to 7 .. its
+  -- first W numbers are 0 and the rest untouched."
+  pub event-keeps : (n p : ℕ) → t .answer ≡ Refused n p
+      → (t .state ≡ m .state) × (ns ≡ m .nodes) × (vs ≡ m .values) × (ws ≡ cond (leb 4 n) (cleared (capacity (m .nodes)) (m .work)) (m .work))
+  event-keeps n p q = happens-keeps rows m e t ns vs ws h n p q
+
+  -- .. and an event that no sentence refuses is answered by a verdict.
+  pub event-takes : IsVerdict (t .answer) ↔ ((n p : ℕ) → Sentence rows m e n p → ⊥)
+  event-takes = happens-takes rows m e t ns vs ws h
+
+  -- There is no other answer.
+  pub event-answers : IsVerdict (t .answer) ⊎ IsRefusal (t .answer)
+  event-answers = happens-answers rows m e t ns vs ws h
+
+  -- "Promise for any well-formed state, from a fresh start or not: the functions shown by the diagrams go to those that one step of the
+  -- meaning gives, read over numbers." The new state is well formed, the verdict is the last row's, kept and room are 01's, and after
+  -- a verdict the work slice's "first W numbers are 0 and the rest untouched".
+  pub any-state : Arrays m → (y : Bool) (n r : ℕ) → t .answer ≡ Verdict y n r → Stepped rows m e y n r (machine (t .state) ns vs ws)
+  any-state a y n r q = happens-steps rows m e t ns vs ws h a y n r q
+
+  -- "Values past an event's count are ignored."
+  pub past-the-count : (f : Event) → SameEvent e f → Happens rows m f t ns vs ws
+  past-the-count f s = happens-alike rows m e t ns vs ws h f s
+
+  -- "room over C": with zeros behind the nodes of a well-formed state, and more room, the answer is the same, but where there was no room.
+  pub larger-table : WellFormed rows m → (d : ℕ) (work : List ℕ) → capacity (m .nodes) + d ≤ 4096 → workSize (capacity (m .nodes) + d) ≤ length work
+      → (u : Turn) (ns′ vs′ ws′ : List ℕ) → Happens rows (enlarged d work m) e u ns′ vs′ ws′ → (t .answer ≡ Refused 7 0) ⊎ (u .answer ≡ t .answer)
+  larger-table w d work most long u ns′ vs′ ws′ g = happens-larger rows m e t ns vs ws h w d work most long u ns′ vs′ ws′ g
 
 -- Demand 2. From a fresh start, whatever the tables held before it, and any events, each with the state and the tables as last left:
 module _ (k : ℕ) (rows nodes values : List ℕ) (m₀ : Machine) (fresh : Fresh k rows nodes values m₀) (es : List Event) (xs : List Answer) (m : Machine) (calls : Calls rows m₀ es xs m) where
-  started : startOutcome k rows nodes values .answer ≡ Started
-  started = fresh-started k rows nodes values m₀ fresh
+  -- "the set kept for each part of the rule [is] what the logic QTL says of the events taken so far": for every row and every assignment
+  -- the kept diagram says yes exactly if the row holds, at whatever numbers stand for the assignment's values. "An unassigned number
+  -- also stands for an unseen value."
+  pub kept-sets : (i : ℕ) → i < length (ruleOf rows) → (s : Bits) (a : Assignment) → Shows k (shows rows m .lists) s a
+      → (eval (getD (shows rows m .trees) i off) s ≡ true) ↔ Holds (log (takenIn es xs)) (formulaAt (ruleOf rows) i) (length (takenIn es xs)) a
+  kept-sets i h s a w = run-sets k rows nodes values m₀ fresh es xs m calls i h s a w
 
-  after-is : Demands.after k rows nodes values (m₀ .work) started es ≡ m
-  after-is = sym (calls-left rows es xs m₀ m calls .0 ∙ ap (λ (x : Machine). runs rows x es) (fresh-is k rows nodes values m₀ fresh))
+  -- ".. over all whole numbers, seen or not": every assignment has such numbers.
+  pub every-assignment : (a : Assignment) → Shows k (shows rows m .lists) (shown k (shows rows m .lists) a) a
+  every-assignment a = run-numbers k rows nodes values m₀ fresh es xs m calls a
 
-  facts-are : Demands.facts k rows nodes values (m₀ .work) started es ≡ takenIn es xs
-  facts-are =
-      ap (λ (x : Machine). takenOf rows x es) (sym (fresh-is k rows nodes values m₀ fresh)) ∙ sym (taken-are rows es m₀) ∙ ap (takenIn es) (sym (calls-left rows es xs m₀ m calls .1))
+  -- "after every event taken, the verdict": the next call, if it answers with a verdict of y, n kept nodes and room r. y is yes exactly if
+  -- the rule holds of the events taken so far, this one among them; n is the count of kept nodes, and r the room of document 01.
+  pub verdicts : (e : Event) (y : Bool) (n r : ℕ) (m′ : Machine) → Call rows m e (Verdict y n r) m′ → Answered rows m e y n r m′ (takenIn es xs)
+  verdicts e y n r m′ c = run-verdict k rows nodes values m₀ fresh es xs m calls e y n r m′ c
 
-  -- "the set kept for each part of the rule [is] what the logic QTL says of the events taken so far, over all whole numbers, seen or not"
-  pub kept-sets : (i : ℕ) → i < length (ruleOf rows) → (a : Assignment)
-      → (eval (getD (shows rows m .trees) i off) (shown k (shows rows m .lists) a) ≡ true) ↔ Holds (log (takenIn es xs)) (formulaAt (ruleOf rows) i) (length (takenIn es xs)) a
-  kept-sets i h a = rw (after-is, facts-are) at (Demands.kept-sets k rows nodes values (m₀ .work) started es i h a)
+-- "Take the same rule and events from a fresh start, same k, and a larger C: up to the first refusal of the smaller, both answer alike."
+pub larger-runs : (k : ℕ) (rows nodes values nodes′ values′ : List ℕ) (m₀ n₀ : Machine) → Fresh k rows nodes values m₀ → Fresh k rows nodes′ values′ n₀
+    → (d : ℕ) → length nodes′ ≡ length nodes + 3 * d → workSize (capacity nodes′) ≤ length (n₀ .work)
+    → (es : List Event) (xs ys : List Answer) (m n : Machine) → Calls rows m₀ es xs m → Calls rows n₀ es ys n → AllTaken xs → ys ≡ xs
+larger-runs k rows nodes values nodes′ values′ m₀ n₀ a b d more long = runs-alike k rows nodes values nodes′ values′ m₀ n₀ a b d more long
 
-  -- "after every event taken, the verdict": the next call, if it answers with a verdict
-  pub verdicts : (e : Event) (y : Bool) (n r : ℕ) (m′ : Machine) → Call rows m e (Verdict y n r) m′ → (a : Assignment)
-      → (y ≡ true) ↔ Holds (log (takenIn es xs ++ factOf e ∷ [])) (formulaAt (ruleOf rows) (length (ruleOf rows) - 1)) (suc (length (takenIn es xs))) a
-  verdicts e y n r m′ c a =
-      rw facts-are at
-      (Demands.verdicts k rows nodes values (m₀ .work) started es e y n r (ap (λ (x : Machine). eventOutcome rows x e .answer) after-is ∙ sym (c .answer)) .verdict a)
+-- "With a larger k, wherever both have taken the same events their verdicts agree."
+pub other-k : (k k′ : ℕ) (rows nodes values nodes′ values′ : List ℕ) (m₀ n₀ : Machine) → Fresh k rows nodes values m₀ → Fresh k′ rows nodes′ values′ n₀
+    → (es fs : List Event) (xs ys : List Answer) (m n : Machine) → Calls rows m₀ es xs m → Calls rows n₀ fs ys n → takenIn fs ys ≡ takenIn es xs
+    → (e f : Event) → factOf f ≡ factOf e → (y z : Bool) (i r j s : ℕ) (m′ n′ : Machine) → Call rows m e (Verdict y i r) m′ → Call rows n f (Verdict z j s) n′ → z ≡ y
+other-k = same-verdict
 
 -- Demand 3. "Disguised logs: rename values one to one, each constant of the rule to itself and nothing else to a constant. From a fresh start,
--- with the same rule and table sizes ..":
+-- with the same rule and table sizes ..", whatever the values past an event's count:
 module _ (k : ℕ) (rows nodes values nodes′ values′ : List ℕ) (m₀ n₀ : Machine) (plain : Fresh k rows nodes values m₀) (hidden : Fresh k rows nodes′ values′ n₀)
     (same-nodes : length nodes′ ≡ length nodes) (same-values : length values′ ≡ length values) (same-work : length (n₀ .work) ≡ length (m₀ .work))
-    (es : List Event) (π : ℕ → ℕ) (d : Disguise (ruleOf rows) es π) (xs ys : List Answer) (m n : Machine)
-    (plain-calls : Calls rows m₀ es xs m) (hidden-calls : Calls rows n₀ (map (disguised π) es) ys n) where
+    (es fs : List Event) (π : ℕ → ℕ) (xs ys : List Answer) (m n : Machine) (plain-calls : Calls rows m₀ es xs m) (hidden-calls : Calls rows n₀ fs ys n) where
   -- ".. both logs give, event by event, the same refusals, counts .. and verdicts" ..
-  pub same-answers : ys ≡ xs
-  same-answers =
-      calls-left rows (map (disguised π) es) ys n₀ n hidden-calls .1 ∙ ap (λ (x : Machine). answers rows x (map (disguised π) es)) (fresh-is k rows nodes′ values′ n₀ hidden)
-      ∙ Demands.same-answers k rows nodes values (m₀ .work) nodes′ values′ (n₀ .work) (fresh-started k rows nodes values m₀ plain) same-nodes same-values same-work es π d
-      ∙ ap (λ (x : Machine). answers rows x es) (sym (fresh-is k rows nodes values m₀ plain)) ∙ sym (calls-left rows es xs m₀ m plain-calls .1)
+  pub same-answers : Disguise (ruleOf rows) es π → DisguisedLog π es fs → ys ≡ xs
+  same-answers = both-answer k rows nodes values nodes′ values′ m₀ n₀ plain hidden same-nodes same-values same-work es fs π xs ys m n plain-calls hidden-calls
 
   -- ".. the same .. diagrams", and "The value lists differ only by the disguise".
-  pub same-tables : Alike π rows m n
-  same-tables =
-      let l = calls-left rows es xs m₀ m plain-calls .0 ∙ ap (λ (x : Machine). runs rows x es) (fresh-is k rows nodes values m₀ plain) in
-      let r = calls-left rows (map (disguised π) es) ys n₀ n hidden-calls .0 ∙ ap (λ (x : Machine). runs rows x (map (disguised π) es)) (fresh-is k rows nodes′ values′ n₀ hidden) in
-      rw (l, r) (Demands.same-tables k rows nodes values (m₀ .work) nodes′ values′ (n₀ .work) (fresh-started k rows nodes values m₀ plain) same-nodes same-values same-work es π d)
+  pub same-tables : Disguise (ruleOf rows) es π → DisguisedLog π es fs → Alike π rows m n
+  same-tables = both-alike k rows nodes values nodes′ values′ m₀ n₀ plain hidden same-nodes same-values same-work es fs π xs ys m n plain-calls hidden-calls
 
--- ".. and those verdicts are QTL's for the undisguised events taken": one more event after any disguised log.
-pub hidden-verdicts : (k : ℕ) (rows nodes values nodes′ values′ : List ℕ) (m₀ n₀ : Machine) → Fresh k rows nodes values m₀ → Fresh k rows nodes′ values′ n₀
-    → length nodes′ ≡ length nodes → length values′ ≡ length values → length (n₀ .work) ≡ length (m₀ .work)
-    → (es : List Event) (e : Event) (π : ℕ → ℕ) → Disguise (ruleOf rows) (es ++ e ∷ []) π
-    → (xs ys : List Answer) (m n n′ : Machine) → Calls rows m₀ es xs m → Calls rows n₀ (map (disguised π) es) ys n
-    → (y : Bool) (i r : ℕ) → Call rows n (disguised π e) (Verdict y i r) n′
-    → (a : Assignment) → (y ≡ true) ↔ Holds (log (takenIn es xs ++ factOf e ∷ [])) (formulaAt (ruleOf rows) (length (ruleOf rows) - 1)) (suc (length (takenIn es xs))) a
-hidden-verdicts k rows nodes values nodes′ values′ m₀ n₀ plain hidden sn sv sw es e π d xs ys m n n′ c c′ y i r q a =
-    let l = calls-left rows (map (disguised π) es) ys n₀ n c′ .0 ∙ ap (λ (x : Machine). runs rows x (map (disguised π) es)) (fresh-is k rows nodes′ values′ n₀ hidden) in
-    rw (facts-are k rows nodes values m₀ plain es xs m c) at
-    (Demands.hidden-verdicts k rows nodes values (m₀ .work) nodes′ values′ (n₀ .work) (fresh-started k rows nodes values m₀ plain) sn sv sw es e π d y i r
-    (ap (λ (x : Machine). eventOutcome rows x (disguised π e) .answer) (sym l) ∙ sym (q .answer)) a)
+  -- ".. and those verdicts are QTL's for the undisguised events taken": one more event after any disguised log.
+  pub hidden-verdicts : (e f : Event) → Disguise (ruleOf rows) (es ++ e ∷ []) π → DisguisedLog π es fs → Disguised π e f → (n′ : Machine) (y : Bool) (i r : ℕ) → Call rows n f (Verdict y i r) n′
+      → (a : Assignment) → (y ≡ true) ↔ Holds (log (takenIn es xs ++ factOf e ∷ [])) (formulaAt (ruleOf rows) (length (ruleOf rows) - 1)) (suc (length (takenIn es xs))) a
+  hidden-verdicts = hidden-verdict k rows nodes values nodes′ values′ m₀ n₀ plain hidden same-nodes same-values same-work es fs π xs ys m n plain-calls hidden-calls

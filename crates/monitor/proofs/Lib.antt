@@ -10,4 +10,7 @@ pub mod SaidLaws
 pub mod EventLaws
 pub mod WorkedLaws
 pub mod RunLaws
+pub mod AnsweredLaws
+pub mod FreshRuns
+pub mod LargerRuns
 pub mod Demands

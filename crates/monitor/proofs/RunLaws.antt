@@ -56,7 +56,7 @@ unfolding machineOf
 fresh-is k rows nodes values m f = λ i. record { state = f .state i; nodes = f .nodes-are i; values = f .values-are i; work = m .work }
 
 -- what a call left and answered
-call-left : (rows : List ℕ) (m n : Machine) (e : Event) (a : Answer) → Call rows m e a n → n ≡ eventOutcome rows m e .left
+pub call-left : (rows : List ℕ) (m n : Machine) (e : Event) (a : Answer) → Call rows m e a n → n ≡ eventOutcome rows m e .left
 call-left rows m n e a c = λ i. record { state = c .state i; nodes = c .nodes-are i; values = c .values-are i; work = c .work-is i }
 
 -- what a run of calls left and answered

@@ -15,12 +15,12 @@ use Rattle.meaning.specs.Rows.{Row, truth, ruleOf, rowCount, firstBelow, right,
 use Rattle.meaning.specs.Numbering.{askRows}
 use Rattle.meaning.specs.Step.{Shown, step, roomOf}
 use Rattle.meaning.specs.Tables.{most, read, keptTable, freeLevel, wellFormed}
-use Rattle.meaning.specs.Outcome.{kRight, capacity, nodesRight, valuesRight, workSize, factOf, shortest, Machine, shows}
+use Rattle.meaning.specs.Outcome.{kRight, capacity, nodesRight, valuesRight, workSize, factOf, shortest, Machine, Arrays, shows}
 use Rattle.meaning.proofs.RowsLaws.{checked, rows-length, first-none}
 use Rattle.meaning.proofs.ProperLaws.{Proper, kept-is}
 use Rattle.meaning.proofs.Simulation.{Enough}
 use Rattle.meaning.proofs.RunLaws.{positive, few}
-use Rattle.meaning.proofs.AnyState.{Arrays, laid-formed}
+use Rattle.meaning.proofs.AnyState.{laid-formed}
 use Rattle.rule.specs.Checking.{Free}
 use Rattle.diagram.specs.declared.Instruction.{Instruction}
 use Rattle.diagram.specs.declared.Instruction.the-variants.{Yes}

@@ -1,12 +1,21 @@
 -- What the calls of the monitor promise, for all input. Assumes nothing: these are definitions.
 use Prim.Native.Nat.{ℕ}
 use mathlib.Core.Path.{_≡_}
+use mathlib.Core.Bool.{Bool}
 use mathlib.Core.List.{List}
 use Rattle.meaning.specs.declared.State.{State}
 use Rattle.meaning.specs.declared.Event.{Event}
 use Rattle.meaning.specs.declared.Turn.{Turn}
-use Rattle.meaning.specs.declared.Answer.the-variants.{Started, Refused}
+use Rattle.meaning.specs.declared.Answer.{Answer}
+use Rattle.meaning.specs.declared.Answer.the-variants.{Started, Verdict, Refused}
 use Rattle.meaning.specs.Outcome.{stateOf, startOutcome, Machine, eventOutcome}
+
+-- an answer that is a verdict, and one that is a refusal
+abbrev pub IsVerdict : Answer → Type 0
+IsVerdict a = (y : Bool) × (n : ℕ) × (r : ℕ) × (a ≡ Verdict y n r)
+
+abbrev pub IsRefusal : Answer → Type 0
+IsRefusal a = (n : ℕ) × (p : ℕ) × (a ≡ Refused n p)
 
 -- the turn of a refused start: "A refused start returns an all-zero state"
 unfoldable pub refusedTurn : ℕ → ℕ → Turn

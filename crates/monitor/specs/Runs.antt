@@ -8,7 +8,7 @@ use Rattle.meaning.specs.declared.Answer.{Answer}
 use Rattle.meaning.specs.declared.Answer.the-variants.{Started, Verdict, Refused}
 use Rattle.meaning.specs.Qtl.{Fact}
 use Rattle.meaning.specs.Outcome.{factOf, Machine}
-use Rattle.monitor.specs.Calls.{Starts, Happens}
+use Rattle.monitor.specs.Calls.{IsVerdict, Starts, Happens}
 
 -- a start that is taken left m; the work slice is none of its business
 abbrev pub Fresh : ℕ → List ℕ → List ℕ → List ℕ → Machine → Type 0
@@ -32,3 +32,8 @@ takenIn (e ∷ es) [] = []
 takenIn (e ∷ es) (Started ∷ xs) = takenIn es xs
 takenIn (e ∷ es) (Verdict y n r ∷ xs) = factOf e ∷ takenIn es xs
 takenIn (e ∷ es) (Refused n p ∷ xs) = takenIn es xs
+
+-- every answer is a verdict: every event was taken
+unfoldable pub AllTaken : List Answer → Type 0
+AllTaken [] = Unit {0}
+AllTaken (a ∷ xs) = IsVerdict a × AllTaken xs

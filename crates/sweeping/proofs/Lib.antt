@@ -4,3 +4,4 @@ pub mod SweepLaws
 pub mod RowsLaws
 pub mod CopyLaws
 pub mod Visited
+pub mod OneOutcome
