@@ -9,8 +9,3 @@ pub mod WorkLaws
 pub mod SaidLaws
 pub mod EventLaws
 pub mod WorkedLaws
-pub mod RunLaws
-pub mod AnsweredLaws
-pub mod FreshRuns
-pub mod LargerRuns
-pub mod Demands

@@ -15,8 +15,8 @@ use Rattle.meaning.specs.Outcome.{capacity, workSize, cleared, SameEvent, Decis
 use Rattle.meaning.specs.Refusals.{StartSentence, Sentence, First}
 use Rattle.meaning.specs.Verdicts.{Stepped}
 use Rattle.meaning.proofs.Demands
 use Rattle.monitor.specs.Calls.{IsVerdict, IsRefusal, Starts, machine, Happens}
-use Rattle.monitor.proofs.RunLaws.{start-answer, start-refused, event-answer, event-refused}
+use Rattle.demands.proofs.RunLaws.{start-answer, start-refused, event-answer, event-refused}
 
 -- a start answers by what was decided
 module _ (k : ℕ) (rows nodes values : List ℕ) where

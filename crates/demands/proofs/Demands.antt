@@ -20,11 +20,11 @@ use Rattle.meaning.specs.Outcome.{capacity, workSize, cleared, factOf, SameEven
 use Rattle.meaning.specs.Refusals.{StartSentence, Sentence, First}
 use Rattle.meaning.specs.Verdicts.{Stepped, Answered}
 use Rattle.meaning.specs.Disguise.{Disguise, Disguised, DisguisedLog, Alike}
 use Rattle.monitor.specs.Calls.{IsVerdict, IsRefusal, Starts, machine, Happens}
 use Rattle.monitor.specs.Runs.{Fresh, Call, Calls, takenIn, AllTaken}
-use Rattle.monitor.proofs.AnsweredLaws.{starts-refuses, starts-keeps, starts-takes, starts-leaves, starts-answers, happens-refuses, happens-keeps, happens-takes, happens-answers, happens-steps, happens-alike, happens-larger}
-use Rattle.monitor.proofs.LargerRuns.{runs-alike}
-use Rattle.monitor.proofs.FreshRuns.{run-sets, run-numbers, run-verdict, same-verdict, both-answer, both-alike, hidden-verdict}
+use Rattle.demands.proofs.AnsweredLaws.{starts-refuses, starts-keeps, starts-takes, starts-leaves, starts-answers, happens-refuses, happens-keeps, happens-takes, happens-answers, happens-steps, happens-alike, happens-larger}
+use Rattle.demands.proofs.LargerRuns.{runs-alike}
+use Rattle.demands.proofs.FreshRuns.{run-sets, run-numbers, run-verdict, same-verdict, both-answer, both-alike, hidden-verdict}
 
 -- Demand 1, of `start`, for any numbers whatever handed to it, and what it then answers and leaves.
 module _ (k : ℕ) (rows nodes values : List ℕ) (t : Turn) (ns vs : List ℕ) (s : Starts k rows nodes values t ns vs) where

@@ -19,8 +19,8 @@ use Rattle.meaning.specs.Verdicts.{Answered}
 use Rattle.meaning.specs.Disguise.{Disguise, Disguised, DisguisedLog, Alike}
 use Rattle.meaning.proofs.FromStart.{after, facts}
 use Rattle.meaning.proofs.Demands
 use Rattle.monitor.specs.Runs.{Fresh, Call, Calls, takenIn}
-use Rattle.monitor.proofs.RunLaws.{fresh-started, fresh-is, call-left, calls-left, taken-are}
+use Rattle.demands.proofs.RunLaws.{fresh-started, fresh-is, call-left, calls-left, taken-are}
 
 module _ (k : ℕ) (rows nodes values : List ℕ) (m₀ : Machine) (fresh : Fresh k rows nodes values m₀) (es : List Event) (xs : List Answer) (m : Machine) (calls : Calls rows m₀ es xs m) where
   started : startOutcome k rows nodes values .answer ≡ Started

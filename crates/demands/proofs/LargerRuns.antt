@@ -23,10 +23,10 @@ use Rattle.meaning.proofs.StartLaws.{zeros, zeros-add}
 use Rattle.meaning.proofs.RunLaws.{few, Laid, C-is, laid-on, Begun, begun}
 use Rattle.meaning.proofs.AnyState.{passed, laid-of}
 use Rattle.meaning.proofs.LargerTable.{large-answers, large-left}
 use Rattle.monitor.specs.Calls.{IsVerdict}
 use Rattle.monitor.specs.Runs.{Fresh, Call, Calls, AllTaken}
-use Rattle.monitor.proofs.RunLaws.{fresh-started, call-left}
-use Rattle.monitor.proofs.AnsweredLaws.{verdict-taken, starts-leaves}
+use Rattle.demands.proofs.RunLaws.{fresh-started, call-left}
+use Rattle.demands.proofs.AnsweredLaws.{verdict-taken, starts-leaves}
 
 state-arrays : (k : ℕ) (s : Shown) → length (s .trees) ≤ 64 → (length (layState k s .counts) ≡ 4) × (length (layState k s .refs) ≡ 64)
 unfolding layState

@@ -1,0 +1,1 @@
+-- No definitions of its own: what the demands speak of stands in the specs of `meaning` and `monitor`.
