@@ -16,11 +16,11 @@ use Rattle.meaning.specs.declared.State.{State}
 use Rattle.meaning.specs.Rows.{Row, Found, right, fault, ruleOf, checkRows}
 use Rattle.meaning.specs.Step.{Shown, step}
 use Rattle.meaning.specs.Tables.{most, keptTable, padded, layState, layNodes, layValues, wellFormed}
-use Rattle.meaning.specs.Outcome.{kRight, capacity, nodesRight, valuesRight, workSize, cleared, factOf, Decision, taken, refused, judgeStart, judgeEvent, Machine, shows, decideEvent, settleEvent, eventOutcome}
+use Rattle.meaning.specs.Outcome.{Arrays, kRight, capacity, nodesRight, valuesRight, workSize, cleared, factOf, Decision, taken, refused, judgeStart, judgeEvent, Machine, shows, decideEvent, settleEvent, eventOutcome}
 use Rattle.meaning.proofs.PartsLaws.{padded-length}
 use Rattle.meaning.proofs.ProperLaws.{Proper}
 use Rattle.meaning.proofs.RunLaws.{start-taken, few, Laid, laid-on}
-use Rattle.meaning.proofs.AnyState.{Arrays, passed, laid-of}
+use Rattle.meaning.proofs.AnyState.{passed, laid-of}
 
 -- the node slice that is laid out
 nodes-length : (k C : ℕ) (rule : List Row) (s : Shown) → Proper k C rule s → length (layNodes C s) ≡ 3 * C
