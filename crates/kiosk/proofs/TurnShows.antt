@@ -2,12 +2,12 @@
 use Prim.Native.Nat.{ℕ, zero, suc, _+_, _-_, _*_, _^_, _≤_, _<_}
 use native.Mathlib.Omega.{arith}
 use mathlib.Core.Path.{_≡_, refl, sym, ap, subst, _∙_}
-use mathlib.Core.Bool.{Bool, true, false, cond, _&&_, and-false}
+use mathlib.Core.Bool.{Bool, true, false}
 use mathlib.Core.List.{List, [], _∷_, _++_, append-assoc, append-nil}
 use lib.Dec.{ltb, leb}
 use lib.ListN.{length, take, drop, replicate, length-append, length-drop, length-replicate, replicate-append-replicate}
 use lib.Seq.{length-take-le, take-at}
-use borrow.Author.Tests.{ltb-true, ltb-false, le-ltb, lt-leb}
+use borrow.Author.Tests.{ltb-true, ltb-false}
 use Rattle.meaning.specs.declared.Event.{Event}
 use Rattle.meaning.specs.declared.Answer.{Answer}
 use Rattle.meaning.specs.declared.Answer.the-variants.{Started, Verdict, Refused}
@@ -16,7 +16,7 @@ use Rattle.meaning.specs.Tables.{most}
 use Rattle.meaning.specs.Outcome.{kRight, nodesRight, valuesRight, workSize, Decision, taken, refused, judgeStart, decideStart, stateOf, settleStart, StartOutcome, startOutcome, Machine, machineOf, EventOutcome, eventOutcome}
 use Rattle.monitor.specs.Calls.{machine}
 use Rattle.answers.specs.Answers.{headed, answerLine, saidLine, toldLines}
-use Rattle.transcript.specs.Output.{Stand, judging, Reply, startReply, begins, judged}
+use Rattle.transcript.specs.Output.{Stand, judging, Reply, startReply, valuesAsked, begins, judged}
 use Rattle.transcript.proofs.LengthLaws.{Keeps, event-keeps}
 use Rattle.session.specs.declared.Part.{Part}
 use Rattle.session.specs.declared.Part.the-variants.{First, Rows, Events, Over}
@@ -62,18 +62,10 @@ start-arrays k rows nodes values = go (decideStart k rows nodes values)
     go taken = (refl, refl)
     go (refused n p) = (refl, refl)
 
--- a k past 10 is refused before anything else is looked at
-start-high : (k : ℕ) (rows nodes values : List ℕ) → 10 < k → startOutcome k rows nodes values .answer ≡ Refused 1 0
-unfolding startOutcome decideStart judgeStart settleStart
-start-high k rows nodes values h = rw (high k h)
-  where
-    high : (k : ℕ) → 10 < k → kRight k ≡ false
-    high k h = unfold kRight in rw (lt-leb k 10 h) (and-false (ltb 0 k))
-
 -- the value slice has the length that k asks for
-listed-is : (k : ℕ) → k ≤ 10 → listedOf k ≡ 4 * most k
-unfolding listedOf most
-listed-is k h = rw (le-ltb 10 k h)
+listed-is : (k : ℕ) → listedOf k ≡ valuesAsked k
+unfolding listedOf valuesAsked most
+listed-is k = refl
 
 listed-few : (k : ℕ) → listedOf k ≤ 4092
 listed-few k = go (ltb 10 k) refl
@@ -157,24 +149,11 @@ module _ (s : Session) (rows nodes values work : List ℕ) (h : Sound s) (t : Ta
     start-same : startReply (s .c) (take (s .rows) rows) (started s rows nodes values) (started s rows nodes values .answer)
         ≡ startReply (s .c) (take (s .rows) rows) (begins (s .k) (s .c) (take (s .rows) rows)) (begins (s .k) (s .c) (take (s .rows) rows) .answer)
     unfolding started begins
-    start-same = go (ltb 10 (s .k)) refl
-      where
-        go : (q : Bool) → ltb 10 (s .k) ≡ q
-            → startReply (s .c) (take (s .rows) rows) (started s rows nodes values) (started s rows nodes values .answer)
-            ≡ startReply (s .c) (take (s .rows) rows) (begins (s .k) (s .c) (take (s .rows) rows)) (begins (s .k) (s .c) (take (s .rows) rows) .answer)
-        go true e =
-            let past : 10 < s .k = ltb-true 10 (s .k) e in
-            ap (startReply (s .c) (take (s .rows) rows) (started s rows nodes values)) (start-high (s .k) (take (s .rows) rows) (take (3 * s .c) nodes) (take (listedOf (s .k)) values) past)
-            ∙ refused-alike (started s rows nodes values) (begins (s .k) (s .c) (take (s .rows) rows))
-            ∙ sym (ap (startReply (s .c) (take (s .rows) rows) (begins (s .k) (s .c) (take (s .rows) rows))) (start-high (s .k) (take (s .rows) rows) (replicate (3 * s .c) 0) (replicate (4 * most (s .k)) 0) past))
-          where
-            refused-alike : (o u : StartOutcome) → startReply (s .c) (take (s .rows) rows) o (Refused 1 0) ≡ startReply (s .c) (take (s .rows) rows) u (Refused 1 0)
-            refused-alike o u = unfold startReply in refl
-        go false e =
-            let n : take (3 * s .c) nodes ≡ replicate (3 * s .c) 0 = ap (take (3 * s .c)) (d .1) ∙ take-zeros (3 * s .c) 1536 (omega (arith, h .nodes-few)) in
-            let v : take (listedOf (s .k)) values ≡ replicate (4 * most (s .k)) 0 =
-            ap (take (listedOf (s .k))) (d .2) ∙ take-zeros (listedOf (s .k)) 4092 (listed-few (s .k)) ∙ ap (λ (m : ℕ). replicate m 0) (listed-is (s .k) (ltb-false 10 (s .k) e)) in
-            λ i. startReply (s .c) (take (s .rows) rows) (startOutcome (s .k) (take (s .rows) rows) (n i) (v i)) (startOutcome (s .k) (take (s .rows) rows) (n i) (v i) .answer)
+    start-same =
+        let n : take (3 * s .c) nodes ≡ replicate (3 * s .c) 0 = ap (take (3 * s .c)) (d .1) ∙ take-zeros (3 * s .c) 1536 (omega (arith, h .nodes-few)) in
+        let v : take (listedOf (s .k)) values ≡ replicate (valuesAsked (s .k)) 0 =
+        ap (take (listedOf (s .k))) (d .2) ∙ take-zeros (listedOf (s .k)) 4092 (listed-few (s .k)) ∙ ap (λ (m : ℕ). replicate m 0) (listed-is (s .k)) in
+        λ i. startReply (s .c) (take (s .rows) rows) (startOutcome (s .k) (take (s .rows) rows) (n i) (v i)) (startOutcome (s .k) (take (s .rows) rows) (n i) (v i) .answer)
 
     pub begin-shows : Replies (beginLeft s (started s rows nodes values) nodes values .after) rows (beginLeft s (started s rows nodes values) nodes values .nodes) (beginLeft s (started s rows nodes values) nodes values .values) work
         (startReply (s .c) (take (s .rows) rows) (begins (s .k) (s .c) (take (s .rows) rows)) (begins (s .k) (s .c) (take (s .rows) rows) .answer))

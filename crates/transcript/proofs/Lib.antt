@@ -4,3 +4,4 @@ pub mod ReadingLaws
 pub mod ByteLaws
 pub mod LengthLaws
 pub mod Listing
+pub mod Limits
