@@ -1,30 +1,28 @@
 -- A start and an event on the parts of the tables that the sizes ask for leave what shows the run after them. Assumes nothing.
-use Prim.Native.Nat.{ℕ, zero, suc, _+_, _-_, _*_, _^_, _≤_, _<_}
+use Prim.Native.Nat.{ℕ, zero, _+_, _-_, _*_, _≤_}
 use native.Mathlib.Omega.{arith}
 use mathlib.Core.Path.{_≡_, refl, sym, ap, subst, _∙_}
 use mathlib.Core.Bool.{Bool, true, false}
-use mathlib.Core.List.{List, [], _∷_, _++_, append-assoc, append-nil}
-use lib.Dec.{ltb, leb}
+use mathlib.Core.List.{List, _++_, append-nil}
+use lib.Dec.{ltb}
 use lib.ListN.{length, take, drop, replicate, length-append, length-drop, length-replicate, replicate-append-replicate}
 use lib.Seq.{length-take-le, take-at}
 use borrow.Author.Tests.{ltb-true, ltb-false}
 use Rattle.meaning.specs.declared.Event.{Event}
 use Rattle.meaning.specs.declared.Answer.{Answer}
 use Rattle.meaning.specs.declared.Answer.the-variants.{Started, Verdict, Refused}
-use Rattle.meaning.specs.Rows.{rowCount, checkRows}
+use Rattle.meaning.specs.Rows.{rowCount}
 use Rattle.meaning.specs.Tables.{most}
-use Rattle.meaning.specs.Outcome.{kRight, nodesRight, valuesRight, workSize, Decision, taken, refused, judgeStart, decideStart, stateOf, settleStart, StartOutcome, startOutcome, Machine, machineOf, EventOutcome, eventOutcome}
+use Rattle.meaning.specs.Outcome.{workSize, Decision, taken, refused, decideStart, stateOf, settleStart, startOutcome, machineOf, EventOutcome, eventOutcome}
 use Rattle.monitor.specs.Calls.{machine}
-use Rattle.answers.specs.Answers.{headed, answerLine, saidLine, toldLines}
-use Rattle.transcript.specs.Output.{Stand, judging, Reply, startReply, valuesAsked, begins, judged}
+use Rattle.answers.specs.Answers.{headed, saidLine, toldLines}
+use Rattle.transcript.specs.Output.{judging, Reply, startReply, valuesAsked, begins, judged}
 use Rattle.transcript.proofs.LengthLaws.{Keeps, event-keeps}
-use Rattle.session.specs.declared.Part.{Part}
-use Rattle.session.specs.declared.Part.the-variants.{First, Rows, Events, Over}
+use Rattle.session.specs.declared.Part.the-variants.{Events}
 use Rattle.session.specs.declared.Session.{Session}
-use Rattle.session.specs.declared.After.{After}
 use Rattle.session.specs.Sessions as session
 use Rattle.session.specs.Sessions.{Sound, Tables, listedOf}
-use Rattle.session.specs.Lefts.{turnedTo, saying, started, begunAs, beginLeft, happenLeft, happened}
+use Rattle.session.specs.Lefts.{started, begunAs, beginLeft, happenLeft, happened}
 use Rattle.session.proofs.SessionLaws.{listed-none, listed-entry}
 use Rattle.kiosk.proofs.ShowLaws.{standAs, Due, Shows, Replies, turned-over}
 

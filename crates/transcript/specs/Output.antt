@@ -1,7 +1,7 @@
 -- What the program prints for an input, whatever its bytes: line after line, by the format of a line and by the outcomes of start and event.
 -- Nothing here knows of blocks or buffers. Assumes nothing: these are definitions.
 use Prim.Native.Nat.{ℕ, _+_, _*_}
-use mathlib.Core.Bool.{Bool, true, false, cond}
+use mathlib.Core.Bool.{cond}
 use mathlib.Core.List.{List, [], _∷_, _++_}
 use lib.Dec.{eqb, ltb, leb}
 use lib.ListN.{length, replicate}
