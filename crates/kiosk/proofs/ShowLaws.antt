@@ -3,7 +3,7 @@ use Prim.Native.Nat.{ℕ, _+_, _-_, _*_, _≤_, _<_}
 use native.Mathlib.Omega.{arith}
 use mathlib.Core.Path.{_≡_, refl, sym, ap, _∙_}
 use mathlib.Core.Bool.{Bool, true, false}
-use mathlib.Core.List.{List, [], _++_, append-assoc}
+use mathlib.Core.List.{List, _++_, append-assoc}
 use lib.Dec.{ltb}
 use lib.ListN.{length, take, drop, replicate, length-append, length-drop}
 use lib.Seq.{length-take-le, take-at}
@@ -16,7 +16,7 @@ use Rattle.session.specs.declared.Session.{Session}
 use Rattle.session.specs.declared.After.{After}
 use Rattle.session.specs.Sessions as session
 use Rattle.session.specs.Sessions.{Sound, Tables}
-use Rattle.session.specs.Lefts.{turnedTo, quietOf, badAs, sizesAs, rowAs}
+use Rattle.session.specs.Lefts.{turnedTo, badAs, sizesAs, rowAs}
 
 -- the stand of a session and its tables, by the part
 unfoldable pub standAs : Part → Session → List ℕ → List ℕ → List ℕ → List ℕ → Stand
@@ -48,11 +48,6 @@ pub record Replies (r : After) (rows nodes values work : List ℕ) (y : Reply) :
 over-shows : (s : Session) (rows nodes values work : List ℕ) → s .part ≡ Over → Sound s → Tables rows nodes values work → Shows s rows nodes values work ended
 unfolding standAs Due
 over-shows s rows nodes values work e h t = record { stand-is = rw e; sound = h; tables = t; rest = rw e tt }
-
--- nothing is told
-quiet-told : (s : Session) → toldLines (quietOf s .told) ≡ []
-unfolding toldLines saidLine
-quiet-told s = refl
 
 module _ (s : Session) (rows nodes values work : List ℕ) (h : Sound s) (t : Tables rows nodes values work) where
   pub turned-over : Shows (turnedTo s Over) rows nodes values work ended
