@@ -2,15 +2,14 @@
 use Prim.Native.Nat.{ℕ, suc, _+_, _-_, _≤_, _<_}
 use native.Mathlib.Omega.{arith}
 use native.Mathlib.Numerals.{add-one}
-use mathlib.Core.Path.{_≡_, refl, sym, ap, subst, _∙_}
+use mathlib.Core.Path.{_≡_, refl, sym, ap, _∙_}
 use mathlib.Core.Bool.{Bool, true, false}
-use mathlib.Core.List.{List, [], _∷_, _++_}
+use mathlib.Core.List.{List, [], _∷_}
 use lib.Dec.{eqb, ltb}
-use lib.ListN.{length, take, drop, getD, length-take}
+use lib.ListN.{length, take, drop, getD}
 use lib.Seq.{slice, slice-empty, slice-cons, length-slice, length-take-le, take-length, take-add, take-take, drop-at}
 use borrow.Author.Tests.{ltb-true, ltb-false, lt-ltb, le-ltb, eq-eqb, ne-eqb}
 use Rattle.feed.specs.Feeds.{holding, holdBytes, before, Passed}
-use Rattle.feed.specs.declared.Piece.{Piece}
 
 -- there are no more bytes before the line end than there are
 pub before-few : (bytes : List ℕ) → before bytes ≤ length bytes

@@ -1,5 +1,5 @@
 -- What is held of a line is its first 101 bytes. Assumes nothing.
-use Prim.Native.Nat.{ℕ, suc, _+_, min, _≤_, _<_}
+use Prim.Native.Nat.{ℕ, _+_, min, _≤_, _<_}
 use native.Mathlib.Omega.{arith}
 use native.Mathlib.Numerals.{add-one}
 use mathlib.Core.Path.{_≡_, refl, sym, ap, subst, _∙_}
@@ -57,7 +57,3 @@ fronts-more h bytes b p = go (ltb (h .count) 101) refl
 -- the line is read by what is held of it
 pub fronts-read : (h : Held) (bytes : List ℕ) (l : Line) → Fronts h bytes → Reads (take (h .count) (h .line)) l → Reads bytes l
 fronts-read h bytes l p r = held-reads bytes l (subst (λ (bs : List ℕ). Reads bs l) (p .front) r)
-
--- nothing is held of a line exactly if nothing of it has come
-pub fronts-some : (h : Held) (b : ℕ) (bytes : List ℕ) → Fronts h (b ∷ bytes) → 0 < h .count
-fronts-some h b bytes p = omega (arith, p .count-is)

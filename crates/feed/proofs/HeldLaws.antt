@@ -1,6 +1,6 @@
 -- What is held of a line, byte by byte; and a line is read right by its first 101 bytes, since no right line is longer than 100: a longer one is
 -- bad, and so is what is held of it. Assumes nothing.
-use Prim.Native.Nat.{ℕ, suc, _+_, _≤_, _<_}
+use Prim.Native.Nat.{ℕ, _+_, _≤_, _<_}
 use native.Mathlib.Omega.{arith}
 use native.Mathlib.Numerals.{add-one}
 use mathlib.Core.Path.{_≡_, refl, sym, ap, subst, _∙_}

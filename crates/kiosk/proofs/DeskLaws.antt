@@ -1,24 +1,22 @@
 -- A desk shows a run in the middle of a line, and each byte leaves a desk that shows the run after it. Assumes nothing.
 use Prim.Native.Nat.{ℕ, _≤_, _<_}
 use native.Mathlib.Omega.{arith}
-use mathlib.Core.Path.{_≡_, refl, sym, ap, subst, _∙_}
-use mathlib.Core.Bool.{Bool, true, false, cond}
-use mathlib.Core.List.{List, [], _∷_, _++_, append-nil}
-use lib.Dec.{eqb, ltb}
+use mathlib.Core.Path.{_≡_, refl, sym, ap, _∙_}
+use mathlib.Core.Bool.{Bool, true, false}
+use mathlib.Core.List.{List, [], _∷_, _++_}
+use lib.Dec.{eqb}
 use lib.ListN.{length, take, replicate, length-replicate}
 use borrow.Author.Tests.{lt-ltb, le-ltb}
 use Rattle.lines.specs.declared.Line.{Line}
 use Rattle.answers.specs.Answers.{toldLines}
 use Rattle.transcript.specs.Reading.{lineOf}
-use Rattle.transcript.specs.Output.{Stand, opening, Reply, due, tell, told, lastLine}
+use Rattle.transcript.specs.Output.{opening, due, tell, told, lastLine}
 use Rattle.transcript.proofs.ReadingLaws.{line-reads, reads-as}
 use Rattle.transcript.proofs.ByteLaws.{Going, byteLeaves, bytePrints, bytesLeave, bytesPrint, endPrints}
-use Rattle.feed.specs.Feeds.{Held, holding, holdByte}
 use Rattle.feed.proofs.FrontLaws.{Fronts, fronts-none, fronts-more, fronts-read}
-use Rattle.session.specs.Sessions.{Tables}
-use Rattle.session.specs.Lefts.{openedSession, lineLeft}
+use Rattle.session.specs.Lefts.{openedSession}
 use Rattle.session.proofs.KeepLaws.{Small, reads-small}
-use Rattle.kiosk.specs.Desks.{Desk, deskOf, judgedLine, lineDesk, linePuts, byteDesk, bytePuts, bytesDesk, bytesPut, servedDesk, servedPuts, dueAt, endPuts}
+use Rattle.kiosk.specs.Desks.{Desk, judgedLine, lineDesk, linePuts, byteDesk, bytePuts, bytesDesk, bytesPut, servedDesk, servedPuts, dueAt, endPuts}
 use Rattle.kiosk.specs.Runs.{openedDesk}
 use Rattle.kiosk.proofs.ShowLaws.{standAs, Due, Shows, Replies}
 use Rattle.kiosk.proofs.LineShows.{ready-shows, line-shows}

@@ -1,10 +1,8 @@
 -- Each line leaves what shows the run after it, and what is put out for it is what the definition prints. Assumes nothing.
 use Prim.Native.Nat.{ℕ}
 use native.Mathlib.Omega.{arith}
-use mathlib.Core.Path.{_≡_, refl, sym, ap, subst, _∙_}
-use mathlib.Core.Bool.{Bool, true, false}
-use mathlib.Core.List.{List, [], _∷_, _++_, append-nil}
-use lib.ListN.{length}
+use mathlib.Core.Path.{_≡_, refl, sym, subst, _∙_}
+use mathlib.Core.List.{List, [], _∷_, append-nil}
 use Rattle.lines.specs.declared.Line.{Line}
 use Rattle.lines.specs.declared.Line.the-variants as line
 use Rattle.meaning.specs.declared.Event.{Event}
@@ -18,7 +16,6 @@ use Rattle.transcript.specs.Output.{Stand, Reply, silent, due, judged, tellEven
 use Rattle.session.specs.declared.Part.{Part}
 use Rattle.session.specs.declared.Part.the-variants.{First, Rows, Events, Over}
 use Rattle.session.specs.declared.Session.{Session}
-use Rattle.session.specs.declared.After.{After}
 use Rattle.session.specs.Lefts.{badAs, begunAs, beginLeft, Begun, readyAs, happened, eventAs, eventLeft, lineLeft}
 use Rattle.session.proofs.KeepLaws.{Small}
 use Rattle.kiosk.proofs.ShowLaws.{standAs, Due, Shows, Replies, bad-shows, sizes-shows, row-shows}

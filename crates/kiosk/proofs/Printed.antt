@@ -3,17 +3,17 @@
 use Prim.Native.Nat.{ℕ, _<_}
 use native.Mathlib.Omega.{arith}
 use mathlib.Core.Path.{_≡_, refl, sym, subst, _∙_}
-use mathlib.Core.Bool.{Bool, true, false, true≢false}
+use mathlib.Core.Bool.{true, true≢false}
 use mathlib.Core.List.{List, [], _∷_, _++_, append-assoc}
 use lib.ListN.{length, take}
 use lib.Seq.{take-length}
-use Rattle.transcript.specs.Output.{Stand, opening, ended, output}
+use Rattle.transcript.specs.Output.{opening, ended, output}
 use Rattle.transcript.proofs.ByteLaws.{Going, bytesLeave, bytesPrint, endPrints, leave-append, print-append, ended-prints, output-by-bytes}
 use Rattle.session.specs.declared.Part.{Part}
 use Rattle.session.specs.declared.Part.the-variants.{First, Rows, Events, Over}
 use Rattle.session.specs.declared.Session.{Session}
 use Rattle.session.specs.Lefts.{isOver}
-use Rattle.kiosk.specs.Desks.{Desk, bytesDesk, bytesPut, endPuts, blockDesk, blockPuts, Fills}
+use Rattle.kiosk.specs.Desks.{Desk, blockDesk, blockPuts, Fills}
 use Rattle.kiosk.specs.Runs.{openedDesk, joined, Runs, ends, goes, stops}
 use Rattle.kiosk.proofs.ShowLaws.{standAs}
 use Rattle.kiosk.proofs.DeskLaws.{Stands, opened-stands, bytes-stand, end-prints}

@@ -1,11 +1,11 @@
 -- Desks that are reached block by block. Assumes nothing.
 use Prim.Native.Nat.{ℕ}
-use mathlib.Core.Path.{_≡_, refl, ap, _∙_, sym}
+use mathlib.Core.Path.{_≡_, refl, ap, _∙_}
 use mathlib.Core.List.{List, [], _∷_, _++_}
 use lib.ListN.{take, replicate}
 use Rattle.session.specs.Lefts.{openedSession}
 use Rattle.session.specs.declared.Session.{Session}
-use Rattle.kiosk.specs.Desks.{Desk, deskOf, blockDesk, blockPuts, Fills}
+use Rattle.kiosk.specs.Desks.{Desk, deskOf, blockDesk, Fills}
 use Rattle.kiosk.specs.Runs.{openedDesk, after, Reached, Answers}
 
 -- before the first block

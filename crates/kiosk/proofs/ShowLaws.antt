@@ -1,33 +1,22 @@
 -- What a session and its tables show of a run, and that each call leaves what shows the run after it. Assumes nothing.
-use Prim.Native.Nat.{ℕ, zero, suc, _+_, _-_, _*_, _≤_, _<_}
+use Prim.Native.Nat.{ℕ, _+_, _-_, _*_, _≤_, _<_}
 use native.Mathlib.Omega.{arith}
-use mathlib.Core.Path.{_≡_, refl, sym, ap, subst, _∙_}
-use mathlib.Core.Bool.{Bool, true, false, cond}
-use mathlib.Core.List.{List, [], _∷_, _++_, append-assoc, append-nil}
-use lib.Dec.{ltb, leb}
-use lib.ListN.{length, take, drop, replicate, length-append, length-take, length-drop, length-replicate}
+use mathlib.Core.Path.{_≡_, refl, sym, ap, _∙_}
+use mathlib.Core.Bool.{Bool, true, false}
+use mathlib.Core.List.{List, _++_, append-assoc}
+use lib.Dec.{ltb}
+use lib.ListN.{length, take, drop, replicate, length-append, length-drop}
 use lib.Seq.{length-take-le, take-at}
-use borrow.Author.Tests.{ltb-true, ltb-false, lt-ltb, le-ltb, le-leb, lt-leb}
-use Rattle.meaning.specs.declared.Event.{Event}
-use Rattle.meaning.specs.declared.State.{State}
-use Rattle.meaning.specs.declared.Answer.{Answer}
-use Rattle.meaning.specs.declared.Answer.the-variants.{Started, Verdict, Refused}
-use Rattle.meaning.specs.Rows.{rowCount, checkRows}
-use Rattle.meaning.specs.Tables.{most}
-use Rattle.meaning.specs.Outcome.{kRight, nodesRight, valuesRight, workSize, Decision, taken, refused, judgeStart, decideStart, stateOf, settleStart, StartOutcome, startOutcome, Machine, machineOf, eventOutcome}
-use Rattle.monitor.specs.Calls.{machine}
-use Rattle.answers.specs.declared.Said.the-variants as said
-use Rattle.answers.specs.declared.Told.{Told}
-use Rattle.answers.specs.Answers.{headed, badLine, header, noStart, answerLine, saidLine, toldLines}
-use Rattle.transcript.specs.Output.{Stand, opening, ruling, judging, ended, Reply, silent, tellBad, tellSizes, tellRow, startReply, begins, due, judged, tellEvent}
-use Rattle.transcript.proofs.LengthLaws.{Keeps, event-keeps}
+use borrow.Author.Tests.{ltb-true, ltb-false, le-leb, lt-leb}
+use Rattle.answers.specs.Answers.{saidLine, toldLines}
+use Rattle.transcript.specs.Output.{Stand, opening, ruling, judging, ended, Reply, silent, tellBad, tellSizes, tellRow}
 use Rattle.session.specs.declared.Part.{Part}
 use Rattle.session.specs.declared.Part.the-variants.{First, Rows, Events, Over}
 use Rattle.session.specs.declared.Session.{Session}
 use Rattle.session.specs.declared.After.{After}
 use Rattle.session.specs.Sessions as session
-use Rattle.session.specs.Sessions.{Sound, Tables, listedOf}
-use Rattle.session.specs.Lefts.{turnedTo, saying, quietOf, badAs, sizesAs, Rowed, rowAs, started, begunAs, beginLeft, Begun, readyAs, Happened, happenLeft, happened, eventAs, eventLeft}
+use Rattle.session.specs.Sessions.{Sound, Tables}
+use Rattle.session.specs.Lefts.{turnedTo, badAs, sizesAs, rowAs}
 
 -- the stand of a session and its tables, by the part
 unfoldable pub standAs : Part → Session → List ℕ → List ℕ → List ℕ → List ℕ → Stand
@@ -59,11 +48,6 @@ pub record Replies (r : After) (rows nodes values work : List ℕ) (y : Reply) :
 over-shows : (s : Session) (rows nodes values work : List ℕ) → s .part ≡ Over → Sound s → Tables rows nodes values work → Shows s rows nodes values work ended
 unfolding standAs Due
 over-shows s rows nodes values work e h t = record { stand-is = rw e; sound = h; tables = t; rest = rw e tt }
-
--- nothing is told
-quiet-told : (s : Session) → toldLines (quietOf s .told) ≡ []
-unfolding toldLines saidLine
-quiet-told s = refl
 
 module _ (s : Session) (rows nodes values work : List ℕ) (h : Sound s) (t : Tables rows nodes values work) where
   pub turned-over : Shows (turnedTo s Over) rows nodes values work ended

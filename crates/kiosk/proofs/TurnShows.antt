@@ -1,30 +1,27 @@
 -- A start and an event on the parts of the tables that the sizes ask for leave what shows the run after them. Assumes nothing.
-use Prim.Native.Nat.{ℕ, zero, suc, _+_, _-_, _*_, _^_, _≤_, _<_}
+use Prim.Native.Nat.{ℕ, zero, _+_, _-_, _*_, _≤_}
 use native.Mathlib.Omega.{arith}
 use mathlib.Core.Path.{_≡_, refl, sym, ap, subst, _∙_}
-use mathlib.Core.Bool.{Bool, true, false, cond, _&&_, and-false}
-use mathlib.Core.List.{List, [], _∷_, _++_, append-assoc, append-nil}
-use lib.Dec.{ltb, leb}
+use mathlib.Core.Bool.{Bool, true, false}
+use mathlib.Core.List.{List, _++_, append-nil}
+use lib.Dec.{ltb}
 use lib.ListN.{length, take, drop, replicate, length-append, length-drop, length-replicate, replicate-append-replicate}
 use lib.Seq.{length-take-le, take-at}
-use borrow.Author.Tests.{ltb-true, ltb-false, le-ltb, lt-leb}
+use borrow.Author.Tests.{ltb-true, ltb-false}
 use Rattle.meaning.specs.declared.Event.{Event}
 use Rattle.meaning.specs.declared.Answer.{Answer}
 use Rattle.meaning.specs.declared.Answer.the-variants.{Started, Verdict, Refused}
-use Rattle.meaning.specs.Rows.{rowCount, checkRows}
-use Rattle.meaning.specs.Tables.{most}
-use Rattle.meaning.specs.Outcome.{kRight, nodesRight, valuesRight, workSize, Decision, taken, refused, judgeStart, decideStart, stateOf, settleStart, StartOutcome, startOutcome, Machine, machineOf, EventOutcome, eventOutcome}
+use Rattle.meaning.specs.Rows.{rowCount}
+use Rattle.meaning.specs.Outcome.{workSize, Decision, taken, refused, decideStart, stateOf, settleStart, startOutcome, machineOf, EventOutcome, eventOutcome}
 use Rattle.monitor.specs.Calls.{machine}
-use Rattle.answers.specs.Answers.{headed, answerLine, saidLine, toldLines}
-use Rattle.transcript.specs.Output.{Stand, judging, Reply, startReply, begins, judged}
+use Rattle.answers.specs.Answers.{headed, saidLine, toldLines}
+use Rattle.transcript.specs.Output.{judging, Reply, startReply, valuesAsked, begins, judged}
 use Rattle.transcript.proofs.LengthLaws.{Keeps, event-keeps}
-use Rattle.session.specs.declared.Part.{Part}
-use Rattle.session.specs.declared.Part.the-variants.{First, Rows, Events, Over}
+use Rattle.session.specs.declared.Part.the-variants.{Events}
 use Rattle.session.specs.declared.Session.{Session}
-use Rattle.session.specs.declared.After.{After}
 use Rattle.session.specs.Sessions as session
-use Rattle.session.specs.Sessions.{Sound, Tables, listedOf}
-use Rattle.session.specs.Lefts.{turnedTo, saying, started, begunAs, beginLeft, happenLeft, happened}
+use Rattle.session.specs.Sessions.{Sound, Tables}
+use Rattle.session.specs.Lefts.{started, begunAs, beginLeft, happenLeft, happened}
 use Rattle.session.proofs.SessionLaws.{listed-none, listed-entry}
 use Rattle.kiosk.proofs.ShowLaws.{standAs, Due, Shows, Replies, turned-over}
 
@@ -62,23 +59,11 @@ start-arrays k rows nodes values = go (decideStart k rows nodes values)
     go taken = (refl, refl)
     go (refused n p) = (refl, refl)
 
--- a k past 10 is refused before anything else is looked at
-start-high : (k : ℕ) (rows nodes values : List ℕ) → 10 < k → startOutcome k rows nodes values .answer ≡ Refused 1 0
-unfolding startOutcome decideStart judgeStart settleStart
-start-high k rows nodes values h = rw (high k h)
-  where
-    high : (k : ℕ) → 10 < k → kRight k ≡ false
-    high k h = unfold kRight in rw (lt-leb k 10 h) (and-false (ltb 0 k))
-
--- the value slice has the length that k asks for
-listed-is : (k : ℕ) → k ≤ 10 → listedOf k ≡ 4 * most k
-unfolding listedOf most
-listed-is k h = rw (le-ltb 10 k h)
-
-listed-few : (k : ℕ) → listedOf k ≤ 4092
+-- the value slice fits its table
+listed-few : (k : ℕ) → valuesAsked k ≤ 4092
 listed-few k = go (ltb 10 k) refl
   where
-    go : (q : Bool) → ltb 10 k ≡ q → listedOf k ≤ 4092
+    go : (q : Bool) → ltb 10 k ≡ q → valuesAsked k ≤ 4092
     go true e = omega (arith, listed-none k (ltb-true 10 k e))
     go false e =
         let entry = listed-entry k (ltb-false 10 k e) in
@@ -88,19 +73,19 @@ module _ (s : Session) (rows nodes values work : List ℕ) (h : Sound s) (t : Ta
   nodes-part : length (take (3 * s .c) nodes) ≡ 3 * s .c
   nodes-part = length-take-le (3 * s .c) nodes (omega (arith, h .nodes-few, t .nodes-long))
 
-  values-part : length (take (listedOf (s .k)) values) ≡ listedOf (s .k)
-  values-part = length-take-le (listedOf (s .k)) values (omega (arith, listed-few (s .k), t .values-long))
+  values-part : length (take (valuesAsked (s .k)) values) ≡ valuesAsked (s .k)
+  values-part = length-take-le (valuesAsked (s .k)) values (omega (arith, listed-few (s .k), t .values-long))
 
   work-part : length (take (16 * s .c + 1024) work) ≡ 16 * s .c + 1024
   work-part = length-take-le (16 * s .c + 1024) work (omega (arith, h .nodes-few, t .work-long))
 
   -- parts put back keep the tables' lengths
-  put-back : (ns vs : List ℕ) → length ns ≡ 3 * s .c → length vs ≡ listedOf (s .k)
-      → Tables rows (ns ++ drop (3 * s .c) nodes) (vs ++ drop (listedOf (s .k)) values) work
+  put-back : (ns vs : List ℕ) → length ns ≡ 3 * s .c → length vs ≡ valuesAsked (s .k)
+      → Tables rows (ns ++ drop (3 * s .c) nodes) (vs ++ drop (valuesAsked (s .k)) values) work
   put-back ns vs n v = record {
     rows-long = t .rows-long;
     nodes-long = omega (arith, length-append ns (drop (3 * s .c) nodes), length-drop (3 * s .c) nodes, n, t .nodes-long, h .nodes-few);
-    values-long = omega (arith, length-append vs (drop (listedOf (s .k)) values), length-drop (listedOf (s .k)) values, v, t .values-long, listed-few (s .k));
+    values-long = omega (arith, length-append vs (drop (valuesAsked (s .k)) values), length-drop (valuesAsked (s .k)) values, v, t .values-long, listed-few (s .k));
     work-long = t .work-long;
   }
 
@@ -108,35 +93,35 @@ module _ (s : Session) (rows nodes values work : List ℕ) (h : Sound s) (t : Ta
   module _ (d : (s .ordinal ≡ 0) × (nodes ≡ replicate 1536 0) × (values ≡ replicate 4092 0) × (work ≡ replicate 9216 0)) where
     ns-long : length (started s rows nodes values .nodes) ≡ 3 * s .c
     unfolding started
-    ns-long = start-nodes (s .k) (take (s .rows) rows) (take (3 * s .c) nodes) (take (listedOf (s .k)) values) ∙ nodes-part
+    ns-long = start-nodes (s .k) (take (s .rows) rows) (take (3 * s .c) nodes) (take (valuesAsked (s .k)) values) ∙ nodes-part
 
-    vs-long : length (started s rows nodes values .values) ≡ listedOf (s .k)
+    vs-long : length (started s rows nodes values .values) ≡ valuesAsked (s .k)
     unfolding started
-    vs-long = start-values (s .k) (take (s .rows) rows) (take (3 * s .c) nodes) (take (listedOf (s .k)) values) ∙ values-part
+    vs-long = start-values (s .k) (take (s .rows) rows) (take (3 * s .c) nodes) (take (valuesAsked (s .k)) values) ∙ values-part
 
     arrays : (length (started s rows nodes values .state .counts) ≡ 4) × (length (started s rows nodes values .state .refs) ≡ 64)
     unfolding started
-    arrays = start-arrays (s .k) (take (s .rows) rows) (take (3 * s .c) nodes) (take (listedOf (s .k)) values)
+    arrays = start-arrays (s .k) (take (s .rows) rows) (take (3 * s .c) nodes) (take (valuesAsked (s .k)) values)
 
     work-zeros : take (16 * s .c + 1024) work ≡ replicate (workSize (s .c)) 0
     unfolding workSize
     work-zeros = ap (take (16 * s .c + 1024)) (d .3) ∙ take-zeros (16 * s .c + 1024) 9216 (omega (arith, h .nodes-few))
 
-    back : Tables rows (started s rows nodes values .nodes ++ drop (3 * s .c) nodes) (started s rows nodes values .values ++ drop (listedOf (s .k)) values) work
+    back : Tables rows (started s rows nodes values .nodes ++ drop (3 * s .c) nodes) (started s rows nodes values .values ++ drop (valuesAsked (s .k)) values) work
     back = put-back (started s rows nodes values .nodes) (started s rows nodes values .values) ns-long vs-long
 
     begun-shows : Shows
         (record { part = Events; k = s .k; c = s .c; rows = s .rows; ordinal = s .ordinal; state = started s rows nodes values .state })
         rows
         (started s rows nodes values .nodes ++ drop (3 * s .c) nodes)
-        (started s rows nodes values .values ++ drop (listedOf (s .k)) values)
+        (started s rows nodes values .values ++ drop (valuesAsked (s .k)) values)
         work
         (judging (take (s .rows) rows) 0 (machineOf (started s rows nodes values) (replicate (workSize (s .c)) 0)))
     unfolding standAs Due session.machineOf machineOf
     begun-shows =
         let zero = d .0 in
         let n = take-at (started s rows nodes values .nodes) (drop (3 * s .c) nodes) (3 * s .c) ns-long in
-        let v = take-at (started s rows nodes values .values) (drop (listedOf (s .k)) values) (listedOf (s .k)) vs-long in
+        let v = take-at (started s rows nodes values .values) (drop (valuesAsked (s .k)) values) (valuesAsked (s .k)) vs-long in
         let w = work-zeros in
         record {
           stand-is = sym (λ i. judging (take (s .rows) rows) (zero i) (machine (started s rows nodes values .state) (n i) (v i) (w i)));
@@ -146,7 +131,7 @@ module _ (s : Session) (rows nodes values work : List ℕ) (h : Sound s) (t : Ta
         }
 
     begun-replies : (a : Answer)
-        → Replies (begunAs a s (started s rows nodes values)) rows (started s rows nodes values .nodes ++ drop (3 * s .c) nodes) (started s rows nodes values .values ++ drop (listedOf (s .k)) values) work
+        → Replies (begunAs a s (started s rows nodes values)) rows (started s rows nodes values .nodes ++ drop (3 * s .c) nodes) (started s rows nodes values .values ++ drop (valuesAsked (s .k)) values) work
         (startReply (s .c) (take (s .rows) rows) (started s rows nodes values) a)
     unfolding begunAs startReply toldLines saidLine
     begun-replies Started = record { shows = begun-shows; bytes-are = append-nil _ }
@@ -157,31 +142,18 @@ module _ (s : Session) (rows nodes values work : List ℕ) (h : Sound s) (t : Ta
     start-same : startReply (s .c) (take (s .rows) rows) (started s rows nodes values) (started s rows nodes values .answer)
         ≡ startReply (s .c) (take (s .rows) rows) (begins (s .k) (s .c) (take (s .rows) rows)) (begins (s .k) (s .c) (take (s .rows) rows) .answer)
     unfolding started begins
-    start-same = go (ltb 10 (s .k)) refl
-      where
-        go : (q : Bool) → ltb 10 (s .k) ≡ q
-            → startReply (s .c) (take (s .rows) rows) (started s rows nodes values) (started s rows nodes values .answer)
-            ≡ startReply (s .c) (take (s .rows) rows) (begins (s .k) (s .c) (take (s .rows) rows)) (begins (s .k) (s .c) (take (s .rows) rows) .answer)
-        go true e =
-            let past : 10 < s .k = ltb-true 10 (s .k) e in
-            ap (startReply (s .c) (take (s .rows) rows) (started s rows nodes values)) (start-high (s .k) (take (s .rows) rows) (take (3 * s .c) nodes) (take (listedOf (s .k)) values) past)
-            ∙ refused-alike (started s rows nodes values) (begins (s .k) (s .c) (take (s .rows) rows))
-            ∙ sym (ap (startReply (s .c) (take (s .rows) rows) (begins (s .k) (s .c) (take (s .rows) rows))) (start-high (s .k) (take (s .rows) rows) (replicate (3 * s .c) 0) (replicate (4 * most (s .k)) 0) past))
-          where
-            refused-alike : (o u : StartOutcome) → startReply (s .c) (take (s .rows) rows) o (Refused 1 0) ≡ startReply (s .c) (take (s .rows) rows) u (Refused 1 0)
-            refused-alike o u = unfold startReply in refl
-        go false e =
-            let n : take (3 * s .c) nodes ≡ replicate (3 * s .c) 0 = ap (take (3 * s .c)) (d .1) ∙ take-zeros (3 * s .c) 1536 (omega (arith, h .nodes-few)) in
-            let v : take (listedOf (s .k)) values ≡ replicate (4 * most (s .k)) 0 =
-            ap (take (listedOf (s .k))) (d .2) ∙ take-zeros (listedOf (s .k)) 4092 (listed-few (s .k)) ∙ ap (λ (m : ℕ). replicate m 0) (listed-is (s .k) (ltb-false 10 (s .k) e)) in
-            λ i. startReply (s .c) (take (s .rows) rows) (startOutcome (s .k) (take (s .rows) rows) (n i) (v i)) (startOutcome (s .k) (take (s .rows) rows) (n i) (v i) .answer)
+    start-same =
+        let n : take (3 * s .c) nodes ≡ replicate (3 * s .c) 0 = ap (take (3 * s .c)) (d .1) ∙ take-zeros (3 * s .c) 1536 (omega (arith, h .nodes-few)) in
+        let v : take (valuesAsked (s .k)) values ≡ replicate (valuesAsked (s .k)) 0 =
+        ap (take (valuesAsked (s .k))) (d .2) ∙ take-zeros (valuesAsked (s .k)) 4092 (listed-few (s .k)) in
+        λ i. startReply (s .c) (take (s .rows) rows) (startOutcome (s .k) (take (s .rows) rows) (n i) (v i)) (startOutcome (s .k) (take (s .rows) rows) (n i) (v i) .answer)
 
     pub begin-shows : Replies (beginLeft s (started s rows nodes values) nodes values .after) rows (beginLeft s (started s rows nodes values) nodes values .nodes) (beginLeft s (started s rows nodes values) nodes values .values) work
         (startReply (s .c) (take (s .rows) rows) (begins (s .k) (s .c) (take (s .rows) rows)) (begins (s .k) (s .c) (take (s .rows) rows) .answer))
     unfolding beginLeft
     begin-shows =
         subst
-        (λ (y : Reply). Replies (begunAs (started s rows nodes values .answer) s (started s rows nodes values)) rows (started s rows nodes values .nodes ++ drop (3 * s .c) nodes) (started s rows nodes values .values ++ drop (listedOf (s .k)) values) work y)
+        (λ (y : Reply). Replies (begunAs (started s rows nodes values .answer) s (started s rows nodes values)) rows (started s rows nodes values .nodes ++ drop (3 * s .c) nodes) (started s rows nodes values .values ++ drop (valuesAsked (s .k)) values) work y)
         start-same
         (begun-replies (started s rows nodes values .answer))
 
@@ -193,7 +165,7 @@ module _ (s : Session) (rows nodes values work : List ℕ) (h : Sound s) (t : Ta
     nodes-kept : length (eventOutcome (take (s .rows) rows) (session.machineOf s nodes values work) e .left .nodes) ≡ 3 * s .c
     nodes-kept = kept .nodes ∙ (unfold session.machineOf in nodes-part)
 
-    values-kept : length (eventOutcome (take (s .rows) rows) (session.machineOf s nodes values work) e .left .values) ≡ listedOf (s .k)
+    values-kept : length (eventOutcome (take (s .rows) rows) (session.machineOf s nodes values work) e .left .values) ≡ valuesAsked (s .k)
     values-kept = kept .values ∙ (unfold session.machineOf in values-part)
 
     work-kept : length (eventOutcome (take (s .rows) rows) (session.machineOf s nodes values work) e .left .work) ≡ 16 * s .c + 1024
@@ -207,7 +179,7 @@ module _ (s : Session) (rows nodes values work : List ℕ) (h : Sound s) (t : Ta
         let o : EventOutcome = eventOutcome (take (s .rows) rows) (session.machineOf s nodes values work) e in
         let back = put-back (o .left .nodes) (o .left .values) nodes-kept values-kept in
         let n = take-at (o .left .nodes) (drop (3 * s .c) nodes) (3 * s .c) nodes-kept in
-        let v = take-at (o .left .values) (drop (listedOf (s .k)) values) (listedOf (s .k)) values-kept in
+        let v = take-at (o .left .values) (drop (valuesAsked (s .k)) values) (valuesAsked (s .k)) values-kept in
         let w = take-at (o .left .work) (drop (16 * s .c + 1024) work) (16 * s .c + 1024) work-kept in
         let long : length (o .left .work ++ drop (16 * s .c + 1024) work) ≡ 9216 =
         omega (arith, length-append (o .left .work) (drop (16 * s .c + 1024) work), length-drop (16 * s .c + 1024) work, work-kept, t .work-long, h .nodes-few) in

@@ -6,19 +6,20 @@ use mathlib.Core.List.{List, [], _∷_, _++_, append-assoc}
 use lib.ListN.{length, getD, take, drop, take-append-drop}
 use lib.Seq.{take-all}
 use borrow.Author.Tests.{lt-ltb}
+use Rattle.meaning.specs.Tables.{most}
+use Rattle.transcript.specs.Output.{valuesAsked}
 use Rattle.answers.proofs.PutLaws.{Putting}
-use Rattle.session.specs.Sessions.{listedOf}
 
 -- a k past 10 asks for no values
-pub listed-none : (k : ℕ) → 10 < k → 0 ≡ listedOf k
-unfolding listedOf
+pub listed-none : (k : ℕ) → 10 < k → 0 ≡ valuesAsked k
+unfolding valuesAsked
 listed-none k h = rw (lt-ltb 10 k h) refl
 
 -- the table of the source
 pub listed-entry : (k : ℕ) → k ≤ 10
-    → (getD (0 ∷ 4 ∷ 12 ∷ 28 ∷ 60 ∷ 124 ∷ 252 ∷ 508 ∷ 1020 ∷ 2044 ∷ 4092 ∷ []) k 0 ≡ listedOf k)
+    → (getD (0 ∷ 4 ∷ 12 ∷ 28 ∷ 60 ∷ 124 ∷ 252 ∷ 508 ∷ 1020 ∷ 2044 ∷ 4092 ∷ []) k 0 ≡ valuesAsked k)
     × (getD (0 ∷ 4 ∷ 12 ∷ 28 ∷ 60 ∷ 124 ∷ 252 ∷ 508 ∷ 1020 ∷ 2044 ∷ 4092 ∷ []) k 0 ≤ 4092)
-unfolding listedOf
+unfolding valuesAsked most
 listed-entry zero h = (refl, omega arith)
 listed-entry (suc zero) h = (refl, omega arith)
 listed-entry (suc (suc zero)) h = (refl, omega arith)

@@ -15,11 +15,12 @@ use Rattle.meaning.proofs.Answer.{the-type}
 use Rattle.meaning.specs.Outcome.{StartOutcome, startOutcome, EventOutcome, eventOutcome}
 use Rattle.monitor.specs.Calls.{Starts, machine, Happens}
 use Rattle.answers.specs.declared.Said.the-variants as said
+use Rattle.transcript.specs.Output.{valuesAsked}
 use Rattle.session.specs.declared.Part.the-variants.{Events, Over}
 use Rattle.session.specs.declared.Session.{Session}
 use Rattle.session.specs.declared.After.{After}
 use Rattle.session.specs.declared.Lent.{Lent}
-use Rattle.session.specs.Sessions.{Sized, listedOf, machineOf}
+use Rattle.session.specs.Sessions.{Sized, machineOf}
 use Rattle.session.specs.Lefts.{turnedTo, saying, started, begunAs, beginLeft, Begins, happenLeft, happened, Judges}
 
 -- a start that is refused
@@ -43,7 +44,7 @@ module _ (s : Session) (lent : Lent) (sized : Sized s lent) where
   nodes-lent : lent .nodes - 0 ≡ 3 * s .c
   nodes-lent = sub-zero (lent .nodes) ∙ sized .nodes-are
 
-  values-lent : lent .values - 0 ≡ listedOf (s .k)
+  values-lent : lent .values - 0 ≡ valuesAsked (s .k)
   values-lent = sub-zero (lent .values) ∙ sized .values-are
 
   work-lent : lent .work - 0 ≡ 16 * s .c + 1024

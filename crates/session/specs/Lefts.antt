@@ -4,7 +4,7 @@ use mathlib.Core.Path.{_≡_}
 use mathlib.Core.Bool.{Bool, true, false, cond}
 use mathlib.Core.List.{List, [], _∷_, _++_}
 use lib.Dec.{ltb}
-use lib.ListN.{take, drop, replicate}
+use lib.ListN.{take, drop}
 use Rattle.lines.specs.declared.Line.{Line}
 use Rattle.lines.specs.declared.Line.the-variants as line
 use Rattle.meaning.specs.declared.Event.{Event}
@@ -13,12 +13,12 @@ use Rattle.meaning.specs.declared.Answer.the-variants.{Started, Verdict, Refuse
 use Rattle.meaning.specs.Outcome.{stateOf, StartOutcome, startOutcome, EventOutcome, eventOutcome}
 use Rattle.answers.specs.declared.Said.{Said}
 use Rattle.answers.specs.declared.Said.the-variants as said
-use Rattle.transcript.specs.Output.{eventOf}
+use Rattle.transcript.specs.Output.{eventOf, valuesAsked}
 use Rattle.session.specs.declared.Part.{Part}
 use Rattle.session.specs.declared.Part.the-variants.{First, Rows, Events, Over}
 use Rattle.session.specs.declared.Session.{Session}
 use Rattle.session.specs.declared.After.{After}
-use Rattle.session.specs.Sessions.{listedOf, machineOf}
+use Rattle.session.specs.Sessions.{machineOf}
 
 -- the session before the first line
 unfoldable pub openedSession : Session
@@ -84,7 +84,7 @@ pub record Begun : Type 0 where
 
 -- the outcome of start on the parts of the tables that the sizes ask for
 unfoldable pub started : Session → List ℕ → List ℕ → List ℕ → StartOutcome
-started s rows nodes values = startOutcome (s .k) (take (s .rows) rows) (take (3 * s .c) nodes) (take (listedOf (s .k)) values)
+started s rows nodes values = startOutcome (s .k) (take (s .rows) rows) (take (3 * s .c) nodes) (take (valuesAsked (s .k)) values)
 
 -- the header, or the line that says why not
 unfoldable pub begunAs : Answer → Session → StartOutcome → After
@@ -96,7 +96,7 @@ begunAs (Verdict holds kept room) s o =
 
 unfoldable pub beginLeft : Session → StartOutcome → List ℕ → List ℕ → Begun
 beginLeft s o nodes values =
-    record { after = begunAs (o .answer) s o; nodes = o .nodes ++ drop (3 * s .c) nodes; values = o .values ++ drop (listedOf (s .k)) values }
+    record { after = begunAs (o .answer) s o; nodes = o .nodes ++ drop (3 * s .c) nodes; values = o .values ++ drop (valuesAsked (s .k)) values }
 
 -- what is due before an event and at the end, by the part
 unfoldable pub readyAs : Part → Session → List ℕ → List ℕ → List ℕ → Begun
@@ -121,7 +121,7 @@ happenLeft s h o nodes values work =
           h
           (said.Event (s .ordinal + 1) (o .answer));
       nodes = o .left .nodes ++ drop (3 * s .c) nodes;
-      values = o .left .values ++ drop (listedOf (s .k)) values;
+      values = o .left .values ++ drop (valuesAsked (s .k)) values;
       work = o .left .work ++ drop (16 * s .c + 1024) work;
     }
 

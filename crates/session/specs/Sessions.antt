@@ -1,12 +1,11 @@
 -- What a session keeps from line to line. Assumes nothing: these are definitions.
-use Prim.Native.Nat.{ℕ, _+_, _-_, _*_, _^_, _≤_}
+use Prim.Native.Nat.{ℕ, _+_, _*_, _≤_}
 use mathlib.Core.Path.{_≡_}
-use mathlib.Core.Bool.{cond}
 use mathlib.Core.List.{List}
-use lib.Dec.{ltb}
 use lib.ListN.{length, take}
 use Rattle.meaning.specs.Outcome.{Machine}
 use Rattle.monitor.specs.Calls.{machine}
+use Rattle.transcript.specs.Output.{valuesAsked}
 use Rattle.session.specs.declared.Session.{Session}
 use Rattle.session.specs.declared.Lent.{Lent}
 
@@ -22,15 +21,11 @@ pub record Tables (rows nodes values work : List ℕ) : Type 0 where
   pub values-long : length values ≡ 4092
   pub work-long : length work ≡ 9216
 
--- the length of the value slice: "4 × (2^k − 1)"; a k past 10 is refused before the slice is looked at
-unfoldable pub listedOf : ℕ → ℕ
-listedOf k = cond (ltb 10 k) 0 (4 * (2 ^ k - 1))
-
 -- as much of each table as the sizes and the rule ask for: there is room for it
 pub record Sized (s : Session) (p : Lent) : Type 0 where
   pub rows-are : p .rows ≡ s .rows
   pub nodes-are : p .nodes ≡ 3 * s .c
-  pub values-are : p .values ≡ listedOf (s .k)
+  pub values-are : p .values ≡ valuesAsked (s .k)
   pub work-is : p .work ≡ 16 * s .c + 1024
   pub rows-few : p .rows ≤ 585
   pub nodes-few : p .nodes ≤ 1536
@@ -40,4 +35,4 @@ pub record Sized (s : Session) (p : Lent) : Type 0 where
 -- the parts of the tables that the sizes ask for, with the state
 unfoldable pub machineOf : Session → List ℕ → List ℕ → List ℕ → Machine
 machineOf s nodes values work =
-    machine (s .state) (take (3 * s .c) nodes) (take (listedOf (s .k)) values) (take (16 * s .c + 1024) work)
+    machine (s .state) (take (3 * s .c) nodes) (take (valuesAsked (s .k)) values) (take (16 * s .c + 1024) work)

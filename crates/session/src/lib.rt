@@ -11,8 +11,8 @@ ghost use mathlib.Core.Path.{_≡_};
 ghost use Prim.Native.Nat.{_+_, _≤_, _<_};
 ghost use mathlib.Core.List.{_++_};
 ghost use lib.ListN.{length, take, drop};
-ghost use Rattle.transcript.specs.Output.{eventOf};
-ghost use Rattle.session.specs.Sessions.{Sound, Sized, Tables, listedOf};
+ghost use Rattle.transcript.specs.Output.{eventOf, valuesAsked};
+ghost use Rattle.session.specs.Sessions.{Sound, Sized, Tables};
 ghost use Rattle.session.specs.Lefts.{openedSession, isOver, turnedTo, quietOf, badAs, sizesAs, rowAs, started, beginLeft, readyAs, happened, eventLeft, lineLeft, Begins, Judges, Does};
 
 // Which line may come next.
@@ -51,7 +51,7 @@ const LISTED: [usize; 11] = [0, 4, 12, 28, 60, 124, 252, 508, 1020, 2044, 4092];
 
 // The length of the value slice. A k past 10 is refused before the slice is looked at.
 fn listed(k: u32) -> usize
-    ensures { λ r. ⌜ r ≡ listedOf k ⌝ }
+    ensures { λ r. ⌜ r ≡ valuesAsked k ⌝ }
     ensures { λ r. ⌜ r ≤ 4092 ⌝ }
 {
     if 10 < k {

@@ -1,25 +1,25 @@
 -- An event leaves every slice as long as it was, and the arrays of the state too. Assumes nothing.
-use Prim.Native.Nat.{ℕ, zero, suc, _+_, _-_, _*_, _≤_, _<_}
+use Prim.Native.Nat.{ℕ, _-_, _*_, _≤_}
 use native.Mathlib.Omega.{arith}
 use mathlib.Core.Path.{_≡_, refl, sym, ap, _∙_}
 use mathlib.Core.Bool.{Bool, true, false, cond, _&&_}
-use mathlib.Core.List.{List, [], _∷_, _++_, map}
+use mathlib.Core.List.{List, [], map}
 use mathlib.Core.Logic.{_⊎_, inl, inr}
 use lib.Dec.{leb}
-use lib.ListN.{length, drop, replicate, length-append, length-drop, length-replicate, length-map}
+use lib.ListN.{length, length-append, length-drop, length-replicate, length-map}
 use borrow.Author.Tests.{leb-true, lt-leb}
-use Rattle.trees.specs.Table.{addTrees, refOf, show}
-use Rattle.trees.proofs.Tests.{and-true-l, and-true-r}
+use Rattle.trees.specs.Table.{addTrees, refOf}
+use Rattle.trees.proofs.Tests.{and-true-r}
 use Rattle.trees.proofs.ShowLaws.{show-length, sound-adds, sound-nil}
 use Rattle.meaning.specs.declared.Event.{Event}
 use Rattle.meaning.specs.declared.State.{State}
 use Rattle.meaning.specs.Rows.{Row, Found, right, fault, ruleOf, checkRows}
 use Rattle.meaning.specs.Step.{Shown, step}
-use Rattle.meaning.specs.Tables.{most, keptTable, padded, layState, layNodes, layValues, wellFormed}
+use Rattle.meaning.specs.Tables.{most, keptTable, layState, layNodes, layValues}
 use Rattle.meaning.specs.Outcome.{Arrays, kRight, capacity, nodesRight, valuesRight, workSize, cleared, factOf, Decision, taken, refused, judgeStart, judgeEvent, Machine, shows, decideEvent, settleEvent, eventOutcome}
 use Rattle.meaning.proofs.PartsLaws.{padded-length}
 use Rattle.meaning.proofs.ProperLaws.{Proper}
-use Rattle.meaning.proofs.RunLaws.{start-taken, few, Laid, laid-on}
+use Rattle.meaning.proofs.RunLaws.{start-taken, few, laid-on}
 use Rattle.meaning.proofs.AnyState.{passed, laid-of}
 
 -- the node slice that is laid out

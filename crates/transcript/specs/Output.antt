@@ -1,9 +1,9 @@
 -- What the program prints for an input, whatever its bytes: line after line, by the format of a line and by the outcomes of start and event.
 -- Nothing here knows of blocks or buffers. Assumes nothing: these are definitions.
 use Prim.Native.Nat.{ℕ, _+_, _*_}
-use mathlib.Core.Bool.{Bool, true, false, cond}
+use mathlib.Core.Bool.{cond}
 use mathlib.Core.List.{List, [], _∷_, _++_}
-use lib.Dec.{eqb, leb}
+use lib.Dec.{eqb, ltb, leb}
 use lib.ListN.{length, replicate}
 use Rattle.meaning.specs.declared.Event.{Event}
 use Rattle.meaning.specs.declared.Answer.{Answer}
@@ -59,9 +59,13 @@ startReply C rows o (Refused number place) = record { stand = ended; bytes = noS
 startReply C rows o Started = record { stand = judging rows 0 (machineOf o (replicate (workSize C) 0)); bytes = header }
 startReply C rows o (Verdict holds kept room) = record { stand = judging rows 0 (machineOf o (replicate (workSize C) 0)); bytes = header }
 
+-- the length of the value slice, "4 × (2^k − 1)"; a k past 10 is refused before the slice is looked at
+unfoldable pub valuesAsked : ℕ → ℕ
+valuesAsked k = cond (ltb 10 k) 0 (4 * most k)
+
 -- start, on slices of the lengths that k and C ask for
 unfoldable pub begins : ℕ → ℕ → List ℕ → StartOutcome
-begins k C rows = startOutcome k rows (replicate (3 * C) 0) (replicate (4 * most k) 0)
+begins k C rows = startOutcome k rows (replicate (3 * C) 0) (replicate (valuesAsked k) 0)
 
 -- "Start comes at the first `e` line, or at the end if there is none."; ".. and so does a missing first line"
 unfoldable pub due : Stand → Reply

@@ -1,7 +1,7 @@
 -- `session::put_row` meets its contract: the numbers passed stand behind the rule so far. The measure is what is left of the nine. Assumes nothing.
 use native.Mathlib.Omega.{arith}
 use borrow.Author.Needs.{needs}
-use Prim.Native.Nat.{_-_, _+_, _≤_}
+use Prim.Native.Nat.{_-_}
 use mathlib.Core.Path.{_≡_}
 use lib.ListN.{length}
 use Rattle.answers.proofs.PutLaws.{Putting, putting-none, putting-more}

@@ -1,5 +1,5 @@
 -- `session::ready` meets its contract, by the part. Assumes nothing.
-use mathlib.Core.Path.{_∙_, ap, refl}
+use mathlib.Core.Path.{_∙_, ap}
 use Rattle.session.specs.Lefts.{Begun}
 use Rattle.session.proofs.PartLaws.{ready-first, ready-rows, ready-events, ready-over}
 use borrow.Author.Needs.{needs}
