@@ -4,7 +4,6 @@ pub mod Tests
 pub mod BytesLaws
 pub mod BlockLaws
 pub mod PieceLaws
-pub mod ShapeLaws
 pub mod MomentLaws
 pub mod SplitLaws
 pub mod MomentRecords
