@@ -20,7 +20,7 @@ use Rattle.card_block.specs.declared.Reason.{Reason}
 use Rattle.card_block.specs.declared.Reason.the-variants.{Check, Shape, Number}
 use Rattle.card_block.specs.declared.Judged.{Judged}
 use Rattle.card_block.specs.declared.Judged.the-variants.{Stays, Goes}
-use Rattle.card_block.specs.Judging.{openAt, walkedTo, walkedBy, settledBy, settled, judgedBlock, told, judgedPiece, judgement, Carries, meant, Kept, Judges}
+use Rattle.card_block.specs.Judging.{openAt, walkedTo, walkedBy, settledBy, settled, judgedBlock, told, judgedPiece, judgement, nothing, Carries, meant, Kept, Judges}
 
 -- a good piece is the block that its bytes say
 good-block : (bytes : List ℕ) (b : Block) → pieceOf bytes ≡ good b → b ≡ blockOf bytes
@@ -88,7 +88,7 @@ judgement-right f c bytes h = go (pieceOf bytes) refl
     go (faulty why) e = rw e (ap goes (sym (meant-told why)))
 
 -- nothing is carried at the card's beginning
-pub carries-start : Carries start (record { next = 0; count = 0; stamp = 0 })
+pub carries-start : Carries start nothing
 unfolding start
 carries-start =
     record {
@@ -111,7 +111,7 @@ carried-once f g h p q =
     let same : openAt (g .count) (g .stamp) ≡ openAt (h .count) (h .stamp) = p .held ∙ sym (q .held) in
     fields-same g h (p .next ∙ sym (q .next)) (ap (λ (o : Open). o .count) same) (ap (λ (o : Open). o .stamp) same)
 
-meant-once : (v w : Reason) → meant v ≡ meant w → v ≡ w
+pub meant-once : (v w : Reason) → meant v ≡ meant w → v ≡ w
 unfolding meant
 meant-once Check Check e = refl
 meant-once Shape Shape e = refl

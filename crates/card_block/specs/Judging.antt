@@ -69,6 +69,10 @@ judgedPiece (faulty why) c = Goes (told why)
 unfoldable pub judgement : List ℕ → Carried → Judged
 judgement bytes c = judgedPiece (pieceOf bytes) c
 
+-- what is carried at the beginning of a card
+abbrev pub nothing : Carried
+nothing = record { next = 0; count = 0; stamp = 0 }
+
 -- what is carried is what stands before a piece: the next number, and an open moment by its count and stamp
 pub record Carries (f : Before) (c : Carried) : Type 0 where
   pub next : c .next ≡ f .next

@@ -11,9 +11,9 @@ use crate::sums::checked;
 use crate::sums::number_at;
 use crate::sums::size_of;
 ghost use mathlib.Core.Path.{_≡_};
-ghost use lib.ListN.{length};
+ghost use lib.ListN.{length, getD};
 ghost use Rattle.cards.specs.Blocks.{blockOf};
-ghost use Rattle.card_block.specs.Judging.{judgedBlock, settledBy, settled, judgement};
+ghost use Rattle.card_block.specs.Judging.{nothing, judgedBlock, settledBy, settled, judgement};
 ghost use Rattle.card_block.specs.Shapes.{Shaped};
 
 // Why a block goes, and where the reader stops.
@@ -34,6 +34,27 @@ pub struct Carried {
 pub enum Judged {
     Stays(Carried),
     Goes(Reason),
+}
+
+// What is carried at the beginning of a card: nothing.
+pub fn begun() -> Carried
+    ensures { λ r. ⌜ r ≡ nothing ⌝ }
+{
+    Carried {
+        next: 0,
+        count: 0,
+        stamp: 0,
+    }
+}
+
+// The count of records that byte 1 says, and 0 where there is no such byte.
+pub fn records(piece: &[u8]) -> usize
+    ensures { λ r. ⌜ r ≡ getD (now (piece .entry)) 1 0 ⌝ }
+{
+    if piece.len() < 2 {
+        return 0;
+    }
+    size_of(piece)
 }
 
 // Number comes after shape: a block that isn't above the last kept one goes.
