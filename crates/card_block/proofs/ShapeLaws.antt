@@ -214,7 +214,7 @@ from-first bs n =
     (sym (take-append-drop 4 (drop 2 bs)) ∙ rw (drop-drop 4 2 bs))
 
 -- what a block is written as: its first bytes, and its records filled up
-body-first : (b : Block) → body b ≡ 75 ∷ length (b .records) ∷ (bytesOf 4 (b .number) ++ filled 504 (joined (map recordBytes (b .records))))
+pub body-first : (b : Block) → body b ≡ 75 ∷ length (b .records) ∷ (bytesOf 4 (b .number) ++ filled 504 (joined (map recordBytes (b .records))))
 unfolding body filled bytesOf
 body-first b = refl
 

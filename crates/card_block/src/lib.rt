@@ -1,6 +1,6 @@
 // One block of a card: its check, its shape, and what it makes of the moment that is open before it. What a block is, and when it stays, is
 // said in the crate `cards`; what `judge` answers is in specs/Judging.antt. Assumes nothing: any bytes are judged.
-mod sums; // sums.rt: the check, numbers and unused bytes
+pub mod sums; // sums.rt: the check, numbers and unused bytes
 mod shape; // shape.rt: the shape of a record and of a block
 mod moments; // moments.rt: the moments that run through a block
 

@@ -1,0 +1,2 @@
+-- Laws of a block that is being written. Assumes nothing.
+pub mod SheetLaws
