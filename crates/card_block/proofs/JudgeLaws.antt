@@ -38,11 +38,11 @@ unfolding settled settledBy
 settled-above n next a b w e h = rw (e, le-ltb n next h, add-one)
 
 -- a block by its bytes
-block-records : (piece : List ℕ) → getD piece 1 0 ≤ 21 → blockOf piece .records ≡ recordsFrom (getD piece 1 0) (drop 6 piece)
+pub block-records : (piece : List ℕ) → getD piece 1 0 ≤ 21 → blockOf piece .records ≡ recordsFrom (getD piece 1 0) (drop 6 piece)
 unfolding blockOf
 block-records piece h = records-from (getD piece 1 0) 21 (drop 6 piece) h
 
-block-number : (piece : List ℕ) → blockOf piece .number ≡ numberOf (take 4 (drop 2 piece))
+pub block-number : (piece : List ℕ) → blockOf piece .number ≡ numberOf (take 4 (drop 2 piece))
 unfolding blockOf
 block-number piece = refl
 

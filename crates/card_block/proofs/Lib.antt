@@ -4,3 +4,4 @@ pub mod TestLaws
 pub mod WalkLaws
 pub mod JudgeLaws
 pub mod Judgements
+pub mod StayLaws

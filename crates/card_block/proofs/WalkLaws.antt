@@ -101,7 +101,7 @@ stamp-at : (piece : List ℕ) (i : ℕ) → record-at piece i .stamp ≡ numberO
 unfolding recordOf
 stamp-at piece i = rw (take-take 4 24 (drop (6 + 24 * i) piece) (omega arith))
 
-last-at : (piece : List ℕ) (i : ℕ) → record-at piece i .last ≡ eqb (getD piece (6 + 24 * i + 9) 0) 1
+pub last-at : (piece : List ℕ) (i : ℕ) → record-at piece i .last ≡ eqb (getD piece (6 + 24 * i + 9) 0) 1
 unfolding recordOf
 last-at piece i = rw (getD-take 24 (drop (6 + 24 * i) piece) 9 0 (omega arith), getD-drop (6 + 24 * i) piece 9 0)
 

@@ -10,8 +10,7 @@ use lib.ListN.{length, take, drop, getD, length-drop, length-map, length-take, d
 use lib.Seq.{drop-drop, take-all}
 use borrow.Author.Tests.{eq-eqb, ne-eqb, ltb-true, ltb-false}
 use Rattle.cards.specs.Moments.{Record}
-use Rattle.cards.specs.Bytes.{bytesOf, filled}
-use Rattle.cards.specs.Blocks.{Block, body, blockBytes, blockOf, pieceOf, pieces, Piece, good, faulty, shape}
+use Rattle.cards.specs.Blocks.{Block, blockOf, pieceOf, pieces, shape}
 use Rattle.cards.specs.Reading.{Before, start, runsOn, after, stays, goes, fate, Fault, fine, bad, lastPlace, some, openAtGap, faultFrom, blocks, stretches, momentsOf, taken, refused, readBy, readPieces, read}
 use Rattle.cards.specs.Counting.{openOf}
 use Rattle.cards.specs.Counting
@@ -23,12 +22,11 @@ use Rattle.cards.proofs.BytesLaws.{length-parts}
 use Rattle.card_block.specs.declared.Carried.{Carried}
 use Rattle.card_block.specs.declared.Reason.{Reason}
 use Rattle.card_block.specs.declared.Reason.the-variants.{Check, Shape, Number}
-use Rattle.card_block.specs.declared.moments.Walked.{Walked}
-use Rattle.card_block.specs.declared.moments.Walked.the-variants.{Whole, Broken}
 use Rattle.card_block.specs.declared.Judged.{Judged}
 use Rattle.card_block.specs.declared.Judged.the-variants.{Stays, Goes}
-use Rattle.card_block.specs.Judging.{openAt, settledBy, settled, judgedBlock, judgedPiece, judgement, nothing, Carries, meant, Kept, Judges}
+use Rattle.card_block.specs.Judging.{openAt, judgement, nothing, Carries, meant, Kept, Judges}
 use Rattle.card_block.proofs.Judgements.{judgement-right, carries-start}
+use Rattle.card_block.proofs.StayLaws.{count-byte}
 use Rattle.card_reader.specs.declared.Onward.{Onward}
 use Rattle.card_reader.specs.declared.Step.{Step}
 use Rattle.card_reader.specs.declared.Step.the-variants.{On, Bad, Open}
@@ -62,31 +60,6 @@ pub stepped-on : (bytes : List ℕ) (c g : Carried) (records : ℕ) (r : Step) �
     → r ≡ steppedBy c g records → r ≡ stepped bytes c
 unfolding stepped steppedTo
 stepped-on bytes c g records r e f h = h ∙ rw (e, f)
-
--- a block that stays has a number, and the next one is above 0
-settled-next : (n next : ℕ) (w : Walked) (g : Carried) → settled n next w ≡ Stays g → 0 < g .next
-unfolding settled settledBy
-settled-next n next Broken g e = absurd (let z : _≡_ {A = ℕ} 0 1 = cc in omega arith)
-settled-next n next (Whole a b) g e = go (ltb n next) e
-  where
-    go : (q : Bool) → settledBy q n a b ≡ Stays g → 0 < g .next
-    go true h = absurd (let z : _≡_ {A = ℕ} 0 1 = cc in omega arith)
-    go false h =
-        let same : g ≡ record { next = suc n; count = a; stamp = b } = cc in
-        omega (arith, ap (λ (x : Carried). x .next) same)
-
-pub stays-next : (bytes : List ℕ) (c g : Carried) → judgement bytes c ≡ Stays g → 0 < g .next
-unfolding judgement judgedPiece judgedBlock
-stays-next bytes c g e = go (pieceOf bytes) e
-  where
-    go : (p : Piece) → judgedPiece p c ≡ Stays g → 0 < g .next
-    go (good b) h = settled-next (b .number) (c .next) _ g h
-    go (faulty why) h = absurd (let z : _≡_ {A = ℕ} 0 1 = cc in omega arith)
-
--- byte 1 of a good block is the count of its records
-count-byte : (b : Block) → getD (blockBytes b) 1 0 ≡ length (b .records)
-unfolding blockBytes body filled bytesOf
-count-byte b = refl
 
 -- the reader goes on past a block
 pub record Passes (f : Before) (bytes : List ℕ) (o : Onward) : Type 0 where

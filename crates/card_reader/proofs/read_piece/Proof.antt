@@ -2,7 +2,8 @@
 use native.Mathlib.Omega.{arith}
 use mathlib.Core.Path.{sym, ap, _∙_}
 use borrow.Author.Needs.{needs}
-use Rattle.card_reader.proofs.StepLaws.{stays-next, stepped-bad, stepped-on}
+use Rattle.card_block.proofs.StayLaws.{stays-next}
+use Rattle.card_reader.proofs.StepLaws.{stepped-bad, stepped-on}
 use Rattle.card_reader.proofs.read_piece.Statement.{statement}
 use Rattle.card_reader.proofs.read_piece.Tie as tie
 

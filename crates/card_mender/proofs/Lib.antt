@@ -1,0 +1,3 @@
+-- Laws of mending. Assumes nothing.
+pub mod FlagLaws
+pub mod WeighLaws
