@@ -5,3 +5,4 @@ pub mod WalkLaws
 pub mod JudgeLaws
 pub mod Judgements
 pub mod StayLaws
+pub mod PieceEnds

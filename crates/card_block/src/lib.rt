@@ -11,6 +11,7 @@ use crate::sums::checked;
 use crate::sums::number_at;
 use crate::sums::size_of;
 ghost use mathlib.Core.Path.{_≡_};
+ghost use Prim.Native.Nat.{_+_, _≤_, min};
 ghost use lib.ListN.{length, getD};
 ghost use Rattle.cards.specs.Blocks.{blockOf};
 ghost use Rattle.card_block.specs.Judging.{nothing, judgedBlock, settledBy, settled, judgement};
@@ -55,6 +56,17 @@ pub fn records(piece: &[u8]) -> usize
         return 0;
     }
     size_of(piece)
+}
+
+// Where the piece that begins at a place ends.
+pub fn end_of(len: usize, at: usize) -> usize
+    requires { ⌜ at ≤ len ⌝ }
+    ensures { λ r. ⌜ r ≡ min (at + 512) len ⌝ }
+{
+    if len - at < 512 {
+        return len;
+    }
+    at + 512
 }
 
 // Number comes after shape: a block that isn't above the last kept one goes.

@@ -69,3 +69,8 @@ lookedBy bytes carried (Goes why) = On carried
 
 unfoldable pub looked : List ℕ → Carried → Looked
 looked bytes carried = lookedBy bytes carried (judgement bytes carried)
+
+-- how far the records of a block stay
+unfoldable pub stayTo : Bool → Held → ℕ
+stayTo true h = h .records
+stayTo false h = h .last

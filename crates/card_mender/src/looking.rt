@@ -3,6 +3,11 @@ use crate::flags::past_last;
 use card_block::Carried;
 use card_block::Judged;
 ghost use mathlib.Core.Path.{_≡_};
+ghost use lib.ListN.{drop};
+ghost use Rattle.cards.specs.Blocks.{pieces};
+ghost use Rattle.cards.specs.Reading.{Before};
+ghost use Rattle.cards.specs.Piecewise.{flaggedAhead};
+ghost use Rattle.card_block.specs.Judging.{Carries};
 ghost use Rattle.card_block.specs.Shapes.{Shaped};
 ghost use Rattle.card_mender.specs.Weighing.{looked, lookedOn};
 
@@ -38,4 +43,28 @@ pub fn look(piece: &[u8], carried: Carried) -> Looked
             Looked::Ends
         }
     }
+}
+
+// Whether a flagged record comes from a place of the card on, before a gap.
+pub fn flagged_ahead(card: &[u8], from: usize, carried: Carried) -> bool
+    ensures { λ r. ⌜ ((f : Before) → Carries f carried → r ≡ flaggedAhead f (pieces (drop from (now (card .entry))))) ⌝ }
+{
+    let mut carries = carried;
+    let mut at = from;
+    while at < card.len() {
+        let end = card_block::end_of(card.len(), at);
+        match look(&card[at..end], carries) {
+            Looked::Comes => {
+                return true;
+            }
+            Looked::Ends => {
+                return false;
+            }
+            Looked::On(next) => {
+                carries = next;
+                at = end;
+            }
+        }
+    }
+    false
 }

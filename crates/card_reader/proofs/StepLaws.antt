@@ -27,6 +27,7 @@ use Rattle.card_block.specs.declared.Judged.the-variants.{Stays, Goes}
 use Rattle.card_block.specs.Judging.{openAt, judgement, nothing, Carries, meant, Kept, Judges}
 use Rattle.card_block.proofs.Judgements.{judgement-right, carries-start}
 use Rattle.card_block.proofs.StayLaws.{count-byte}
+use Rattle.card_block.proofs.PieceEnds.{piece-end}
 use Rattle.card_reader.specs.declared.Onward.{Onward}
 use Rattle.card_reader.specs.declared.Step.{Step}
 use Rattle.card_reader.specs.declared.Step.the-variants.{On, Bad, Open}
@@ -115,27 +116,6 @@ pub record Reached (card : List ℕ) (c : Carried) (place held at : ℕ) : Type 
 
 pub reached-start : (card : List ℕ) → Reached card nothing 0 0 0
 reached-start card = record { before = start; carries = carries-start; within = omega arith; counted = omega arith; leads = refl }
-
--- the piece at a place, and those past it
-piece-end : (card : List ℕ) (at end : ℕ) → at < length card → end ≡ min (at + 512) (length card)
-    → pieces (drop at card) ≡ pieceOf (take (end - at) (drop at card)) ∷ pieces (drop end card)
-piece-end card at end h e =
-    pieces-some (drop at card) (omega (arith, length-drop at card)) ∙ rw (drop-drop 512 at card) (go (ltb (length card) (at + 512)) refl)
-  where
-    go : (q : Bool) → ltb (length card) (at + 512) ≡ q
-        → (pieceOf (take 512 (drop at card)) ∷ pieces (drop (at + 512) card)) ≡ (pieceOf (take (end - at) (drop at card)) ∷ pieces (drop end card))
-    go true f =
-        let short : length card < at + 512 = ltb-true (length card) (at + 512) f in
-        let last : end ≡ length card = omega arith in
-        let none : drop (at + 512) card ≡ drop end card = drop-of-length-le card {i = at + 512} (omega arith) ∙ sym (drop-of-length-le card {i = end} (omega arith)) in
-        let all : take 512 (drop at card) ≡ take (end - at) (drop at card) =
-        take-all 512 (drop at card) (omega (arith, length-drop at card)) ∙ sym (take-all (end - at) (drop at card) (omega (arith, length-drop at card))) in
-        rw (none, all)
-    go false f =
-        let long : at + 512 ≤ length card = ltb-false (length card) (at + 512) f in
-        let here : end ≡ at + 512 = omega arith in
-        let size : end - at ≡ 512 = omega arith in
-        rw (size, here)
 
 module _ {card : List ℕ} {c : Carried} {place held at : ℕ} (r : Reached card c place held at) (end : ℕ) (h : at < length card) (e : end ≡ min (at + 512) (length card)) (j : Step) (w : j ≡ stepped (take (end - at) (drop at card)) c) where
   abbrev here : List ℕ

@@ -4,8 +4,7 @@ use card_block::Carried;
 use card_block::Judged;
 use card_block::Reason;
 ghost use mathlib.Core.Path.{_≡_};
-ghost use Prim.Native.Nat.{_+_, _≤_, _<_, min};
-ghost use lib.ListN.{length};
+ghost use Prim.Native.Nat.{_<_};
 ghost use Rattle.card_reader.specs.Stepping.{stepped, steppedBy};
 ghost use Rattle.card_reader.specs.Finding.{Finds};
 
@@ -62,17 +61,6 @@ pub fn read_piece(piece: &[u8], carried: Carried) -> Step
     }
 }
 
-// Where the piece that begins at a place ends.
-fn end_of(len: usize, at: usize) -> usize
-    requires { ⌜ at ≤ len ⌝ }
-    ensures { λ r. ⌜ r ≡ min (at + 512) len ⌝ }
-{
-    if len - at < 512 {
-        return len;
-    }
-    at + 512
-}
-
 // Reads a whole card.
 pub fn read(card: &[u8]) -> Found
     ensures { λ r. ⌜ Finds (now (card .entry)) r ⌝ }
@@ -82,7 +70,7 @@ pub fn read(card: &[u8]) -> Found
     let mut held: usize = 0;
     let mut at: usize = 0;
     while at < card.len() {
-        let end = end_of(card.len(), at);
+        let end = card_block::end_of(card.len(), at);
         match read_piece(&card[at..end], carried) {
             Step::Bad(why) => {
                 return Found::Bad(place, why);

@@ -28,11 +28,11 @@ unfolding flaggedAhead
 ahead-goes f p ps why e = rw (e, flaggedAhead)
 
 -- the kept blocks past one piece
-kept-stays : (f : Before) (p : Piece) (ps : List Piece) (b : Block) → fate f p ≡ stays b → kept (fates f (p ∷ ps)) ≡ b ∷ kept (fates (after f b) ps)
+pub kept-stays : (f : Before) (p : Piece) (ps : List Piece) (b : Block) → fate f p ≡ stays b → kept (fates f (p ∷ ps)) ≡ b ∷ kept (fates (after f b) ps)
 unfolding kept
 kept-stays f p ps b e = ap kept (fates-stays f p ps b e)
 
-kept-goes : (f : Before) (p : Piece) (ps : List Piece) (why : Reason) → fate f p ≡ goes why → kept (fates f (p ∷ ps)) ≡ kept (fates f ps)
+pub kept-goes : (f : Before) (p : Piece) (ps : List Piece) (why : Reason) → fate f p ≡ goes why → kept (fates f (p ∷ ps)) ≡ kept (fates f ps)
 unfolding kept
 kept-goes f p ps why e = ap kept (fates-goes f p ps why e)
 
