@@ -1,7 +1,7 @@
 // Mending a card: which blocks stay, which of their records, and the list of blocks. What mending keeps is in the crate `cards`; what one piece
 // comes to is in specs/Weighing.antt, and what `mend` leaves in the slices in specs/Mended.antt. Assumes nothing: any bytes are mended.
 mod flags; // flags.rt: the first and the last flagged record of a block
-mod looking; // looking.rt: whether a flagged record comes later in the stretch
+pub mod looking; // looking.rt: whether a flagged record comes later in the stretch
 
 use crate::flags::past_first;
 use crate::flags::past_last;
