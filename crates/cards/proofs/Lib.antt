@@ -15,6 +15,7 @@ pub mod WalkLaws
 pub mod StretchLaws
 pub mod Readings
 pub mod NamedPlace
+pub mod FirstBad
 pub mod RoundTrip
 pub mod Mends
 pub mod LeftAlone

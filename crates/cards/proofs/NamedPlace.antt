@@ -19,7 +19,7 @@ some-open [] e = e
 some-open (r ∷ rs) e = refl
 
 -- the last block with a record lies before the next piece, where a moment is open
-held-after : (place held : ℕ) (f : Before) (b : Block) (rs : List Record) → b .records ≡ rs → (some (f .opened) ≡ true → held < place)
+pub held-after : (place held : ℕ) (f : Before) (b : Block) (rs : List Record) → b .records ≡ rs → (some (f .opened) ≡ true → held < place)
     → some (after f b .opened) ≡ true → lastPlace held place (b .records) < suc place
 unfolding lastPlace after
 held-after place held f b (r ∷ rs) e h s = rw e (omega arith)
@@ -65,7 +65,7 @@ named-from place held f (p ∷ ps) at why h e = go (fate f p) refl (λ n m g. na
         let same : place ≡ at = cc in
         omega arith
 
-no-record : some (start .opened) ≡ true → 0 < 0
+pub no-record : some (start .opened) ≡ true → 0 < 0
 unfolding some start
 no-record s = absurd (clash s)
 

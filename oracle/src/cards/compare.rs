@@ -74,7 +74,8 @@ impl Subject {
         let written = fs::read(&out).map_err(|error| error.to_string())?;
         same("the mended card", &written, &mended)?;
         // What mending puts out the reader takes.
-        read(&mended).map_err(|(place, why)| format!("the mended card is refused: {place} {why:?}"))?;
+        read(&mended)
+            .map_err(|(place, why)| format!("the mended card is refused: {place} {why:?}"))?;
         Ok(())
     }
 
@@ -83,11 +84,18 @@ impl Subject {
         let mut random = Random::of_case(seed, index);
         let moments = generate::moments(&mut random, 40);
         let (lines, file) = (self.file("lines"), self.file("written"));
-        let shown: String = moments.iter().map(|records| text::moment(records)).collect();
+        let shown: String = moments
+            .iter()
+            .map(|records| text::moment(records))
+            .collect();
         fs::write(&lines, &shown).map_err(|error| error.to_string())?;
         let _ = fs::remove_file(&file);
         let said = self.say(&["write", &file], Some(&lines))?;
-        same("write", &(said.out, said.error, said.done), &(String::new(), String::new(), true))?;
+        same(
+            "write",
+            &(said.out, said.error, said.done),
+            &(String::new(), String::new(), true),
+        )?;
         let written = fs::read(&file).map_err(|error| error.to_string())?;
         same("the written card", &written, &write(&moments))?;
         same("the moments read back", &read(&written), &Ok(vec![moments]))
@@ -105,7 +113,9 @@ fn same<T: PartialEq + std::fmt::Debug>(what: &str, found: &T, right: &T) -> Res
 pub fn all(seed: u64, count: u64, subject: &Subject) -> Result<String, String> {
     let systematic = generate::systematic();
     for (at, card) in systematic.iter().enumerate() {
-        subject.card(card).map_err(|wrong| format!("systematic card {at}: {wrong}"))?;
+        subject
+            .card(card)
+            .map_err(|wrong| format!("systematic card {at}: {wrong}"))?;
     }
     let mut met = [0; generate::DAMAGES.len()];
     let (mut taken, mut refused) = (0, 0);
@@ -116,8 +126,12 @@ pub fn all(seed: u64, count: u64, subject: &Subject) -> Result<String, String> {
             Ok(_) => taken += 1,
             Err(_) => refused += 1,
         }
-        subject.card(&card).map_err(|wrong| format!("seed {seed}, card {index}: {wrong}"))?;
-        subject.moments(seed, index).map_err(|wrong| format!("seed {seed}, moments {index}: {wrong}"))?;
+        subject
+            .card(&card)
+            .map_err(|wrong| format!("seed {seed}, card {index}: {wrong}"))?;
+        subject
+            .moments(seed, index)
+            .map_err(|wrong| format!("seed {seed}, moments {index}: {wrong}"))?;
     }
     let never: Vec<&str> = (0..met.len())
         .filter(|damage| met[*damage] == 0)

@@ -5,8 +5,15 @@ use crate::random::Random;
 
 /// The kinds of damage, so that a run can say that it met each.
 pub const DAMAGES: [&str; 9] = [
-    "none", "a changed byte", "a changed byte with a new check", "a cut", "a block lost", "a block twice", "two blocks swapped",
-    "a flag turned", "an open end",
+    "none",
+    "a changed byte",
+    "a changed byte with a new check",
+    "a cut",
+    "a block lost",
+    "a block twice",
+    "two blocks swapped",
+    "a flag turned",
+    "an open end",
 ];
 
 pub fn record(random: &mut Random, stamp: u32, last: bool) -> Record {
@@ -50,14 +57,22 @@ pub fn blocks(random: &mut Random, moments: &[Vec<Record>]) -> Vec<Block> {
     let mut blocks = Vec::new();
     let mut at = 0;
     while at < records.len() || (blocks.len() < 2 && random.once_in(2)) {
-        let room = if random.once_in(3) { MOST_RECORDS } else { random.below(6) };
+        let room = if random.once_in(3) {
+            MOST_RECORDS
+        } else {
+            random.below(6)
+        };
         let end = records.len().min(at + room);
         blocks.push(Block {
             number,
             records: records[at..end].to_vec(),
         });
         let whole = end == 0 || end == records.len() || records[end - 1].last;
-        let step = if whole && random.once_in(4) { random.between(2, 4) as u32 } else { 1 };
+        let step = if whole && random.once_in(4) {
+            random.between(2, 4) as u32
+        } else {
+            1
+        };
         at = end;
         match number.checked_add(step) {
             Some(next) => number = next,
@@ -118,7 +133,11 @@ pub fn card(seed: u64, index: u64) -> (Vec<u8>, Vec<usize>) {
             break;
         }
         let at = random.below(card.len());
-        card[at] = if random.once_in(2) { random.below(256) as u8 } else { card[at].wrapping_add(1) };
+        card[at] = if random.once_in(2) {
+            random.below(256) as u8
+        } else {
+            card[at].wrapping_add(1)
+        };
         if random.once_in(2) {
             remade(&mut card, at / BLOCK);
             damages.push(2);
@@ -149,10 +168,22 @@ pub fn systematic() -> Vec<Vec<u8>> {
         .collect();
     let records = moments.concat();
     let mut all = vec![
-        Block { number: 3, records: records[..10].to_vec() },
-        Block { number: 4, records: records[10..25].to_vec() },
-        Block { number: 5, records: Vec::new() },
-        Block { number: 6, records: records[25..].to_vec() },
+        Block {
+            number: 3,
+            records: records[..10].to_vec(),
+        },
+        Block {
+            number: 4,
+            records: records[10..25].to_vec(),
+        },
+        Block {
+            number: 5,
+            records: Vec::new(),
+        },
+        Block {
+            number: 6,
+            records: records[25..].to_vec(),
+        },
     ];
     all[1].records.truncate(15);
     let card = card_of(&all);
@@ -168,11 +199,20 @@ pub fn systematic() -> Vec<Vec<u8>> {
         cards.push(card[..BLOCK + at].to_vec());
     }
     // The last number of all, a ninth record, and 0 for 255.
-    cards.push(bytes_of(&Block { number: u32::MAX, records: records[..1].to_vec() }));
+    cards.push(bytes_of(&Block {
+        number: u32::MAX,
+        records: records[..1].to_vec(),
+    }));
     let mut nine = vec![record(&mut random, 1, false); 9];
     nine[8].last = true;
-    cards.push(bytes_of(&Block { number: 0, records: nine }));
-    let mut unseen = bytes_of(&Block { number: 0, records: records[..1].to_vec() });
+    cards.push(bytes_of(&Block {
+        number: 0,
+        records: nine,
+    }));
+    let mut unseen = bytes_of(&Block {
+        number: 0,
+        records: records[..1].to_vec(),
+    });
     unseen[2] = 255;
     cards.push(unseen);
     cards

@@ -120,7 +120,10 @@ fn moments(records: &[Record]) -> Vec<Vec<Record>> {
 }
 
 fn may_be_one(records: &[Record]) -> bool {
-    records.len() <= 8 && records.iter().all(|record| record.stamp == records[0].stamp)
+    records.len() <= 8
+        && records
+            .iter()
+            .all(|record| record.stamp == records[0].stamp)
 }
 
 /// A kept block with its place in the card, and whether it makes a gap.
@@ -195,7 +198,10 @@ pub fn read(card: &[u8]) -> Result<Vec<Stretch>, (usize, Reason)> {
         let open = moments.pop().expect("one at least");
         // A moment is open at a gap, or at the end where no bad block comes first.
         if !open.is_empty() && (at < last || bad.is_none()) {
-            let holds = stretch.iter().rev().find(|kept| !kept.block.records.is_empty());
+            let holds = stretch
+                .iter()
+                .rev()
+                .find(|kept| !kept.block.records.is_empty());
             bad = Some((holds.expect("a record").place, Reason::Shape));
             break;
         }
@@ -221,7 +227,10 @@ pub fn mend(card: &[u8]) -> (Vec<u8>, Vec<Line>) {
             None => flags.len(),
         };
         // "Before a gap, and at the end, records after the last flagged one go."
-        let to = flags.iter().rposition(|flag| *flag).map_or(0, |last| last + 1);
+        let to = flags
+            .iter()
+            .rposition(|flag| *flag)
+            .map_or(0, |last| last + 1);
         let mut place = 0;
         for kept in stretch {
             let before = kept.block.records.len();

@@ -16,9 +16,12 @@ pub fn moment(records: &[Record]) -> String {
 
 /// The moments, with `anew` where the monitor starts anew.
 pub fn moments(stretches: &[Stretch]) -> String {
-    let lines = stretches
-        .iter()
-        .map(|stretch| stretch.iter().map(|records| moment(records)).collect::<String>());
+    let lines = stretches.iter().map(|stretch| {
+        stretch
+            .iter()
+            .map(|records| moment(records))
+            .collect::<String>()
+    });
     lines.collect::<Vec<_>>().join("anew\n")
 }
 
