@@ -55,11 +55,11 @@ onward-more zero stamp new flag h e = absurd (e refl)
 onward-more (suc count) stamp new flag h e = rw (ne-eqb flag 1 h, add-one)
 
 -- one record
-belongs-may : (count stamp : ℕ) (r : Record) → belongs (openAt count stamp) r ≡ mayBelong count stamp (r .stamp)
+pub belongs-may : (count stamp : ℕ) (r : Record) → belongs (openAt count stamp) r ≡ mayBelong count stamp (r .stamp)
 unfolding belongs openAt mayBelong
 belongs-may count stamp r = refl
 
-next-onward : (count stamp flag : ℕ) (r : Record) → r .last ≡ eqb flag 1 → next (openAt count stamp) r ≡ onward count stamp (r .stamp) flag
+pub next-onward : (count stamp flag : ℕ) (r : Record) → r .last ≡ eqb flag 1 → next (openAt count stamp) r ≡ onward count stamp (r .stamp) flag
 unfolding next openAt onward onwardBy
 next-onward count stamp flag r e = rw (e, next) (go (eqb flag 1))
   where

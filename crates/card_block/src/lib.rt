@@ -2,7 +2,7 @@
 // said in the crate `cards`; what `judge` answers is in specs/Judging.antt. Assumes nothing: any bytes are judged.
 pub mod sums; // sums.rt: the check, numbers and unused bytes
 mod shape; // shape.rt: the shape of a record and of a block
-mod moments; // moments.rt: the moments that run through a block
+pub mod moments; // moments.rt: the moments that run through a block
 
 use crate::moments::Walked;
 use crate::moments::walk;

@@ -13,13 +13,13 @@ pub enum Walked {
 }
 
 // An open moment: the count of its records, and their stamp.
-struct Opened {
-    count: u32,
-    stamp: u32,
+pub struct Opened {
+    pub count: u32,
+    pub stamp: u32,
 }
 
 // A record of this stamp can belong to the open moment, or begin one.
-fn may_belong(count: u32, stamp: u32, new: u32) -> bool
+pub fn may_belong(count: u32, stamp: u32, new: u32) -> bool
     ensures { λ r. ⌜ r ≡ mayBelong count stamp new ⌝ }
 {
     if count == 0 {
@@ -32,7 +32,7 @@ fn may_belong(count: u32, stamp: u32, new: u32) -> bool
 }
 
 // What is open after a record of this stamp and flag.
-fn go_on(count: u32, stamp: u32, new: u32, flag: u8) -> Opened
+pub fn go_on(count: u32, stamp: u32, new: u32, flag: u8) -> Opened
     requires { ⌜ count ≤ 8 ⌝ }
     ensures { λ r. ⌜ openAt (r .count) (r .stamp) ≡ onward count stamp new flag ⌝ }
 {

@@ -32,7 +32,7 @@ use Rattle.card_mender.specs.Lines.{word, lineOf, linesOf, piecesIn, Roo
 use Rattle.card_mender.specs.Turning.{bytesToCome, linesToCome, Going, Ready, Turns, Whole, PutHeld}
 use Rattle.card_mender.proofs.FlagLaws.{length-from}
 use Rattle.card_mender.proofs.Weights.{Weighs, WeighsRight, weighs-right}
-use Rattle.card_mender.proofs.PutLaws.{sets-take, sets-drop}
+use Rattle.card_writer.proofs.StoreLaws.{sets-take, sets-drop}
 
 -- the pieces to come, one by one
 bytes-goes : (begun : Bool) (f : Before) (p : Piece) (ps : List Piece) (why : Reason) → fate f p ≡ goes why

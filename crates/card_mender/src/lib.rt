@@ -141,18 +141,6 @@ fn stay_to(card: &[u8], end: usize, held: Held) -> usize
     held.last
 }
 
-// Copies a block to a place.
-fn copy(block: &[u8; 512], out: &mut [u8], at: usize)
-    requires { ⌜ (length (now block) ≡ 512) × (at + 512 ≤ length (now out)) ⌝ }
-    ensures { λ _. ⌜ now (out .exit) ≡ sets (now (out .entry)) at (now (block .entry)) ⌝ }
-{
-    let mut i: usize = 0;
-    while i < 512 {
-        out[at + i] = block[i];
-        i += 1;
-    }
-}
-
 // A line of the list: a word and a count.
 fn put_line(list: &mut [u32], place: usize, word: u32, count: u32)
     requires { ⌜ 2 * place + 2 ≤ length (now list) ⌝ }
@@ -171,7 +159,7 @@ fn put_held(card: &[u8], at: usize, end: usize, held: Held, put: usize, out: &mu
     let from = held.from;
     let mut block = [0u8; 512];
     put_kept(&card[at..end], from, to, &mut block);
-    copy(&block, out, put);
+    card_writer::copy_block(&block, out, put);
     to
 }
 

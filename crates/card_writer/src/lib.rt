@@ -5,9 +5,10 @@ use card_records::Fact;
 use card_records::put_fact;
 use card_records::put_number;
 ghost use mathlib.Core.Path.{_≡_};
-ghost use Prim.Native.Nat.{ℕ, _<_};
+ghost use Prim.Native.Nat.{ℕ, _+_, _≤_, _<_};
 ghost use mathlib.Core.List.{List, [], _∷_, _++_};
 ghost use lib.ListN.{length};
+ghost use lib.Seq.{sets};
 ghost use Rattle.cards.specs.Bytes.{filled};
 ghost use Rattle.cards.specs.Moments.{Record};
 ghost use Rattle.cards.specs.Blocks.{blockBytes};
@@ -52,4 +53,16 @@ pub fn end_block(out: &mut [u8])
     let sums = check_of(&out[0..510]);
     out[510] = sums.first as u8;
     out[511] = sums.second as u8;
+}
+
+// Copies a block to a place.
+pub fn copy_block(block: &[u8; 512], out: &mut [u8], at: usize)
+    requires { ⌜ (length (now block) ≡ 512) × (at + 512 ≤ length (now out)) ⌝ }
+    ensures { λ _. ⌜ now (out .exit) ≡ sets (now (out .entry)) at (now (block .entry)) ⌝ }
+{
+    let mut i: usize = 0;
+    while i < 512 {
+        out[at + i] = block[i];
+        i += 1;
+    }
 }

@@ -27,14 +27,14 @@ slice-aggregate-put-kept c = search needs
 put-kept-requires : tie.Need-put-kept-requires
 put-kept-requires c κs = (omega (arith, whole-long (c .before .before .before .before .before .pre .0), to-between _ (c .before .before .stay-to .result) (c .before .before .before .before .before .pre .0) (c .before .before .stay-to .ensures (c .before .before .before .before .before .pre .0 .before) (c .before .before .before .before .before .pre .0 .carries)) .1, c .before .before .before .before .before .pre .0 .few), to-between _ (c .before .before .stay-to .result) (c .before .before .before .before .before .pre .0) (c .before .before .stay-to .ensures (c .before .before .before .before .before .pre .0 .before) (c .before .before .before .before .before .pre .0 .carries)) .0, omega (arith, to-between _ (c .before .before .stay-to .result) (c .before .before .before .before .before .pre .0) (c .before .before .stay-to .ensures (c .before .before .before .before .before .pre .0 .before) (c .before .before .before .before .before .pre .0 .carries)) .1, c .before .before .before .before .before .pre .0 .few), search needs)
 
-copy-requires : tie.Need-copy-requires
-copy-requires c κs = search needs
+copy-block-requires : tie.Need-copy-block-requires
+copy-block-requires c κs = search needs
 
 same-length : tie.Need-same-length
 same-length c = search needs
 
 returns : tie.Need-returns
-returns c = λ f k. record { to-is = c .before .before .before .before .before .before .before .before .before .stay-to .ensures f k; puts = c .before .before .copy .ensures ∙ ap (sets _ _) (c .before .before .before .before .before .before .put-kept .ensures) }
+returns c = λ f k. record { to-is = c .before .before .before .before .before .before .before .before .before .stay-to .ensures f k; puts = c .before .before .copy-block .ensures ∙ ap (sets _ _) (c .before .before .before .before .before .before .put-kept .ensures) }
 
 pub put-held-spec : {M : Type 1} → statement M
 put-held-spec =
@@ -46,6 +46,6 @@ put-held-spec =
     part-put-kept-end
     slice-aggregate-put-kept
     put-kept-requires
-    copy-requires
+    copy-block-requires
     same-length
     returns)

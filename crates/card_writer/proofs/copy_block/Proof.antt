@@ -1,10 +1,10 @@
--- `copy` meets its contract: the bytes passed are stored. The measure is what is left of them. Assumes nothing.
+-- `copy_block` meets its contract: the bytes passed are stored. The measure is what is left of them. Assumes nothing.
 use Prim.Native.Nat.{_-_}
 use native.Mathlib.Omega.{arith}
 use borrow.Author.Needs.{needs}
-use Rattle.card_mender.proofs.PutLaws.{Copied, copied-start, copied-more, copied-size, copied-all}
-use Rattle.card_mender.proofs.copy.Statement.{statement}
-use Rattle.card_mender.proofs.copy.Tie as tie
+use Rattle.card_writer.proofs.StoreLaws.{Copied, copied-start, copied-more, copied-size, copied-all}
+use Rattle.card_writer.proofs.copy_block.Statement.{statement}
+use Rattle.card_writer.proofs.copy_block.Tie as tie
 
 abbrev Inv-loop : tie.InvT-loop
 Inv-loop block out₀ at i₀ out i = Copied block out₀ at out i
@@ -39,8 +39,8 @@ same-length c = copied-size (c .before .loop .inv)
 returns : tie.Need-returns Inv-loop μ-loop
 returns c = copied-all (c .before .loop .inv) (omega arith) (c .before .before .pre .0)
 
-pub copy-spec : {M : Type 1} → statement M
-copy-spec =
+pub copy-block-spec : {M : Type 1} → statement M
+copy-block-spec =
     tie.close
     (tie.spec
     Inv-loop
