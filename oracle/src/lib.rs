@@ -1,5 +1,6 @@
 //! An independent monitor that enumerates assignments, and its comparison with another monitor.
 
+pub mod cards;
 pub mod case;
 pub mod compare;
 pub mod coverage;

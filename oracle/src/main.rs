@@ -7,7 +7,7 @@ use oracle::coverage::{Coverage, BY_INPUTS};
 use oracle::enumerating::Oracle;
 use oracle::generate::{calls, inputs, laws};
 use oracle::monitor::Monitor;
-use oracle::{limits, program, runs};
+use oracle::{cards, limits, program, runs};
 
 #[cfg(feature = "linked")]
 use oracle::linked::Linked as Subject;
@@ -23,6 +23,7 @@ oracle compare SEED COUNT
 oracle compare-program SEED COUNT --run COMMAND..
 oracle limits FILE..
 oracle lines FILE --run COMMAND..
+oracle cards SEED COUNT FOLDER --run COMMAND..
 oracle input SEED INDEX
 oracle trial SEED INDEX
 oracle pair SEED INDEX";
@@ -53,6 +54,10 @@ fn command() -> Result<(), String> {
             compare_program(number(seed)?, number(count)?, run)?
         }
         ["lines", file, "--run", ref run @ ..] if !run.is_empty() => lines(file, run)?,
+        ["cards", seed, count, folder, "--run", ref run @ ..] if !run.is_empty() => {
+            let subject = cards::compare::Subject::new(run, std::path::Path::new(folder));
+            cards::compare::all(number(seed)?, number(count)?, &subject)?
+        }
         ["limits", ref files @ ..] if !files.is_empty() => written(files)?,
         ["input", seed, index] => {
             let input = inputs::input(number(seed)?, number(index)?);

@@ -1,0 +1,2 @@
+-- Laws of records as structs. Assumes nothing.
+pub mod FactLaws

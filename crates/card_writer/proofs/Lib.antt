@@ -1,0 +1,3 @@
+-- Laws of a block that is being written. Assumes nothing.
+pub mod SheetLaws
+pub mod StoreLaws

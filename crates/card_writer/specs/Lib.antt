@@ -1,0 +1,2 @@
+-- What the contracts cite: what a slice holds while a block is written in it. Assumes nothing.
+pub mod Sheets
