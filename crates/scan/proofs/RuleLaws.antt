@@ -7,63 +7,8 @@ use mathlib.Core.List.{List, [], _∷_}
 use lib.ListN.{getD}
 use Rattle.text.specs.Words.{Word, name, number, constant, prefix, binary, quantifier, opening, closing, comma, dot, once, historically, previously, negation, sinces, ands, ors, implies, universal, existential}
 use Rattle.text.specs.Shape.{Mode, operand, operator, call, slot, point, argument, separator, nowhere, Shape, halt, shut, next}
-use Rattle.spelling.specs.Codes.{codeOf, modeNumber, kinds, nexts, nextMode}
-
--- the kind of a word
-unfoldable pub kindOf : Word → ℕ
-kindOf (name x) = 0
-kindOf (number ds) = 1
-kindOf (constant b) = 2
-kindOf (prefix o) = 3
-kindOf (binary o) = 4
-kindOf (quantifier q) = 5
-kindOf opening = 6
-kindOf closing = 7
-kindOf comma = 8
-kindOf dot = 9
-
-kind-is : (w : Word) → getD kinds (codeOf w) 0 ≡ kindOf w
-unfolding kinds codeOf kindOf
-kind-is (name x) = refl
-kind-is (number ds) = refl
-kind-is (constant true) = refl
-kind-is (constant false) = refl
-kind-is (prefix once) = refl
-kind-is (prefix historically) = refl
-kind-is (prefix previously) = refl
-kind-is (prefix negation) = refl
-kind-is (binary sinces) = refl
-kind-is (binary ands) = refl
-kind-is (binary ors) = refl
-kind-is (binary implies) = refl
-kind-is (quantifier universal) = refl
-kind-is (quantifier existential) = refl
-kind-is opening = refl
-kind-is closing = refl
-kind-is comma = refl
-kind-is dot = refl
-
--- words have numbers below 18
-pub code-lt : (w : Word) → codeOf w < 18
-unfolding codeOf
-code-lt (name x) = omega arith
-code-lt (number ds) = omega arith
-code-lt (constant true) = omega arith
-code-lt (constant false) = omega arith
-code-lt (prefix once) = omega arith
-code-lt (prefix historically) = omega arith
-code-lt (prefix previously) = omega arith
-code-lt (prefix negation) = omega arith
-code-lt (binary sinces) = omega arith
-code-lt (binary ands) = omega arith
-code-lt (binary ors) = omega arith
-code-lt (binary implies) = omega arith
-code-lt (quantifier universal) = omega arith
-code-lt (quantifier existential) = omega arith
-code-lt opening = omega arith
-code-lt closing = omega arith
-code-lt comma = omega arith
-code-lt dot = omega arith
+use Rattle.spelling.specs.Codes.{codeOf, modeNumber, nexts, nextMode, kindOf, modeAfter}
+use Rattle.spelling.proofs.KindLaws.{next-is}
 
 -- modes have numbers below 8
 pub mode-lt : (m : Mode) → modeNumber m < 8
@@ -115,9 +60,8 @@ plain-code closing p = absurd p
 plain-code comma p = record { opened = λ e. omega arith; closed = λ e. omega arith }
 plain-code dot p = record { opened = λ e. omega arith; closed = λ e. omega arith }
 
-tabled : (m : Mode) (w : Word) → nextMode (modeNumber m) (codeOf w) ≡ getD nexts (modeNumber m * 10 + kindOf w) 0
-unfolding nextMode
-tabled m w = ap (λ (k : ℕ). getD nexts (modeNumber m * 10 + k) 0) (kind-is w)
+tabled : (m : Mode) (w : Word) → nextMode (modeNumber m) (codeOf w) ≡ modeAfter (modeNumber m) w
+tabled m w = next-is (modeNumber m) w
 
 -- what a word does: it stops; it opens a parenthesis, or arguments; it closes a parenthesis, or arguments; it goes on
 pub data Rules (m : Mode) (d : ℕ) (w : Word) : Type 0 where
@@ -129,7 +73,7 @@ pub data Rules (m : Mode) (d : ℕ) (w : Word) : Type 0 where
   goes : (k : Mode) → nextMode (modeNumber m) (codeOf w) ≡ modeNumber k → (modeNumber k ≡ 7 → ⊥) → Other w → next m d w ≡ record { mode = k; depth = d } → Rules m d w
 
 pub rules : (m : Mode) (d : ℕ) (w : Word) → Rules m d w
-unfolding next halt modeNumber nexts kindOf codeOf
+unfolding next halt modeNumber nexts kindOf modeAfter codeOf
 rules operand d (name x) = goes call (tabled operand (name x)) (λ e. omega arith) (plain-code (name x) tt) refl
 rules operand d (number ds) = stops (tabled operand (number ds)) refl
 rules operand d (constant b) = goes operator (tabled operand (constant b)) (λ e. omega arith) (plain-code (constant b) tt) refl

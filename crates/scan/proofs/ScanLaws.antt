@@ -10,7 +10,7 @@ use mathlib.Core.Logic.{_⊎_, inl, inr, ⊎-elim}
 use lib.ListN.{length, drop, getD}
 use lib.Seq.{drop-cons, drop-length}
 use Rattle.trees.proofs.Tests.{false-true}
-use Rattle.text.specs.Grammar.{Reading, RuleText, Place}
+use Rattle.text.specs.Grammar.{Reading, RuleText, HasReading, Place}
 use Rattle.text.specs.Machine.{Stage, wants, ended, named, binds, bound, argues, argued, stopped, Result, refused, reads}
 use Rattle.text.specs.Reader.{Pending, gap, letters, numerals, dash, State, at, grows, joins, counts, step, run, finish, start, read, placeFrom, placeOf}
 use Rattle.text.specs.Shape.{shape, isRead, parens}
@@ -20,7 +20,6 @@ use Rattle.text.proofs.AliveLaws.{step-next, place-going, place-here}
 use Rattle.text.proofs.FoundLaws.{stop-reads}
 use Rattle.spelling.specs.Codes.{modeNumber}
 use Rattle.scan.specs.Looks.{Shaped, Sound, Looks, Steps, Ending}
-use Rattle.scan.specs.Scanned.{HasReading}
 
 going-mode : (t : Stage) → (t ≡ stopped → ⊥) → modeNumber (shape t .mode) < 7
 unfolding modeNumber shape

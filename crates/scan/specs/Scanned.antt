@@ -2,14 +2,9 @@
 use Prim.Native.Nat.{ℕ}
 use mathlib.Core.Path.{_≡_}
 use mathlib.Core.List.{List}
-use Rattle.text.specs.Grammar.{Reading, RuleText, Place}
+use Rattle.text.specs.Grammar.{Reading, RuleText, HasReading, Place}
 use Rattle.scan.specs.declared.Reached.{Reached}
 use Rattle.scan.specs.declared.Reached.the-variants.{Whole, Stops}
-
--- the bytes have a reading as a rule text
-pub record HasReading (bytes : List ℕ) : Type 0 where
-  pub reading : Reading
-  pub text : RuleText bytes reading
 
 -- a rule text, or none and the place of refusal 3
 abbrev pub Scanned : List ℕ → Reached → Type 0

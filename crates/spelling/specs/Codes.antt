@@ -68,6 +68,22 @@ nexts =
 unfoldable pub nextMode : ℕ → ℕ → ℕ
 nextMode m w = getD nexts (m * 10 + getD kinds w 0) 0
 
+-- the kind of a word, and the mode after it
+unfoldable pub kindOf : Word → ℕ
+kindOf (name bs) = 0
+kindOf (number ds) = 1
+kindOf (constant b) = 2
+kindOf (prefix o) = 3
+kindOf (binary o) = 4
+kindOf (quantifier q) = 5
+kindOf opening = 6
+kindOf closing = 7
+kindOf comma = 8
+kindOf dot = 9
+
+unfoldable pub modeAfter : ℕ → Word → ℕ
+modeAfter m w = getD nexts (m * 10 + kindOf w) 0
+
 -- no letter, digit or `_` stands first
 abbrev pub Stops : List ℕ → Type 0
 Stops [] = Unit {0}

@@ -97,6 +97,11 @@ pub record RuleText (bytes : List ℕ) (f : Reading) : Type 0 where
   pub fine : Fine f
   pub spelled : Spelled false (words f) bytes
 
+-- the bytes are a rule text
+pub record HasReading (bytes : List ℕ) : Type 0 where
+  pub reading : Reading
+  pub text : RuleText bytes reading
+
 -- some rule text begins with the bytes
 pub record Viable (bytes : List ℕ) : Type 0 where
   pub rest : List ℕ

@@ -1,6 +1,6 @@
 -- `scan::ends` meets its contract, by what is pending. Assumes nothing.
 use native.Mathlib.Omega.{arith}
-use Rattle.scan.proofs.RuleLaws.{code-lt}
+use Rattle.spelling.proofs.KindLaws.{code-lt}
 use Rattle.scan.proofs.StepLaws.{gap-ends, letters-ends, digits-ends, dash-ends}
 use borrow.Author.Needs.{needs}
 use Rattle.scan.proofs.ends.Statement.{statement}

@@ -1,7 +1,7 @@
 -- `looks::after_letters` meets its contract. Assumes nothing.
 use native.Mathlib.Omega.{arith}
 use mathlib.Core.Path.{sym, _∙_}
-use Rattle.scan.proofs.RuleLaws.{code-lt}
+use Rattle.spelling.proofs.KindLaws.{code-lt}
 use Rattle.scan.proofs.StepLaws.{letters-more, letters-stop, letters-end}
 use borrow.Author.Needs.{needs}
 use Rattle.scan.proofs.looks.after_letters.Statement.{statement}

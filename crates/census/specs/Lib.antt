@@ -1,0 +1,4 @@
+-- What the contracts cite: what is told of words one after the other, and what each pass answers.
+pub mod Folds
+pub mod Told
+pub mod Tables
