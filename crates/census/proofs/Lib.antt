@@ -8,3 +8,7 @@ pub mod ManyLaws
 pub mod NameLaws
 pub mod TableLaws
 pub mod NamesPass
+pub mod CallLaws
+pub mod MarkLaws
+pub mod ClashPass
+pub mod SettleLaws

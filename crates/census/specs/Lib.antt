@@ -2,3 +2,4 @@
 pub mod Folds
 pub mod Told
 pub mod Tables
+pub mod Clashes

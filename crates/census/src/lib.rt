@@ -2,4 +2,5 @@
 // crate text; what a pass tells of the words is in specs/Folds.antt. Assumes nothing.
 pub mod calls;
 pub mod constants;
+pub mod counts;
 pub mod names;

@@ -64,7 +64,7 @@ fn note(
 }
 
 // Whether a word is a predicate (a name where an operand must come), or a variable (a name after a quantifier, or an argument).
-fn is_name(predicates: bool, mode: u8, word: u8) -> bool
+pub fn is_name(predicates: bool, mode: u8, word: u8) -> bool
     ensures { λ r. ⌜ r ≡ nameCode predicates mode word ⌝ }
 {
     if word != 0 {
