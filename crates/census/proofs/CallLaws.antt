@@ -19,6 +19,7 @@ use Rattle.spelling.specs.Codes.{codeOf, kindOf}
 use Rattle.spelling.proofs.KindLaws.{name-kind}
 use Rattle.census.specs.Folds.{argumentsIn, Event, call, uses, value, binds, opens, closes, named, eventOf, termEvents, eventsOf}
 use Rattle.census.specs.Tables.{nameCode}
+use Rattle.census.specs.Scopes.{Distinct}
 use Rattle.census.specs.Clashes.{Call, callsIn, seen, countIn, anyClash, marking, markOf}
 
 -- the calls of a reading
@@ -198,9 +199,6 @@ any-append all [] ds = refl
 any-append all (c ∷ cs) ds = rw (any-append all cs ds) (sym (or-assoc (not (eqb (c .count) (countIn all (c .called)))) (anyClash all cs) (anyClash all ds)))
 
 -- the names in order of first use are different
-abbrev pub Distinct : List (List ℕ) → Type 0
-Distinct ns = (j : ℕ) → j < length ns → numberIn ns (getD ns j []) ≡ j
-
 number-longer : (ns : List (List ℕ)) (x y : List ℕ) → numberIn ns y < length ns → numberIn (ns ++ (x ∷ [])) y ≡ numberIn ns y
 unfolding numberIn
 number-longer [] x y h = absurd (omega arith)

@@ -23,7 +23,8 @@ use Rattle.census.specs.Tables.{namesAt, Table, Within, askedFor, nameCo
 use Rattle.census.specs.Clashes.{Call, callsIn, seen, countIn, anyClash, marking, markOf, Compared, Settled, Predicates, ToldClash}
 use Rattle.census.proofs.NameLaws.{predicates-of, name-step}
 use Rattle.census.proofs.TableLaws.{table-length}
-use Rattle.census.proofs.CallLaws.{Distinct, distinct-first, clash-of, callsBy, call-step, count-seen, count-unseen, mark-other, mark-seen, mark-unseen, mark-new, mark-old, any-append}
+use Rattle.census.specs.Scopes.{Distinct}
+use Rattle.census.proofs.CallLaws.{distinct-first, clash-of, callsBy, call-step, count-seen, count-unseen, mark-other, mark-seen, mark-unseen, mark-new, mark-old, any-append}
 use Rattle.census.proofs.MarkLaws.{marks-set, marks-keep, small-more, agreed-more, clash-found}
 use Rattle.census.proofs.PassLaws.{Passing, Stepped, pass-begins, pass-over, pass-ends, pass-steps, pass-on, of-all, stepped-lexed}
 

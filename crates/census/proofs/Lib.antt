@@ -12,3 +12,6 @@ pub mod CallLaws
 pub mod MarkLaws
 pub mod ClashPass
 pub mod SettleLaws
+pub mod LooseLaws
+pub mod EnterLaws
+pub mod FreePass

@@ -15,7 +15,8 @@ use Rattle.text.specs.Unfold.{listed, numberIn}
 use Rattle.text.proofs.NameLaws.{number-at, same-refl}
 use Rattle.text.proofs.ClassLaws.{same-true}
 use Rattle.census.specs.Clashes.{Call, seen, countIn, anyClash, markOf}
-use Rattle.census.proofs.CallLaws.{Distinct, count-seen, count-unseen, mark-other, mark-seen, mark-new, mark-old, any-append, seen-more}
+use Rattle.census.specs.Scopes.{Distinct}
+use Rattle.census.proofs.CallLaws.{count-seen, count-unseen, mark-other, mark-seen, mark-new, mark-old, any-append, seen-more}
 
 abbrev pub Marks : List (List ℕ) → List ℕ → List Call → Type 0
 Marks ns counts done = (j : ℕ) → j < length ns → getD counts j 0 ≡ markOf done (getD ns j [])

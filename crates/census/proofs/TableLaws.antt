@@ -15,7 +15,7 @@ use Rattle.text.proofs.NameLaws.{number-lt}
 use Rattle.census.specs.Tables.{namesOf, namesAt, Table, Within, askedFor, Noted}
 
 -- the number of a name is its place, and the count where it is not there
-number-listed : (ns : List (List ℕ)) (x : List ℕ) → numberIn ns x < length ns → listed ns x ≡ true
+pub number-listed : (ns : List (List ℕ)) (x : List ℕ) → numberIn ns x < length ns → listed ns x ≡ true
 unfolding numberIn listed
 number-listed [] x h = absurd (omega arith)
 number-listed (y ∷ ns) x h = go (same y x) h (number-listed ns x)

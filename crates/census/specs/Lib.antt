@@ -3,3 +3,4 @@ pub mod Folds
 pub mod Told
 pub mod Tables
 pub mod Clashes
+pub mod Scopes

@@ -4,3 +4,4 @@ pub mod calls;
 pub mod constants;
 pub mod counts;
 pub mod names;
+pub mod scopes;
