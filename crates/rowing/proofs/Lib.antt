@@ -2,3 +2,4 @@
 pub mod SameLaws
 pub mod ChunkLaws
 pub mod FrameLaws
+pub mod StackLaws

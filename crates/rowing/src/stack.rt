@@ -1,0 +1,81 @@
+// The frames that wait for their operand, the last on top.
+use crate::frames::early;
+use crate::frames::late;
+use crate::table::Made;
+ghost use mathlib.Core.Path.{_≡_};
+ghost use Prim.Native.Nat.{_+_, _*_, _≤_, _<_};
+ghost use lib.ListN.{length};
+ghost use Rattle.rowing.specs.Stacking.{RoomOf, Fills, Pushes};
+
+// How many rows there are, 65 for more than 64, the last row, and how many frames wait.
+pub struct Work {
+    pub count: usize,
+    pub row: u32,
+    pub top: usize,
+}
+
+// The loosest level of an operand that a frame of each kind takes; a parenthesis takes any, and only at its end.
+const ROOM: [u16; 11] = [9, 0, 0, 0, 0, 4, 4, 0, 1, 2, 4];
+
+fn room_of(frame: u16) -> u16
+    ensures { λ r. ⌜ RoomOf frame r ⌝ }
+{
+    let kind = (frame / 64) as usize;
+    if 10 < kind {
+        return 9;
+    }
+    ROOM[kind]
+}
+
+// The frames with room below the limit take their operand, from the top on.
+pub fn fill(rows: &mut [u32], frames: &[u16], limit: u16, w: Work) -> Work
+    requires { ⌜ (length (now rows) ≡ 576) × (w .count ≤ 65) × (w .top ≤ length (now frames)) ⌝ }
+    ensures { λ r. ⌜ Fills limit (now (frames .entry)) (now (rows .entry)) (w .count) (w .row) (w .top) (now (rows .exit)) (r .count) (r .row) (r .top) ⌝ }
+{
+    let mut m = Made {
+        count: w.count,
+        row: w.row,
+    };
+    let mut top = w.top;
+    while 0 < top {
+        let frame = frames[top - 1];
+        if limit <= room_of(frame) {
+            return Work {
+                count: m.count,
+                row: m.row,
+                top: top,
+            };
+        }
+        m = late(rows, frame, m);
+        top -= 1;
+    }
+    Work {
+        count: m.count,
+        row: m.row,
+        top: top,
+    }
+}
+
+// An operator of the level comes, and waits for its right operand.
+pub fn push(rows: &mut [u32], frames: &mut [u16], level: u16, w: Work) -> Work
+    requires { ⌜ (length (now rows) ≡ 576) × (w .count ≤ 65) × (w .top < length (now frames)) ⌝ }
+    requires { ⌜ (1 ≤ level) × (level ≤ 4) ⌝ }
+    ensures { λ r. ⌜ Pushes level (now (frames .entry)) (now (rows .entry)) (w .count) (w .row) (w .top) (now (frames .exit)) (now (rows .exit)) (r .count) (r .row) (r .top) ⌝ }
+{
+    let f = fill(rows, frames, level, w);
+    let kept = early(
+        rows,
+        level + 6,
+        Made {
+            count: f.count,
+            row: f.row,
+        },
+    );
+    let top = f.top;
+    frames[top] = (level + 6) * 64 + (kept.row % 64) as u16;
+    Work {
+        count: kept.count,
+        row: kept.row,
+        top: top + 1,
+    }
+}
