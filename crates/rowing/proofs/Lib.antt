@@ -3,3 +3,4 @@ pub mod SameLaws
 pub mod ChunkLaws
 pub mod FrameLaws
 pub mod StackLaws
+pub mod ShutLaws

@@ -55,7 +55,7 @@ room-none frame r n h f = absurd (omega (arith, f .kind-is, kind-le h))
 pub room-is : (frame : ℕ) → RoomOf frame (getD rooms (frame / 64) 0)
 room-is frame h f = ap (λ (k : ℕ). getD rooms k 0) (f .kind-is) ∙ room-kind h
 
-stack-top : (frames : List ℕ) (top : ℕ) → 0 < top → stackOf frames top ≡ getD frames (top - 1) 0 ∷ stackOf frames (top - 1)
+pub stack-top : (frames : List ℕ) (top : ℕ) → 0 < top → stackOf frames top ≡ getD frames (top - 1) 0 ∷ stackOf frames (top - 1)
 unfolding stackOf
 stack-top frames zero h = absurd (omega arith)
 stack-top frames (suc n) h =
@@ -70,7 +70,7 @@ fill-here : (limit : ℕ) (q : Held) (m : Rowed) (hs : List Held) → roomIn q <
 unfolding fillRows
 fill-here limit q m hs u = rw (lt-ltb (roomIn q) limit u, fillRows)
 
-stack-none : (frames : List ℕ) → stackOf frames 0 ≡ []
+pub stack-none : (frames : List ℕ) → stackOf frames 0 ≡ []
 unfolding stackOf
 stack-none frames = refl
 

@@ -8,7 +8,7 @@ use lib.ListN.{length, getD}
 use Rattle.text.specs.Words.{Binary}
 use Rattle.text.specs.Grammar.{level}
 use Rattle.text.specs.Emit.{Rowed}
-use Rattle.text.specs.Held.{Held, mark, applies, quantifies, joins, roomFor, made, keeps, Shut, Waiting, pushRows}
+use Rattle.text.specs.Held.{Held, mark, applies, quantifies, joins, roomFor, made, keeps, Shut, Waiting, pushRows, shutRows, endRows}
 use Rattle.rowing.specs.Denoted.{Holds, Denotes}
 use Rattle.rowing.specs.Framing.{Framed}
 
@@ -60,3 +60,15 @@ pub record Pushes (limit : ℕ) (frames flat : List ℕ) (count row top : ℕ) (
   pub lower : top' ≤ top + 1
   pub pushes : (o : Binary) (m : Rowed) (hs : List Held) → limit ≡ level o → Denotes flat count row m → AllFramed (stackOf frames top) hs
       → Pushed frames' flat' count' top' (pushRows o m hs)
+
+-- `)` comes, and the end comes
+pub record Shuts (frames flat : List ℕ) (count row top : ℕ) (flat' : List ℕ) (count' row' top' : ℕ) : Type 0 where
+  pub sized : length flat' ≡ length flat
+  pub most : count' ≤ 65
+  pub lower : top' ≤ top
+  pub shuts : (m : Rowed) (hs : List Held) → Denotes flat count row m → AllFramed (stackOf frames top) hs → Filled frames flat' count' row' top' (shutRows m hs)
+
+pub record Finishes (frames flat : List ℕ) (count row top : ℕ) (flat' : List ℕ) (count' row' : ℕ) : Type 0 where
+  pub sized : length flat' ≡ length flat
+  pub most : count' ≤ 65
+  pub finishes : (m : Rowed) (hs : List Held) → Denotes flat count row m → AllFramed (stackOf frames top) hs → Denotes flat' count' row' (endRows m hs)

@@ -5,7 +5,7 @@ use crate::table::Made;
 ghost use mathlib.Core.Path.{_≡_};
 ghost use Prim.Native.Nat.{_+_, _*_, _≤_, _<_};
 ghost use lib.ListN.{length};
-ghost use Rattle.rowing.specs.Stacking.{RoomOf, Fills, Pushes};
+ghost use Rattle.rowing.specs.Stacking.{RoomOf, Fills, Pushes, Shuts, Finishes};
 
 // How many rows there are, 65 for more than 64, the last row, and how many frames wait.
 pub struct Work {
@@ -77,5 +77,34 @@ pub fn push(rows: &mut [u32], frames: &mut [u16], level: u16, w: Work) -> Work
         count: kept.count,
         row: kept.row,
         top: top + 1,
+    }
+}
+
+// `)` comes: the frames take their operand, up to the last parenthesis, and that is closed.
+pub fn shut(rows: &mut [u32], frames: &[u16], w: Work) -> Work
+    requires { ⌜ (length (now rows) ≡ 576) × (w .count ≤ 65) × (w .top ≤ length (now frames)) ⌝ }
+    ensures { λ r. ⌜ Shuts (now (frames .entry)) (now (rows .entry)) (w .count) (w .row) (w .top) (now (rows .exit)) (r .count) (r .row) (r .top) ⌝ }
+{
+    let f = fill(rows, frames, 5, w);
+    let top = f.top;
+    if top == 0 {
+        return f;
+    }
+    Work {
+        count: f.count,
+        row: f.row,
+        top: top - 1,
+    }
+}
+
+// The end comes: all frames take their operand.
+pub fn finish(rows: &mut [u32], frames: &[u16], w: Work) -> Made
+    requires { ⌜ (length (now rows) ≡ 576) × (w .count ≤ 65) × (w .top ≤ length (now frames)) ⌝ }
+    ensures { λ r. ⌜ Finishes (now (frames .entry)) (now (rows .entry)) (w .count) (w .row) (w .top) (now (rows .exit)) (r .count) (r .row) ⌝ }
+{
+    let f = fill(rows, frames, 10, w);
+    Made {
+        count: f.count,
+        row: f.row,
     }
 }
