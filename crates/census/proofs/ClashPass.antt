@@ -50,11 +50,6 @@ not-same : (m : ℕ) → not (eqb m m) ≡ false
 not-same m = rw (eq-eqb m m refl)
 
 -- before the first name
-pub filled : (n x k : ℕ) → k < n → getD (replicate n x) k 0 ≡ x
-filled zero x k h = absurd (omega arith)
-filled (suc n) x zero h = refl
-filled (suc n) x (suc k) h = filled n x k (omega arith)
-
 none-marked : (p : List ℕ) → markOf [] p ≡ 65535
 unfolding markOf marking seen
 none-marked p = refl

@@ -38,10 +38,6 @@ terms-none [] = refl
 terms-none (variable x ∷ gs) = terms-none gs
 terms-none (digits ds ∷ gs) = terms-none gs
 
-call-first : (b : Bool) (p : List ℕ) (n : ℕ) (es : List Event) → namesIn b (call p n ∷ es) ≡ named-by b (call p n) ++ namesIn b es
-unfolding namesIn
-call-first b p n es = refl
-
 pub variables-of : (f : Reading) → namesIn false (eventsOf f) ≡ variables f
 unfolding eventsOf variables namesIn named-by
 variables-of (truth b) = refl

@@ -30,9 +30,6 @@ terms-large [] es = refl
 terms-large (variable x ∷ gs) es = terms-large gs es
 terms-large (digits ds ∷ gs) es = rw (terms-large gs es) (sym (or-assoc (ltb 4294967295 (valueAfter 0 ds)) (tooLarge gs) (largeIn es)))
 
-largeAtom : Atom → Bool
-largeAtom a = tooLarge (a .terms)
-
 large-more : (f : Reading) (es : List Event) → largeIn (eventsOf f ++ es) ≡ (anyAtom (λ a. tooLarge (a .terms)) (atoms f) || largeIn es)
 unfolding eventsOf atoms largeIn
 large-more (truth b) es = unfold anyAtom in refl

@@ -2,9 +2,9 @@ use mathlib.Core.Path.{refl}
 -- `counts::clashes` meets its contract. The loop's invariant: no two counts of the names so far differ. Assumes nothing.
 use Prim.Native.Nat.{_-_}
 use native.Mathlib.Omega.{arith}
-use lib.ListN.{length}
+use lib.ListN.{length, getD-replicate}
 use borrow.Author.Needs.{needs}
-use Rattle.census.proofs.ClashPass.{Clashing, filled, clash-begins, clash-over, clash-ends, clash-within, clash-lexed, clash-grows, clash-word, clash-number, clash-yes, clash-more}
+use Rattle.census.proofs.ClashPass.{Clashing, clash-begins, clash-over, clash-ends, clash-within, clash-lexed, clash-grows, clash-word, clash-number, clash-yes, clash-more}
 use Rattle.census.proofs.counts.clashes.Statement.{statement}
 use Rattle.census.proofs.counts.clashes.Tie as tie
 use Rattle.spelling.proofs.modes.next_mode.Reads as next-mode-reads
@@ -17,7 +17,7 @@ abbrev μ-loop : tie.MeasureT-loop
 μ-loop text starts lengths n counts₀ mode₀ at₀ counts mode at = length text - at
 
 loop-holds : tie.Need-loop-holds Inv-loop μ-loop
-loop-holds c = clash-begins _ _ _ _ _ (c .before .before .before .pre .0 .0) refl (λ k h. filled 4096 65535 k (omega (arith, c .before .before .before .pre .1 .few)))
+loop-holds c = clash-begins _ _ _ _ _ (c .before .before .before .pre .0 .0) refl (λ k h. getD-replicate 4096 k 65535 0 (omega (arith, c .before .before .before .pre .1 .few)))
 
 next-word-requires : tie.Need-next-word-requires Inv-loop μ-loop
 next-word-requires c κs = c .before .loop .inv .pass .inside
