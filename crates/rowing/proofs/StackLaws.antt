@@ -16,7 +16,7 @@ use Rattle.text.specs.Emit.{Rowed}
 use Rattle.text.specs.Held.{Held, mark, applies, quantifies, joins, roomFor, made, keeps, Shut, Waiting, pushRows}
 use Rattle.rowing.specs.Denoted.{Holds, Denotes}
 use Rattle.rowing.specs.Framing.{Framed, frameKind, frameHeld, binaryKind, Late, Early}
-use Rattle.rowing.specs.Stacking.{stackOf, AllFramed, roomIn, RoomOf, fillRows, Filled, Fills, Pushed, Pushes}
+use Rattle.rowing.specs.Stacking.{stackOf, AllFramed, roomIn, RoomOf, fillRows, Filled, Fills, Pushed, Pushes, Waited}
 
 unfoldable pub rooms : List ℕ
 rooms = 9 ∷ 0 ∷ 0 ∷ 0 ∷ 0 ∷ 4 ∷ 4 ∷ 0 ∷ 1 ∷ 2 ∷ 4 ∷ []
@@ -213,3 +213,11 @@ push-made limit frames flat count row top flat₁ count₁ row₁ top₁ flat' c
         → Pushed (set frames top₁ ((limit + 6) * 64 + row' % 64)) flat' count' (top₁ + 1) (pushRows o m hs)
     by o m hs e d g =
         rw (push-is o m hs, ← e) (framed-so o (fillRows limit m hs) (ap (λ (i : ℕ). i + 6) e ∙ binary-level o) (f .fills m hs d g))
+
+pub wait-more : (frames : List ℕ) (top kind held : ℕ) → top < length frames → held < 64 → Waited frames top kind held (set frames top (kind * 64 + held)) (top + 1)
+wait-more frames top kind held h l = record {
+  sized = length-set frames top (kind * 64 + held);
+  higher = refl;
+  waits = λ q hs e f g.
+      rw (stack-set frames top (kind * 64 + held) h) (record { kind-is = omega arith; held-is = omega arith }, g);
+}

@@ -10,7 +10,7 @@ use Rattle.text.specs.Grammar.{level}
 use Rattle.text.specs.Emit.{Rowed}
 use Rattle.text.specs.Held.{Held, mark, applies, quantifies, joins, roomFor, made, keeps, Shut, Waiting, pushRows, shutRows, endRows}
 use Rattle.rowing.specs.Denoted.{Holds, Denotes}
-use Rattle.rowing.specs.Framing.{Framed}
+use Rattle.rowing.specs.Framing.{Framed, frameKind, frameHeld}
 
 -- the frames, the last first
 unfoldable pub stackOf : List ℕ → ℕ → List ℕ
@@ -72,3 +72,9 @@ pub record Finishes (frames flat : List ℕ) (count row top : ℕ) (flat' : List
   pub sized : length flat' ≡ length flat
   pub most : count' ≤ 65
   pub finishes : (m : Rowed) (hs : List Held) → Denotes flat count row m → AllFramed (stackOf frames top) hs → Denotes flat' count' row' (endRows m hs)
+
+-- a frame comes
+pub record Waited (frames : List ℕ) (top kind held : ℕ) (frames' : List ℕ) (r : ℕ) : Type 0 where
+  pub sized : length frames' ≡ length frames
+  pub higher : r ≡ top + 1
+  pub waits : (h : Held) (hs : List Held) → kind ≡ frameKind h → held ≡ frameHeld h → AllFramed (stackOf frames top) hs → AllFramed (stackOf frames' r) (h ∷ hs)

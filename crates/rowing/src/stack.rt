@@ -5,7 +5,7 @@ use crate::table::Made;
 ghost use mathlib.Core.Path.{_≡_};
 ghost use Prim.Native.Nat.{_+_, _*_, _≤_, _<_};
 ghost use lib.ListN.{length};
-ghost use Rattle.rowing.specs.Stacking.{RoomOf, Fills, Pushes, Shuts, Finishes};
+ghost use Rattle.rowing.specs.Stacking.{RoomOf, Fills, Pushes, Shuts, Finishes, Waited};
 
 // How many rows there are, 65 for more than 64, the last row, and how many frames wait.
 pub struct Work {
@@ -107,4 +107,13 @@ pub fn finish(rows: &mut [u32], frames: &[u16], w: Work) -> Made
         count: f.count,
         row: f.row,
     }
+}
+
+// A frame comes, and waits for its operand.
+pub fn wait(frames: &mut [u16], top: usize, kind: u16, held: u32) -> usize
+    requires { ⌜ (top < length (now frames)) × (kind ≤ 10) × (held < 64) ⌝ }
+    ensures { λ r. ⌜ Waited (now (frames .entry)) top kind held (now (frames .exit)) r ⌝ }
+{
+    frames[top] = kind * 64 + held as u16;
+    top + 1
 }
