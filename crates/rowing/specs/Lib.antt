@@ -1,0 +1,4 @@
+-- What the contracts cite: tables of rows and what they denote.
+pub mod Denoted
+pub mod Framing
+pub mod Stacking
