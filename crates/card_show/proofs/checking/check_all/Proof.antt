@@ -1,8 +1,8 @@
 -- `check_all` is safe and ends. Assumes nothing.
 use borrow.Author.Needs.{needs}
 use native.Mathlib.Omega.{arith}
-use Rattle.card_show.proofs.check_all.Statement.{statement}
-use Rattle.card_show.proofs.check_all.Tie as tie
+use Rattle.card_show.proofs.checking.check_all.Statement.{statement}
+use Rattle.card_show.proofs.checking.check_all.Tie as tie
 
 abbrev Inv-loop : tie.InvT-loop
 Inv-loop fd r₀ turns₀ r turns = Unit {0}

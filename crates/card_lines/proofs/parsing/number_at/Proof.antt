@@ -3,8 +3,8 @@ use borrow.Author.Needs.{needs}
 use native.Mathlib.Omega.{arith}
 use Prim.Native.Nat.{_-_, _≤_}
 use lib.ListN.{length}
-use Rattle.card_lines.proofs.number_at.Statement.{statement}
-use Rattle.card_lines.proofs.number_at.Tie as tie
+use Rattle.card_lines.proofs.parsing.number_at.Statement.{statement}
+use Rattle.card_lines.proofs.parsing.number_at.Tie as tie
 
 abbrev Inv-loop : tie.InvT-loop
 Inv-loop line at value₀ i₀ value i = value ≤ 4294967295

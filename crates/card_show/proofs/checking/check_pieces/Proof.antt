@@ -4,8 +4,8 @@ use native.Mathlib.Omega.{arith}
 use Prim.Native.Nat.{_-_, _≤_}
 use mathlib.Core.Path.{_≡_, refl, _∙_}
 use lib.ListN.{length}
-use Rattle.card_show.proofs.check_pieces.Statement.{statement}
-use Rattle.card_show.proofs.check_pieces.Tie as tie
+use Rattle.card_show.proofs.checking.check_pieces.Statement.{statement}
+use Rattle.card_show.proofs.checking.check_pieces.Tie as tie
 
 abbrev Inv-loop : tie.InvT-loop
 Inv-loop part r₀ at₀ r at = at ≤ length part
