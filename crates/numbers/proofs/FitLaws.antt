@@ -21,6 +21,11 @@ use Rattle.rule.specs.declared.Row.the-variants.{Atom}
 use Rattle.rule.specs.Decoded.{argumentOf, rowOf}
 use Rattle.numbers.specs.Matching.{matchesRow, sameAt, fitsFirst}
 
+-- nothing is taken from nothing
+take-nil : {A : Type 0} (n : ℕ) → take {A = A} n [] ≡ []
+take-nil zero = refl
+take-nil (suc n) = refl
+
 and-all : (b : Bool) → (b && true) ≡ b
 and-all true = refl
 and-all false = refl
@@ -68,11 +73,7 @@ module _ (v y : ℕ) (g h : Qtl.Argument) (z w : ℕ) where
   repeats-two zero p q e = absurd (p refl)
   repeats-two (suc zero) p q e = absurd (q refl)
   repeats-two (suc (suc n)) p q e =
-      sym (repeats-first v y g z (h ∷ take n []) (w ∷ take n []) ∙ rw e (repeats-first v y h w (take n []) (take n []) ∙ ap (λ (b : Bool). sameAt v y h w && b) (end n) ∙ and-all (sameAt v y h w)))
-    where
-      end : (n : ℕ) → repeats v y (take n []) (take n []) ≡ true
-      end zero = refl
-      end (suc n) = refl
+      sym (repeats-first v y g z (h ∷ take n []) (w ∷ take n []) ∙ rw e (repeats-first v y h w (take n []) (take n []) ∙ ap (λ (b : Bool). sameAt v y h w && b) (ap (λ (ys : List ℕ). repeats v y (take n []) ys) (take-nil n) ∙ ap (λ (gs : List Qtl.Argument). repeats v y gs []) (take-nil n)) ∙ and-all (sameAt v y h w)))
 
 -- an argument that is a variable, and one that is a constant
 pub first-variable : (g : Argument) (v y : ℕ) (gs : List Qtl.Argument) (ys : List ℕ) → g ≡ Variable v → repeats v y gs ys ≡ fitsFirst (argumentOf g) y gs ys
@@ -117,14 +118,6 @@ module _ (g h i : Qtl.Argument) (y z w : ℕ) where
     unfolding fits
     all-three = go n p q r e
       where
-        nil : (m : ℕ) → take {A = Qtl.Argument} m [] ≡ []
-        nil zero = refl
-        nil (suc m) = refl
-
-        none : (m : ℕ) → take {A = ℕ} m [] ≡ []
-        none zero = refl
-        none (suc m) = refl
-
         go : (n : ℕ) → (n ≡ 0 → ⊥) → (n ≡ 1 → ⊥) → (n ≡ 2 → ⊥) → fitsFirst g y (take (n - 1) (h ∷ i ∷ [])) (take (n - 1) (z ∷ w ∷ [])) ≡ true
             → fits (take n (g ∷ h ∷ i ∷ [])) (take n (y ∷ z ∷ w ∷ [])) ≡ (fitsFirst h z (i ∷ []) (w ∷ []) && fitsFirst i w [] [])
         go zero p q r e = absurd (p refl)
@@ -132,8 +125,8 @@ module _ (g h i : Qtl.Argument) (y z w : ℕ) where
         go (suc (suc zero)) p q r e = absurd (r refl)
         go (suc (suc (suc m))) p q r e =
             let k : suc (suc (suc m)) - 1 ≡ suc (suc m) = omega arith in
-            let f : fitsFirst g y (h ∷ i ∷ []) (z ∷ w ∷ []) ≡ true = sym (ap₂ (λ (gs : List Qtl.Argument) (ys : List ℕ). fitsFirst g y (h ∷ i ∷ gs) (z ∷ w ∷ ys)) (nil m) (none m)) ∙ (rw k at e) in
-            ap₂ (λ (gs : List Qtl.Argument) (ys : List ℕ). fits (g ∷ h ∷ i ∷ gs) (y ∷ z ∷ w ∷ ys)) (nil m) (none m)
+            let f : fitsFirst g y (h ∷ i ∷ []) (z ∷ w ∷ []) ≡ true = sym (ap₂ (λ (gs : List Qtl.Argument) (ys : List ℕ). fitsFirst g y (h ∷ i ∷ gs) (z ∷ w ∷ ys)) (take-nil m) (take-nil m)) ∙ (rw k at e) in
+            ap₂ (λ (gs : List Qtl.Argument) (ys : List ℕ). fits (g ∷ h ∷ i ∷ gs) (y ∷ z ∷ w ∷ ys)) (take-nil m) (take-nil m)
             ∙ fits-first g y (h ∷ i ∷ []) (z ∷ w ∷ [])
             ∙ ap (λ (b : Bool). b && fits (h ∷ i ∷ []) (z ∷ w ∷ [])) f
             ∙ fits-first h z (i ∷ []) (w ∷ [])
@@ -166,11 +159,7 @@ take-three : {A : Type 0} (n : ℕ) (a b c : A) → take n (a ∷ b ∷ c ∷ []
 take-three zero a b c = refl
 take-three (suc zero) a b c = refl
 take-three (suc (suc zero)) a b c = refl
-take-three (suc (suc (suc n))) a b c = let z : min (suc (suc (suc n))) 3 ≡ 3 = omega arith in rw (z, past n)
-  where
-    past : {A : Type 0} (n : ℕ) → take {A = A} n [] ≡ []
-    past zero = refl
-    past (suc n) = refl
+take-three (suc (suc (suc n))) a b c = let z : min (suc (suc (suc n))) 3 ≡ 3 = omega arith in rw (z, take-nil n)
 
 -- no other row matches
 pub no-atom : (e : Qtl.Fact) (r s : Rows.Row) → r ≡ s → matchesRow e s ≡ false → false ≡ matchesRow e r
@@ -204,12 +193,4 @@ module _ (e : Event) (row : Row) (p q : ℕ) (a b c : Argument) (is : row ≡ At
         mapped zero = refl
         mapped (suc zero) = refl
         mapped (suc (suc zero)) = refl
-        mapped (suc (suc (suc n))) = rw (nil n, none n)
-          where
-            nil : (n : ℕ) → take {A = Value} n [] ≡ []
-            nil zero = refl
-            nil (suc n) = refl
-
-            none : (n : ℕ) → take {A = ℕ} n [] ≡ []
-            none zero = refl
-            none (suc n) = refl
+        mapped (suc (suc (suc n))) = rw (take-nil n, take-nil n)

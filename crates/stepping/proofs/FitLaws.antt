@@ -9,6 +9,20 @@ use Rattle.trees.proofs.Tests.{not-true, and-true-l, and-true-r}
 use Rattle.nodes.specs.Nodes.{Decides}
 use Rattle.diagram.specs.Steps.{fits}
 use Rattle.diagram.specs.Works.{Fits}
+use Rattle.meaning.specs.Rows.{rowCount, right, checkRows}
+use Rattle.meaning.proofs.RowsLaws.{checked}
+use mathlib.Core.List.{List}
+use lib.ListN.{length}
+
+-- a rule has at most 64 rows
+pub few-rows : (rows : List ℕ) → checkRows rows ≡ right → length rows / 9 ≤ 64
+unfolding rowCount
+few-rows rows h = checked rows h .most
+
+-- as many as the code counts
+pub count-is : (rows : List ℕ) → rowCount rows ≡ length rows / 9
+unfolding rowCount
+count-is rows = refl
 
 -- the last test decides
 pub fit-last : (k count nodes work : ℕ) → 1 ≤ k → k ≤ 10 → 1 ≤ count → count ≤ 64 → nodes ≡ 3 * (nodes / 3) → 1 ≤ nodes / 3 → nodes / 3 ≤ 4096

@@ -1,28 +1,21 @@
 -- `step` meets its contract: one law for each case. Assumes nothing.
-use Prim.Native.Nat.{ℕ, _/_, _≤_}
-use mathlib.Core.Path.{_≡_, refl, sym, _∙_}
-use mathlib.Core.List.{List}
+use Prim.Native.Nat.{_/_}
+use mathlib.Core.Path.{refl, sym, _∙_}
 use native.Mathlib.Omega.{arith}
 use lib.ListN.{length}
 use denote.Ref.{now}
 use Rattle.trees.proofs.KeptLaws.{kept-of, not-false}
-use Rattle.meaning.specs.Rows.{rowCount, right, checkRows}
-use Rattle.meaning.proofs.RowsLaws.{checked}
+use Rattle.meaning.specs.Rows.{rowCount}
 use Rattle.keeping.specs.Checks.{freeBy}
 use Rattle.keeping.proofs.CheckLaws.{says-yes}
 use Rattle.diagram.specs.Works.{Fits}
 use Rattle.instructions.specs.Planned.{planned}
-use Rattle.stepping.proofs.FitLaws.{turned-false}
+use Rattle.stepping.proofs.FitLaws.{few-rows, turned-false}
 use Rattle.stepping.proofs.OutcomeLaws.{ready}
 use Rattle.stepping.proofs.CaseLaws.{sized, cleared-after, unfit-leaves, bad-leaves, good-leaves}
 use borrow.Author.Needs.{needs}
 use Rattle.stepping.proofs.step.Statement.{statement}
 use Rattle.stepping.proofs.step.Tie as tie
-
--- a rule has at most 64 rows
-few-rows : (rows : List ℕ) → checkRows rows ≡ right → length rows / 9 ≤ 64
-unfolding rowCount
-few-rows rows h = checked rows h .most
 
 cast-count : tie.Need-cast-count
 cast-count c = omega (arith, few-rows _ (c .before .before .before .pre .0))

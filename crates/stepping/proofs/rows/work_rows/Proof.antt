@@ -9,10 +9,9 @@ use lib.ListN.{length, getD}
 use denote.Ref.{now}
 use borrow.Author.Needs.{needs}
 use Rattle.trees.specs.Kept.{diagrams}
-use Rattle.meaning.specs.Rows.{rowCount, right, checkRows}
+use Rattle.meaning.specs.Rows.{rowCount}
 use Rattle.meaning.specs.Outcome.{factOf}
 use Rattle.meaning.specs.declared.Event.{Event}
-use Rattle.meaning.proofs.RowsLaws.{checked}
 use Rattle.rule.specs.declared.Row.{Row}
 use Rattle.rule.specs.Decoded.{rowOf, rowReadAt}
 use Rattle.rule.proofs.DecodedLaws.{row-says}
@@ -23,19 +22,10 @@ use Rattle.instructions.specs.Read.{instructionRead}
 use Rattle.instructions.specs.Planned.{planned}
 use Rattle.instructions.proofs.PlannedLaws.{planned-at}
 use Rattle.diagram.specs.Works.{Through}
+use Rattle.stepping.proofs.FitLaws.{few-rows, count-is}
 use Rattle.stepping.proofs.PlanLaws.{old-are, through-none, through-short, through-more}
 use Rattle.stepping.proofs.rows.work_rows.Statement.{statement}
 use Rattle.stepping.proofs.rows.work_rows.Tie as tie
-
--- a rule has at most 64 rows
-few : (rows : List ℕ) → checkRows rows ≡ right → length rows / 9 ≤ 64
-unfolding rowCount
-few rows h = checked rows h .most
-
--- as many as the code counts
-count-is : (rows : List ℕ) → rowCount rows ≡ length rows / 9
-unfolding rowCount
-count-is rows = refl
 
 -- the instruction that is read is the plan's
 reads : (rows : List ℕ) (e : Event) (given : List ℕ) (i : ℕ) → i < length rows / 9 → {x : Instruction} {r : Row} {b : Bool}
@@ -52,7 +42,7 @@ abbrev μ-loop : tie.MeasureT-loop
 loop-holds : tie.Need-loop-holds Inv-loop μ-loop
 loop-holds c =
     let s = c .before .before .before in
-    let most : rowCount (now (s .args .rows)) ≤ 64 = omega (arith, few _ (s .pre .0 .1), count-is (now (s .args .rows))) in (
+    let most : rowCount (now (s .args .rows)) ≤ 64 = omega (arith, few-rows _ (s .pre .0 .1), count-is (now (s .args .rows))) in (
       refl,
       omega arith,
       refl,
@@ -70,7 +60,7 @@ instruction-requires : tie.Need-instruction-requires Inv-loop μ-loop
 instruction-requires c κs = tt
 
 cast-row : tie.Need-cast-row Inv-loop μ-loop
-cast-row c = omega (arith, few _ (c .before .before .before .before .before .before .before .before .before .before .pre .0 .1), c .before .before .before .before .before .before .loop .inv .0, c .before .before .before .before .before .loop-test .taken)
+cast-row c = omega (arith, few-rows _ (c .before .before .before .before .before .before .before .before .before .before .pre .0 .1), c .before .before .before .before .before .before .loop .inv .0, c .before .before .before .before .before .loop-test .taken)
 
 row-requires : tie.Need-row-requires Inv-loop μ-loop
 row-requires c κs =
@@ -98,10 +88,10 @@ returns c =
     through-short (s .args .k) (planned (now (s .args .rows)) (s .args .event) (s .args .given)) _ (s .args .nodes .now) (s .args .kept) (l .inv .3) (rowCount (now (s .args .rows))) (omega (arith, count-is (now (s .args .rows)))) (rw (c .enum-told .given .1, x) at (c .before .before .before .before .before .before .row .ensures))
 
 mul-news : tie.Need-mul-news Inv-loop μ-loop
-mul-news c = omega (arith, few _ (c .before .before .before .before .before .before .before .before .before .before .before .before .before .before .before .before .before .before .before .pre .0 .1), c .before .before .before .before .before .before .before .before .before .before .before .before .before .before .before .loop .inv .0, c .before .before .before .before .before .before .before .before .before .before .before .before .before .before .loop-test .taken)
+mul-news c = omega (arith, few-rows _ (c .before .before .before .before .before .before .before .before .before .before .before .before .before .before .before .before .before .before .before .pre .0 .1), c .before .before .before .before .before .before .before .before .before .before .before .before .before .before .before .loop .inv .0, c .before .before .before .before .before .before .before .before .before .before .before .before .before .before .loop-test .taken)
 
 element-write-news : tie.Need-element-write-news Inv-loop μ-loop
-element-write-news c = omega (arith, few _ (c .before .before .before .before .before .before .before .before .before .before .before .before .before .before .before .before .before .before .before .pre .0 .1), c .before .before .before .before .before .before .before .before .before .before .before .before .before .before .before .loop .inv .0, c .before .before .before .before .before .before .before .before .before .before .before .before .before .before .loop-test .taken, c .before .before .before .before .before .before .before .before .before .before .before .before .before .before .before .loop .inv .3 .new-lead .wide)
+element-write-news c = omega (arith, few-rows _ (c .before .before .before .before .before .before .before .before .before .before .before .before .before .before .before .before .before .before .before .pre .0 .1), c .before .before .before .before .before .before .before .before .before .before .before .before .before .before .before .loop .inv .0, c .before .before .before .before .before .before .before .before .before .before .before .before .before .before .loop-test .taken, c .before .before .before .before .before .before .before .before .before .before .before .before .before .before .before .loop .inv .3 .new-lead .wide)
 
 add-visits : tie.Need-add-visits Inv-loop μ-loop
 add-visits c =
@@ -110,11 +100,11 @@ add-visits c =
     let h : l .i < length (now (s .args .rows)) / 9 = omega (arith, l .inv .0, c .before .before .before .before .before .before .before .before .before .before .before .before .before .before .loop-test .taken) in
     let x = reads (now (s .args .rows)) (s .args .event) (s .args .given) (l .i) h (c .before .before .before .before .before .before .before .before .before .before .before .instruction .ensures) (c .before .before .before .before .before .before .before .before .before .before .before .before .before .row-at .ensures .whole) (c .before .before .before .before .before .before .before .before .before .before .before .before .matches .ensures) in
     let g = rw (c .before .m .given .1, x) at (c .before .before .before .before .before .before .before .row .ensures) in
-    let t = through-more (s .args .k) (planned (now (s .args .rows)) (s .args .event) (s .args .given)) _ (s .args .nodes .now) (s .args .kept) (l .inv .3) (g .0) (omega (arith, few _ (s .pre .0 .1))) _ (g .1) (g .2) in
-    omega (arith, t .tally .small, few _ (s .pre .0 .1))
+    let t = through-more (s .args .k) (planned (now (s .args .rows)) (s .args .event) (s .args .given)) _ (s .args .nodes .now) (s .args .kept) (l .inv .3) (g .0) (omega (arith, few-rows _ (s .pre .0 .1))) _ (g .1) (g .2) in
+    omega (arith, t .tally .small, few-rows _ (s .pre .0 .1))
 
 add-i : tie.Need-add-i Inv-loop μ-loop
-add-i c = omega (arith, few _ (c .before .before .before .before .before .before .before .before .before .before .before .before .before .before .before .before .before .before .before .pre .0 .1), c .before .before .before .before .before .before .before .before .before .before .before .before .before .before .before .loop .inv .0, c .before .before .before .before .before .before .before .before .before .before .before .before .before .before .loop-test .taken)
+add-i c = omega (arith, few-rows _ (c .before .before .before .before .before .before .before .before .before .before .before .before .before .before .before .before .before .before .before .pre .0 .1), c .before .before .before .before .before .before .before .before .before .before .before .before .before .before .before .loop .inv .0, c .before .before .before .before .before .before .before .before .before .before .before .before .before .before .loop-test .taken)
 
 loop-less : tie.Need-loop-less Inv-loop μ-loop
 loop-less c = omega (arith, c .before .before .before .before .before .before .before .before .before .before .before .before .before .before .loop-test .taken)
@@ -126,7 +116,7 @@ loop-again c =
     let h : l .i < length (now (s .args .rows)) / 9 = omega (arith, l .inv .0, c .before .before .before .before .before .before .before .before .before .before .before .before .before .before .loop-test .taken) in
     let x = reads (now (s .args .rows)) (s .args .event) (s .args .given) (l .i) h (c .before .before .before .before .before .before .before .before .before .before .before .instruction .ensures) (c .before .before .before .before .before .before .before .before .before .before .before .before .before .row-at .ensures .whole) (c .before .before .before .before .before .before .before .before .before .before .before .before .matches .ensures) in
     let g = rw (c .before .m .given .1, x) at (c .before .before .before .before .before .before .before .row .ensures) in
-    let t = through-more (s .args .k) (planned (now (s .args .rows)) (s .args .event) (s .args .given)) _ (s .args .nodes .now) (s .args .kept) (l .inv .3) (g .0) (omega (arith, few _ (s .pre .0 .1))) _ (g .1) (g .2) in
+    let t = through-more (s .args .k) (planned (now (s .args .rows)) (s .args .event) (s .args .given)) _ (s .args .nodes .now) (s .args .kept) (l .inv .3) (g .0) (omega (arith, few-rows _ (s .pre .0 .1))) _ (g .1) (g .2) in
     (l .inv .0, omega (arith, c .before .before .before .before .before .before .before .before .before .before .before .before .before .before .loop-test .taken), c .before .before .before .before .before .before .before .row .kept .1 .0 ∙ l .inv .2, t)
 
 same-length-3 : tie.Need-same-length-3 Inv-loop μ-loop

@@ -1,25 +1,19 @@
 -- `worked` meets its contract: the rows, and then the sweep or the refusal. Assumes nothing.
-use Prim.Native.Nat.{ℕ, _+_, _*_, _-_, _/_, _≤_}
-use mathlib.Core.Path.{_≡_, refl, _∙_}
-use mathlib.Core.List.{List}
+use Prim.Native.Nat.{_+_, _*_, _-_, _/_}
+use mathlib.Core.Path.{refl, _∙_}
 use native.Mathlib.Omega.{arith}
 use lib.ListN.{length}
 use denote.Ref.{now}
 use borrow.Author.Needs.{needs}
 use borrow.Rule.Slice.PartMut.{putMid}
-use Rattle.meaning.specs.Rows.{rowCount, right, checkRows}
-use Rattle.meaning.proofs.RowsLaws.{checked}
+use Rattle.meaning.specs.Rows.{rowCount}
 use Rattle.instructions.specs.Planned.{planned}
+use Rattle.stepping.proofs.FitLaws.{few-rows}
 use Rattle.stepping.proofs.ClearLaws.{cleared-is, rest-more, rest-two}
 use Rattle.stepping.proofs.LendLaws.{desk-ready, fresh-ready, lent-back}
 use Rattle.stepping.proofs.OutcomeLaws.{full-leaves, sweep-ready, done-leaves, done-visits}
 use Rattle.stepping.proofs.rows.worked.Statement.{statement}
 use Rattle.stepping.proofs.rows.worked.Tie as tie
-
--- a rule has at most 64 rows
-few-rows : (rows : List ℕ) → checkRows rows ≡ right → length rows / 9 ≤ 64
-unfolding rowCount
-few-rows rows h = checked rows h .most
 
 slots-for-requires : tie.Need-slots-for-requires
 slots-for-requires c κs = search needs
