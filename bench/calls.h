@@ -11,9 +11,8 @@ typedef bool start_call(uint32_t k, const uint32_t *rows, size_t rows_len, uint3
                         uint32_t *answer, size_t answer_len);
 
 typedef bool event_call(const uint32_t *rows, size_t rows_len, uint32_t *nodes, size_t nodes_len,
-                        uint32_t *values, size_t values_len, uint32_t *work, size_t work_len, uint32_t predicate,
-                        uint32_t count, uint32_t first, uint32_t second, uint32_t third, uint32_t *state,
-                        size_t state_len, uint32_t *answer, size_t answer_len);
+                        uint32_t *values, size_t values_len, uint32_t *work, size_t work_len, const uint32_t *facts,
+                        size_t facts_len, uint32_t *state, size_t state_len, uint32_t *answer, size_t answer_len);
 
 struct monitor {
     const char *name;

@@ -19,9 +19,9 @@ void desk_start(struct desk *d, const struct monitor *m, const struct workload *
 
 void desk_event(struct desk *d, const struct monitor *m, const struct workload *w, size_t i)
 {
-    const struct given *e = &w->events[i];
+    const struct event *e = &w->events[i];
     m->event(w->rows, 9 * w->row_count, d->nodes, d->nodes_len, d->values, d->values_len, d->work, d->work_len,
-             e->predicate, e->count, e->values[0], e->values[1], e->values[2], d->state, STATE, d->answer, ANSWER);
+             w->facts + FACT * e->first, FACT * e->count, d->state, STATE, d->answer, ANSWER);
 }
 
 void desk_dirty(struct desk *d)

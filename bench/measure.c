@@ -127,7 +127,7 @@ static struct figures measure(void)
 
 // ---- the tables
 
-static const char *const names[] = {"lots-512", "lots-4096", "questioned-512", "questioned-4096", "access", "pairs", "join", "small"};
+static const char *const names[] = {"lots-512", "lots-4096", "questioned-512", "questioned-4096", "access", "pairs", "join", "small", "moments"};
 enum { WORKLOADS = sizeof names / sizeof names[0] };
 
 static const char *set_workload(const char *name)
@@ -157,6 +157,9 @@ static const char *set_workload(const char *name)
     } else if (strcmp(name, "small") == 0) {
         workload_lots(&work, 3, 64, 6, 2000);
         says = "rule K, 6 lots, small";
+    } else if (strcmp(name, "moments") == 0) {
+        workload_moments(&work, 10, 512, 1000, 8, 2000);
+        says = "rule K, 1,000 lots, 8 facts an event";
     }
     snprintf(work.name, sizeof work.name, "%s", name);
     return says;
@@ -229,7 +232,7 @@ static void growth_tables(void)
 {
     static const uint32_t pairs[] = {5, 10, 20, 40, 80, 160, 320}, values[] = {1, 125, 250, 500, 1000};
     static const uint32_t steps[] = {1, 1000, 1021, 1023, 1024, 65536, 4194304};
-    static const uint32_t rows[] = {8, 16, 32, 64}, nodes[] = {64, 256, 1024, 4096};
+    static const uint32_t rows[] = {8, 16, 32, 64}, nodes[] = {64, 256, 1024, 4096}, facts[] = {1, 2, 4, 8};
     growth_head("Pairs (k = 10, C = 4,096)");
     for (size_t i = 0; i < sizeof pairs / sizeof pairs[0]; i++) {
         workload_pairs(&work, 10, 4096, pairs[i], 200);
@@ -254,6 +257,11 @@ static void growth_tables(void)
     for (size_t i = 0; i < sizeof nodes / sizeof nodes[0]; i++) {
         workload_lots(&work, 3, nodes[i], 6, 500);
         growth_row(nodes[i]);
+    }
+    growth_head("Facts of an event (rule K, 1,000 lots, k = 10, C = 512)");
+    for (size_t i = 0; i < sizeof facts / sizeof facts[0]; i++) {
+        workload_moments(&work, 10, 512, 1000, facts[i], 500);
+        growth_row(facts[i]);
     }
 }
 

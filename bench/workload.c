@@ -52,10 +52,22 @@ static uint32_t never(struct workload *w, uint32_t below, uint32_t count)
     return row(w, NOT, below, 0);
 }
 
+// Adds a fact to the last event.
+static void too(struct workload *w, uint32_t predicate, uint32_t count, uint32_t a, uint32_t b, uint32_t c)
+{
+    if (w->fact_count == MOST_FACTS)
+        return;
+    memcpy(&w->facts[FACT * w->fact_count++], (uint32_t[FACT]){predicate, count, a, b, c}, FACT * sizeof w->facts[0]);
+    w->events[w->count - 1].count++;
+}
+
+// Adds an event of one fact.
 static void happens(struct workload *w, uint32_t predicate, uint32_t count, uint32_t a, uint32_t b, uint32_t c)
 {
-    if (w->count < MOST_EVENTS)
-        w->events[w->count++] = (struct given){predicate, count, {a, b, c}};
+    if (w->count == MOST_EVENTS)
+        return;
+    w->events[w->count++] = (struct event){w->fact_count, 0};
+    too(w, predicate, count, a, b, c);
 }
 
 static bool full(const struct workload *w, uint32_t timed)
@@ -133,6 +145,25 @@ void workload_questioned(struct workload *w, uint32_t k, uint32_t capacity, uint
     begin(w, k, capacity);
     rule_k(w);
     lots_events(w, lots, 2 * lots / 5, lots, timed);
+}
+
+void workload_moments(struct workload *w, uint32_t k, uint32_t capacity, uint32_t lots, uint32_t facts, uint32_t timed)
+{
+    begin(w, k, capacity);
+    rule_k(w);
+    uint32_t seed = 6, asked = 0, lot = 0;
+    for (uint32_t i = 0; i < lots; i++)
+        happens(w, CONFIRMED, 1, value(i), 0, 0);
+    w->filled = w->count;
+    while (!full(w, timed)) {
+        // A lot is questioned in one event, and confirmed again in the next.
+        if (asked == 0)
+            lot = value(chance(&seed, lots));
+        happens(w, asked == 0 ? QUESTIONED : CONFIRMED, 1, lot, 0, 0);
+        asked = 1 - asked;
+        for (uint32_t i = 1; i < facts; i++)
+            too(w, SHELVED, 1, value(chance(&seed, lots)), 0, 0);
+    }
 }
 
 void workload_rows(struct workload *w, uint32_t k, uint32_t capacity, uint32_t rows, uint32_t timed)

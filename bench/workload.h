@@ -6,11 +6,12 @@
 #include <stddef.h>
 #include <stdint.h>
 
-enum { MOST_EVENTS = 8192 };
+enum { MOST_EVENTS = 8192, MOST_FACTS = 4 * MOST_EVENTS, FACT = 5 };
 #define WIDE 2654435761u // a step by which values come out wide and in no order
 
-struct given {
-    uint32_t predicate, count, values[3];
+// An event: so many facts from the first one on.
+struct event {
+    size_t first, count;
 };
 
 struct workload {
@@ -18,7 +19,9 @@ struct workload {
     uint32_t k, capacity;
     uint32_t rows[64 * 9];
     size_t row_count;
-    struct given events[MOST_EVENTS];
+    uint32_t facts[FACT * MOST_FACTS];
+    size_t fact_count;
+    struct event events[MOST_EVENTS];
     size_t filled, count; // the first `filled` events are not timed
 };
 
@@ -29,6 +32,8 @@ enum { TRUE = 1, ATOM, AND, NOT, SINCE, PREVIOUS, EXISTS };
 void workload_lots(struct workload *w, uint32_t k, uint32_t capacity, uint32_t lots, uint32_t timed);
 // The same with about a third of the lots in question: the diagrams are larger.
 void workload_questioned(struct workload *w, uint32_t k, uint32_t capacity, uint32_t lots, uint32_t timed);
+// Rule K, with so many facts in each timed event: at first a lot is questioned or confirmed, and the others are shelved.
+void workload_moments(struct workload *w, uint32_t k, uint32_t capacity, uint32_t lots, uint32_t facts, uint32_t timed);
 // Rule (1) of the paper: what is written was opened and not closed since.
 void workload_access(struct workload *w, uint32_t k, uint32_t capacity, uint32_t files, uint32_t timed);
 // A relation of pairs that are made and undone, asked for one pair at a time.

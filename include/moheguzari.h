@@ -1,7 +1,8 @@
 /* Moheguzari: a rule monitor whose every answer is proved. The two calls, for programs in C.
  *
- * A rule is judged after each event. The caller owns every slice, lends it for the time of one call and gets it back as the call
- * left it: the library keeps no pointer, has no memory of its own, and writes nothing but the slices that it is lent to write.
+ * A rule is judged after each event, which is the facts of one moment. The caller owns every slice, lends it for the time of one call
+ * and gets it back as the call left it: the library keeps no pointer, has no memory of its own, and writes nothing but the slices that
+ * it is lent to write.
  *
  * A slice is a pointer and a count of numbers. What the caller sees to, since nothing can check it here:
  *  - the pointer is aligned for a uint32_t, is not null even where the count is 0, and leads to as many numbers as the count says;
@@ -13,9 +14,12 @@
  *   rows    MOHEGUZARI_ROWS(n) for a rule of n rows, 1 to 64; only read
  *   nodes   MOHEGUZARI_NODES(C)
  *   values  MOHEGUZARI_VALUES(k)
+ *   facts   MOHEGUZARI_FACTS(n) for an event of n facts, 0 to MOHEGUZARI_MOST_FACTS; only read
  *   work    MOHEGUZARI_WORK(C) or more; 0 in its first MOHEGUZARI_WORK(C) numbers after every event but one refused with 1 to 3
  *   state   MOHEGUZARI_STATE numbers: k, the row count, the count of kept nodes, four value counts, 64 references
  *   answer  MOHEGUZARI_ANSWER numbers, only written
+ *
+ * A fact is five numbers: a predicate, how many values it has (0 to 3), and three values; those past the count are ignored.
  *
  * An answer is six numbers:
  *   0, 0, 0, 0, 0, 0             a start that is taken
@@ -40,6 +44,8 @@ extern "C" {
 #define MOHEGUZARI_STATE 71
 #define MOHEGUZARI_ANSWER 6
 #define MOHEGUZARI_ROWS(n) (9 * (size_t)(n))
+#define MOHEGUZARI_FACTS(n) (5 * (size_t)(n))
+#define MOHEGUZARI_MOST_FACTS 8
 #define MOHEGUZARI_NODES(C) (3 * (size_t)(C))
 /* 0 where k is not from 1 to 10: no k beyond that is taken, and none is shifted by. */
 #define MOHEGUZARI_VALUES(k) ((k) >= 1 && (k) <= 10 ? 4 * (((size_t)1 << ((k) & 15)) - 1) : 0)
@@ -51,7 +57,7 @@ enum {
     MOHEGUZARI_BAD_RULE = 2,   /* a row of the rule is wrong, or the rule is not a sentence; place: the row */
     MOHEGUZARI_BAD_LENGTH = 3, /* nodes, values or work has the wrong length */
     MOHEGUZARI_BAD_STATE = 4,  /* state, nodes and values are no state of this rule (one that was changed may still be one) */
-    MOHEGUZARI_BAD_COUNT = 5,  /* the event has more than three values, or not as many as the rule's predicate */
+    MOHEGUZARI_BAD_COUNT = 5,  /* more than eight facts, or a fact of more than three values or not as many as the rule's predicate */
     MOHEGUZARI_NO_NUMBER = 6,  /* a variable has no number left for one more value; place: the variable */
     MOHEGUZARI_NO_ROOM = 7     /* the node table has no room to know the answer; it may be enlarged (docs/LINKING.md) */
 };
@@ -73,22 +79,21 @@ bool moheguzari_start(uint32_t k,
 
 /* Judges one event, with the state and the tables that the last call left. nodes and work may be longer than at the last call:
  * nodes then has zeros appended.
- * False, with nothing written, where state has not MOHEGUZARI_STATE numbers or answer not MOHEGUZARI_ANSWER. Else true.
+ * False, with nothing written, where state has not MOHEGUZARI_STATE numbers or answer not MOHEGUZARI_ANSWER, or where the count of
+ * facts' numbers is no multiple of five. Else true.
  *   rows          the rule that was started on; only read
  *   nodes         the node table; read and written
  *   values        the value lists; read and written
  *   work          room to work in; what it holds does not matter
- *   predicate     the event's predicate
- *   count         how many values it has, 0 to 3
- *   first, second, third    its values; those past the count are ignored
+ *   facts         the facts of the event, one after the other; only read. No facts are an event like any other, and the pointer
+ *                 is not null there either
  *   state         read and written
  *   answer        written, whatever it held */
 bool moheguzari_event(const uint32_t *rows, size_t rows_len,
                       uint32_t *nodes, size_t nodes_len,
                       uint32_t *values, size_t values_len,
                       uint32_t *work, size_t work_len,
-                      uint32_t predicate, uint32_t count,
-                      uint32_t first, uint32_t second, uint32_t third,
+                      const uint32_t *facts, size_t facts_len,
                       uint32_t *state, size_t state_len,
                       uint32_t *answer, size_t answer_len);
 

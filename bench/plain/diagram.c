@@ -224,6 +224,17 @@ static uint32_t high_of(const struct diagrams *d, uint32_t r, uint32_t level)
     return level_of(d, r) == level ? d->nodes[r - 2].high : r;
 }
 
+uint32_t diagrams_with(struct diagrams *d, uint32_t p, const struct fixed *way, uint32_t count)
+{
+    if (p == 1 || count == 0)
+        return 1;
+    uint32_t level = way->level, low = low_of(d, p, level), high = high_of(d, p, level);
+    uint32_t is = diagrams_with(d, way->high ? high : low, way + 1, count - 1);
+    if (is == FULL)
+        return FULL;
+    return way->high ? diagrams_make(d, level, low, is) : diagrams_make(d, level, is, high);
+}
+
 uint32_t diagrams_since(struct diagrams *d, uint32_t l, uint32_t r, uint32_t o)
 {
     if (l > o) {

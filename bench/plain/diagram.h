@@ -48,6 +48,16 @@ bool diagrams_take(struct diagrams *d, uint32_t kept, uint32_t k, const uint32_t
 // The node of these sides, found or made.
 uint32_t diagrams_make(struct diagrams *d, uint32_t level, uint32_t low, uint32_t high);
 
+// A level that a point fixes, and how.
+struct fixed {
+    uint32_t level;
+    bool high;
+};
+
+// p or a point: the one way to fix the levels of `way`, from the first on. p asks no other levels. No node of the point by
+// itself is made.
+uint32_t diagrams_with(struct diagrams *d, uint32_t p, const struct fixed *way, uint32_t count);
+
 // r, or l and o. And is since with r no, or is since with l yes.
 uint32_t diagrams_since(struct diagrams *d, uint32_t l, uint32_t r, uint32_t o);
 uint32_t diagrams_not(struct diagrams *d, uint32_t p);

@@ -41,14 +41,14 @@ bool lists_right(uint32_t most, const uint32_t counts[VARIABLES], const uint32_t
     return true;
 }
 
-bool row_matches(const struct row *row, const struct event *event)
+bool row_matches(const struct row *row, const struct fact *fact)
 {
-    if (row->kind != ATOM || row->p != event->predicate)
+    if (row->kind != ATOM || row->p != fact->predicate)
         return false;
     uint32_t bound[VARIABLES];
     bool is_bound[VARIABLES] = {false};
     for (uint32_t j = 0; j < row->q; j++) {
-        uint32_t value = event->values[j], a = row->arguments[j].value;
+        uint32_t value = fact->values[j], a = row->arguments[j].value;
         if (row->arguments[j].mark == 1) {
             if (a != value)
                 return false;
@@ -84,21 +84,30 @@ static uint32_t number_of(struct asked *asked, uint32_t v, uint32_t before, cons
     return asked->counts[v]++;
 }
 
+// What one fact asks. `numbers` gets the number of its value j for variable v.
+static void ask(struct asked *asked, uint32_t numbers[VARIABLES][ARGUMENTS], uint32_t most,
+                const uint32_t counts[VARIABLES], const uint32_t *values, const struct rule *rule,
+                const struct fact *fact)
+{
+    for (uint32_t i = 0; i < rule->count; i++) {
+        const struct row *row = &rule->rows[i];
+        if (!row_matches(row, fact))
+            continue;
+        for (uint32_t j = 0; j < row->q; j++) {
+            uint32_t v = row->arguments[j].value;
+            if (row->arguments[j].mark == 0 && numbers[v][j] == NO_NUMBER)
+                numbers[v][j] = number_of(asked, v, counts[v], values + v * most, fact->values[j]);
+        }
+    }
+}
+
 void lists_ask(struct asked *asked, uint32_t most, const uint32_t counts[VARIABLES], const uint32_t *values,
                const struct rule *rule, const struct event *event)
 {
     memcpy(asked->counts, counts, sizeof asked->counts);
-    memset(asked->numbers, 0xff, sizeof asked->numbers);
-    for (uint32_t i = 0; i < rule->count; i++) {
-        const struct row *row = &rule->rows[i];
-        if (!row_matches(row, event))
-            continue;
-        for (uint32_t j = 0; j < row->q; j++) {
-            uint32_t v = row->arguments[j].value;
-            if (row->arguments[j].mark == 0 && asked->numbers[v][j] == NO_NUMBER)
-                asked->numbers[v][j] = number_of(asked, v, counts[v], values + v * most, event->values[j]);
-        }
-    }
+    memset(asked->numbers, 0xff, event->count * sizeof asked->numbers[0]);
+    for (size_t i = 0; i < event->count; i++)
+        ask(asked, asked->numbers[i], most, counts, values, rule, &event->facts[i]);
 }
 
 void lists_write(const struct asked *asked, uint32_t most, const uint32_t before[VARIABLES], uint32_t *values)

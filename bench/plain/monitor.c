@@ -12,7 +12,8 @@ struct state {
     uint32_t refs[MOST_ROWS];
 };
 
-enum { STATE = sizeof(struct state) / sizeof(uint32_t), ANSWER = 6, MOST_NODES = 4096 };
+enum { STATE = sizeof(struct state) / sizeof(uint32_t), ANSWER = 6, MOST_NODES = 4096, MOST_LEVELS = 40 };
+enum { FACT = sizeof(struct fact) / sizeof(uint32_t) };
 
 static void say(uint32_t *answer, uint32_t a, uint32_t b, uint32_t c, uint32_t d)
 {
@@ -54,36 +55,44 @@ bool plain_start(uint32_t k, const uint32_t *rows, size_t rows_len, uint32_t *no
     return true;
 }
 
-// The diagram of an atom that matches: its variables have the numbers of the event's values.
-static uint32_t cube(struct diagrams *d, uint32_t k, const struct row *row, const struct asked *asked)
+// The point of an atom: its variables have the numbers of a fact's values. Gives the count of levels.
+static uint32_t point(struct fixed *way, uint32_t k, const struct row *row, uint32_t numbers[VARIABLES][ARGUMENTS])
 {
-    uint32_t number[VARIABLES];
+    uint32_t number[VARIABLES], count = 0;
     memset(number, 0xff, sizeof number);
     for (uint32_t j = 0; j < row->q; j++) {
         uint32_t v = row->arguments[j].value;
         if (row->arguments[j].mark == 0)
-            number[v] = asked->numbers[v][j];
+            number[v] = numbers[v][j];
     }
-    uint32_t is = 1;
-    for (uint32_t v = VARIABLES; v-- > 0;) {
-        if (number[v] == NO_NUMBER)
-            continue;
-        for (uint32_t b = k; b-- > 0 && is != FULL;)
-            is = number[v] >> b & 1 ? diagrams_make(d, v * k + b, 0, is) : diagrams_make(d, v * k + b, is, 0);
-    }
+    for (uint32_t v = 0; v < VARIABLES; v++)
+        for (uint32_t b = 0; b < k && number[v] != NO_NUMBER; b++)
+            way[count++] = (struct fixed){v * k + b, number[v] >> b & 1};
+    return count;
+}
+
+// The diagram of an atom: the or of the points of the facts that it matches, one put to the others after the other.
+static uint32_t work_atom(struct diagrams *d, uint32_t k, const struct row *row, const struct event *event,
+                          struct asked *asked)
+{
+    struct fixed way[MOST_LEVELS];
+    uint32_t is = 0;
+    for (size_t i = 0; i < event->count && is != FULL; i++)
+        if (row_matches(row, &event->facts[i]))
+            is = diagrams_with(d, is, way, point(way, k, row, asked->numbers[i]));
     return is;
 }
 
 // The diagram of row i, from those of the rows before it and from those before the event.
 static uint32_t work_row(struct diagrams *d, uint32_t k, const struct row *row, uint32_t i, const uint32_t *news,
-                         const uint32_t *olds, const struct event *event, const struct asked *asked)
+                         const uint32_t *olds, const struct event *event, struct asked *asked)
 {
     uint32_t is;
     switch (row->kind) {
     case TRUE:
         return 1;
     case ATOM:
-        return row_matches(row, event) ? cube(d, k, row, asked) : 0;
+        return work_atom(d, k, row, event, asked);
     case AND:
         return diagrams_since(d, news[row->p], 0, news[row->q]);
     case NOT:
@@ -102,7 +111,7 @@ static uint32_t work_row(struct diagrams *d, uint32_t k, const struct row *row, 
 
 // Works all rows, and says whether there was room.
 static bool work_rows(struct diagrams *d, const struct state *state, const struct rule *rule,
-                      const struct event *event, const struct asked *asked, uint32_t news[MOST_ROWS])
+                      const struct event *event, struct asked *asked, uint32_t news[MOST_ROWS])
 {
     for (uint32_t i = 0; i < rule->count; i++) {
         news[i] = work_row(d, state->k, &rule->rows[i], i, news, state->refs, event, asked);
@@ -124,6 +133,19 @@ static bool state_right(struct diagrams *d, const struct state *state, const str
            diagrams_take(d, state->kept, state->k, state->refs, rule->free, rule->count);
 }
 
+// Whether the list is too long, or a fact in it has more than three values or not as many as the rule's predicate.
+static bool event_wrong(const struct rule *rule, const struct event *event)
+{
+    if (event->count > FACTS)
+        return true;
+    for (size_t i = 0; i < event->count; i++) {
+        const struct fact *fact = &event->facts[i];
+        if (fact->count > ARGUMENTS || rule_disagrees(rule, fact->predicate, fact->count))
+            return true;
+    }
+    return false;
+}
+
 // An event whose lengths are right. Gives the answer; d is left open, and *state and the nodes are as they must be.
 static void judge(struct diagrams *d, struct state *state, const struct rule *rule, uint32_t *values,
                   const struct event *event, uint32_t *answer)
@@ -133,7 +155,7 @@ static void judge(struct diagrams *d, struct state *state, const struct rule *ru
         say(answer, 4, 0, 0, 0);
         return;
     }
-    if (event->count > ARGUMENTS || rule_disagrees(rule, event->predicate, event->count)) {
+    if (event_wrong(rule, event)) {
         say(answer, 5, 0, 0, 0);
         return;
     }
@@ -159,11 +181,10 @@ static void judge(struct diagrams *d, struct state *state, const struct rule *ru
 }
 
 bool plain_event(const uint32_t *rows, size_t rows_len, uint32_t *nodes, size_t nodes_len, uint32_t *values,
-                 size_t values_len, uint32_t *work, size_t work_len, uint32_t predicate, uint32_t count,
-                 uint32_t first, uint32_t second, uint32_t third, uint32_t *numbers, size_t state_len,
-                 uint32_t *answer, size_t answer_len)
+                 size_t values_len, uint32_t *work, size_t work_len, const uint32_t *facts, size_t facts_len,
+                 uint32_t *numbers, size_t state_len, uint32_t *answer, size_t answer_len)
 {
-    if (state_len != STATE || answer_len != ANSWER)
+    if (state_len != STATE || answer_len != ANSWER || facts_len % FACT != 0)
         return false;
     struct state *state = (struct state *)numbers;
     struct rule rule;
@@ -178,7 +199,7 @@ bool plain_event(const uint32_t *rows, size_t rows_len, uint32_t *nodes, size_t 
     }
     struct diagrams d;
     diagrams_open(&d, nodes, capacity, work);
-    struct event event = {predicate, count, {first, second, third}};
+    struct event event = {(const struct fact *)facts, facts_len / FACT};
     judge(&d, state, &rule, values, &event, answer);
     // A state that is not well formed keeps all its nodes.
     diagrams_close(&d, answer[0] == 4 ? d.count : state->kept);

@@ -12,14 +12,15 @@
 #define plain_event moheguzari_event
 #endif
 
-// Both calls are true, unless state or answer have another length than 71 and 6: then nothing is done.
+// Both calls are true, unless state or answer have another length than 71 and 6, or facts one that is no multiple of 5:
+// then nothing is done.
 bool plain_start(uint32_t k, const uint32_t *rows, size_t rows_len, uint32_t *nodes, size_t nodes_len,
                  uint32_t *values, size_t values_len, uint32_t *state, size_t state_len,
                  uint32_t *answer, size_t answer_len);
 
 bool plain_event(const uint32_t *rows, size_t rows_len, uint32_t *nodes, size_t nodes_len,
                  uint32_t *values, size_t values_len, uint32_t *work, size_t work_len,
-                 uint32_t predicate, uint32_t count, uint32_t first, uint32_t second, uint32_t third,
-                 uint32_t *state, size_t state_len, uint32_t *answer, size_t answer_len);
+                 const uint32_t *facts, size_t facts_len, uint32_t *state, size_t state_len,
+                 uint32_t *answer, size_t answer_len);
 
 #endif

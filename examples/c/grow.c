@@ -27,9 +27,10 @@ static const struct {
 } events[] = {{CONFIRMED, 7}, {SHELVED, 7}, {SHELVED, 8}, {QUESTIONED, 7}, {SHELVED, 7}};
 
 static bool judge(size_t i, size_t c) {
+    const uint32_t fact[MOHEGUZARI_FACTS(1)] = {events[i].predicate, 1, events[i].lot};
     return moheguzari_event(rows, MOHEGUZARI_ROWS(9), nodes, MOHEGUZARI_NODES(c), values, MOHEGUZARI_VALUES(K), work,
-                            MOHEGUZARI_WORK(c), events[i].predicate, 1, events[i].lot, 0, 0, state, MOHEGUZARI_STATE,
-                            answer, MOHEGUZARI_ANSWER);
+                            MOHEGUZARI_WORK(c), fact, MOHEGUZARI_FACTS(1), state, MOHEGUZARI_STATE, answer,
+                            MOHEGUZARI_ANSWER);
 }
 
 static void tell(size_t i, size_t c) {

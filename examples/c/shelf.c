@@ -1,5 +1,6 @@
 /* No lot goes on the people's shelf unless it was confirmed and not questioned since: the rule is judged after each event, in C.
- * Every table is an array of this program. What it prints stands in shelf.out. */
+ * Every event here is one fact; scale.c has several in one moment. Every table is an array of this program. What it prints stands in
+ * shelf.out. */
 #include "moheguzari.h"
 
 #include <stdio.h>
@@ -44,8 +45,8 @@ int main(void) {
     }
     puts("event verdict kept room");
     for (size_t i = 0; i < sizeof events / sizeof *events; i++) {
-        if (!moheguzari_event(SLICE(rows), SLICE(nodes), SLICE(values), SLICE(work),
-                              events[i].predicate, events[i].count, events[i].lot, 0, 0, SLICE(state), SLICE(answer)))
+        const uint32_t fact[MOHEGUZARI_FACTS(1)] = {events[i].predicate, events[i].count, events[i].lot};
+        if (!moheguzari_event(SLICE(rows), SLICE(nodes), SLICE(values), SLICE(work), SLICE(fact), SLICE(state), SLICE(answer)))
             return 1;
         if (answer[0] != 0)
             printf("%zu refused %u %u\n", i + 1, answer[0], answer[1]);

@@ -8,7 +8,7 @@
 #include <stdlib.h>
 #include <string.h>
 
-enum { K = 10, C = 4096, EVENTS = 200, PAINT = 0xA5, STACK = 1 << 20, ENOUGH = 32 << 10 };
+enum { K = 10, C = 4096, EVENTS = 200, FACTS = MOHEGUZARI_MOST_FACTS, PAINT = 0xA5, STACK = 1 << 20, ENOUGH = 32 << 10 };
 
 /* A rule over four variables: its diagrams have all 40 levels, and every walk over diagrams goes down them. */
 static const uint32_t rows[] = {
@@ -34,7 +34,7 @@ static uint32_t state[MOHEGUZARI_STATE];
 static uint32_t answer[MOHEGUZARI_ANSWER];
 static unsigned char *stack;
 static size_t start_used, event_used;
-static unsigned taken, full;
+static unsigned taken, lists, full;
 
 #define SLICE(array) array, sizeof array / sizeof *array
 
@@ -47,16 +47,23 @@ static size_t below(const unsigned char *frame) {
 
 static void *run(void *unused) {
     unsigned char frame;
+    static uint32_t facts[MOHEGUZARI_FACTS(FACTS)];
     uint32_t x = 1;
     (void)unused;
     if (!moheguzari_start(K, SLICE(rows), SLICE(nodes), SLICE(values), SLICE(state), SLICE(answer)) || answer[0] != 0) exit(1);
     start_used = below(&frame);
     for (unsigned i = 0; i < EVENTS; i++) {
-        x = x * 1664525u + 1013904223u;
-        if (!moheguzari_event(SLICE(rows), SLICE(nodes), SLICE(values), SLICE(work),
-                              1 + i % 2, i % 2 ? 1 : 3, x >> 8, x >> 4, x >> 12, SLICE(state), SLICE(answer)))
+        const size_t count = i % 10 == 0 ? FACTS : 1;
+        for (size_t j = 0; j < count; j++) {
+            x = x * 1664525u + 1013904223u;
+            const uint32_t fact[] = {1 + (i + j) % 2, (i + j) % 2 ? 1 : 3, x >> 8, x >> 4, x >> 12};
+            memcpy(facts + MOHEGUZARI_FACTS(j), fact, sizeof fact);
+        }
+        if (!moheguzari_event(SLICE(rows), SLICE(nodes), SLICE(values), SLICE(work), facts, MOHEGUZARI_FACTS(count), SLICE(state),
+                              SLICE(answer)))
             exit(1);
         if (answer[0] == 0) taken++;
+        if (answer[0] == 0 && count == FACTS) lists++;
         if (answer[0] == MOHEGUZARI_NO_ROOM) full++;
     }
     event_used = below(&frame);
@@ -71,5 +78,5 @@ int main(void) {
     if (pthread_attr_init(&attributes) != 0 || pthread_attr_setstack(&attributes, stack, STACK) != 0) return 1;
     if (pthread_create(&thread, &attributes, run, NULL) != 0 || pthread_join(thread, NULL) != 0) return 1;
     printf("start %zu\nevent %zu\n", start_used, event_used);
-    return taken == 0 || full == 0 || event_used > ENOUGH;
+    return taken == 0 || lists == 0 || full == 0 || event_used > ENOUGH;
 }

@@ -10,7 +10,7 @@ extern "C" {
     ) -> bool;
     fn moheguzari_event(
         rows: *const u32, rows_len: usize, nodes: *mut u32, nodes_len: usize, values: *mut u32, values_len: usize,
-        work: *mut u32, work_len: usize, predicate: u32, count: u32, first: u32, second: u32, third: u32,
+        work: *mut u32, work_len: usize, facts: *const u32, facts_len: usize,
         state: *mut u32, state_len: usize, answer: *mut u32, answer_len: usize,
     ) -> bool;
 }
@@ -47,15 +47,20 @@ impl<'a> Monitor<'a> {
         }
     }
 
-    /// The answer to one event. A predicate with more than three values is refused with 5, whatever they are.
-    fn event(&mut self, predicate: u32, values: &[u32]) -> Answer {
-        let value = |i: usize| values.get(i).copied().unwrap_or(0);
-        let count = u32::try_from(values.len()).unwrap_or(u32::MAX);
+    /// The answer to the facts of one moment, each a predicate and its values. A fact of more than three values is refused with 5,
+    /// whatever they are, and so are more than eight facts.
+    fn event(&mut self, facts: &[(u32, &[u32])]) -> Answer {
+        let packed = |&(predicate, values): &(u32, &[u32])| {
+            let value = |i: usize| values.get(i).copied().unwrap_or(0);
+            let count = u32::try_from(values.len()).unwrap_or(u32::MAX);
+            [predicate, count, value(0), value(1), value(2)]
+        };
+        let facts: Vec<u32> = facts.iter().flat_map(packed).collect();
         let mut answer = [0; 6];
         let made = unsafe {
             moheguzari_event(
                 self.rows.as_ptr(), self.rows.len(), self.nodes.as_mut_ptr(), self.nodes.len(), self.values.as_mut_ptr(), self.values.len(),
-                self.work.as_mut_ptr(), self.work.len(), predicate, count, value(0), value(1), value(2),
+                self.work.as_mut_ptr(), self.work.len(), facts.as_ptr(), facts.len(),
                 self.state.as_mut_ptr(), self.state.len(), answer.as_mut_ptr(), answer.len(),
             )
         };
@@ -96,8 +101,8 @@ fn main() {
         Err((number, place)) => return println!("no start {number} {place}"),
     };
     println!("event verdict kept room");
-    for (i, (predicate, values)) in (1..).zip(EVENTS) {
-        match monitor.event(predicate, values) {
+    for (i, fact) in (1..).zip(EVENTS) {
+        match monitor.event(&[fact]) {
             Answer::Verdict { yes, kept, room } => println!("{i} {} {kept} {room}", if yes { "yes" } else { "no" }),
             Answer::Refused { number, place } => println!("{i} refused {number} {place}"),
         }

@@ -43,7 +43,7 @@ pub fn compare(
             let (nodes, values) = (&mut left.nodes, &mut left.values);
             monitor.event(left.state, &case.rows, nodes, values, &mut left.work, event)
         })
-        .map_err(|differs| format!("event {} {event:?}: {differs}", ordinal + 1))?;
+        .map_err(|differs| format!("event {} {event}: {differs}", ordinal + 1))?;
         let handed = now.handed(&case.rows);
         at_event(coverage, &handed, &now.state, fresh, event, left.answer);
         now = left.clone();

@@ -6,7 +6,7 @@ use crate::event::{Answer, Event, State};
 use crate::meaning::{Assignment, Meaning, UNSEEN};
 use crate::monitor::{event, event_by, start, Asked, Functions, Monitor};
 use crate::numbering::Lists;
-use crate::rows::{Rule, VARIABLES};
+use crate::rows::{Row, Rule, VARIABLES};
 use crate::table::{Shape, Table};
 
 /// What the last call from a fresh start left, and the events taken since.
@@ -52,19 +52,19 @@ impl Monitor for Oracle {
         nodes: &mut [u32],
         values: &mut [u32],
         work: &mut [u32],
-        fact: &Event,
+        facts: &Event,
     ) -> (State, Answer) {
         let Some(history) = self
             .history
             .as_mut()
             .filter(|history| history.left(&state, rows, nodes, values))
         else {
-            return event(state, rows, nodes, values, work, fact);
+            return event(state, rows, nodes, values, work, facts);
         };
         let taken = history.meaning.position();
         let meaning = &mut history.meaning;
         let ask = |asked: &Asked| by_enumeration(meaning, asked);
-        let (next, answer) = event_by(ask, state, rows, nodes, values, work, fact);
+        let (next, answer) = event_by(ask, state, rows, nodes, values, work, facts);
         if let Answer::Verdict { .. } = answer {
             history.state = next;
             history.nodes.copy_from_slice(nodes);
@@ -82,25 +82,40 @@ impl History {
     }
 }
 
-/// The functions before and after the event, each asked at every combination of numbers.
+/// The functions before and after the event, each asked at every combination of numbers. An atom's after some of the facts is
+/// its function after an event of these alone.
 fn by_enumeration(meaning: &mut Meaning, asked: &Asked) -> Functions {
-    let before = all_rows(meaning, asked, &asked.lists_before);
+    let rows: Vec<usize> = (0..asked.rule.rows.len()).collect();
+    let is_atom = |&row: &usize| matches!(asked.rule.rows[row], Row::Atom { .. });
+    let atoms: Vec<usize> = rows.iter().copied().filter(is_atom).collect();
+    let before = tables(meaning, asked, &asked.lists_before, &rows);
+    let position = meaning.position();
+    let mut turns: Vec<Table> = Vec::new();
+    for count in 1..asked.event.facts.len() {
+        meaning.take(&asked.event.first(count));
+        turns.extend(tables(meaning, asked, &asked.lists_after, &atoms));
+        meaning.go_back(position);
+    }
     meaning.take(asked.event);
-    let after = all_rows(meaning, asked, &asked.lists_after);
-    Functions { before, after }
+    let after = tables(meaning, asked, &asked.lists_after, &rows);
+    Functions {
+        before,
+        turns,
+        after,
+    }
 }
 
-fn all_rows(meaning: &mut Meaning, asked: &Asked, lists: &Lists) -> Vec<Table> {
-    let rows = asked.rule.rows.len();
-    let mut tables = vec![Table(Vec::new()); rows];
+/// The functions of some rows at the meaning's position.
+fn tables(meaning: &mut Meaning, asked: &Asked, lists: &Lists, rows: &[usize]) -> Vec<Table> {
+    let mut tables = vec![Table(Vec::new()); rows.len()];
     // Numbers without a value all stand for the same one, so few assignments are met often.
     let mut asked_before: HashMap<Assignment, Vec<bool>> = HashMap::new();
     for index in 0..asked.shape.size() {
         let assignment = stood_for(&asked.shape, lists, index);
         let holds = asked_before.entry(assignment).or_insert_with(|| {
             let position = meaning.position();
-            let hold = |row| meaning.holds(row, position, &assignment);
-            (0..rows).map(hold).collect()
+            let hold = |&row| meaning.holds(row, position, &assignment);
+            rows.iter().map(hold).collect()
         });
         for (table, &holds) in tables.iter_mut().zip(holds.iter()) {
             table.0.push(u8::from(holds));

@@ -7,6 +7,7 @@ pub mod coverage;
 pub mod enumerating;
 pub mod event;
 pub mod generate;
+pub mod kept_sets;
 pub mod laws;
 pub mod layout;
 pub mod limits;

@@ -2,7 +2,7 @@
 
 use std::collections::HashSet;
 
-use crate::event::{Answer, Event, State};
+use crate::event::{Answer, Event, Fact, State};
 use crate::monitor::Monitor;
 use crate::rows::{MOST_ROWS, VARIABLES};
 
@@ -31,11 +31,8 @@ extern "C" {
         values_len: usize,
         work: *mut u32,
         work_len: usize,
-        predicate: u32,
-        count: u32,
-        first: u32,
-        second: u32,
-        third: u32,
+        facts: *const u32,
+        facts_len: usize,
         state: *mut u32,
         state_len: usize,
         answer: *mut u32,
@@ -48,6 +45,9 @@ const STATE_NUMBERS: usize = 3 + VARIABLES + MOST_ROWS;
 
 /// The refusal's number or the verdict's, place or yes, kept, room, and the visits of the complements and of the sweep.
 const ANSWER_NUMBERS: usize = 6;
+
+/// The numbers of a fact: predicate, count and three values.
+const FACT_NUMBERS: usize = 5;
 
 pub struct Linked;
 
@@ -67,7 +67,10 @@ fn visits(rows: &[u32], nodes: &[u32], refs: &[u32], kept: u32) -> (u32, u32) {
             }
         }
     }
-    (complements + 2 * apart.len() as u32, rows.len() as u32 / 9 + 2 * kept)
+    (
+        complements + 2 * apart.len() as u32,
+        rows.len() as u32 / 9 + 2 * kept,
+    )
 }
 
 fn packed(state: &State) -> [u32; STATE_NUMBERS] {
@@ -88,6 +91,15 @@ fn unpacked(numbers: &[u32; STATE_NUMBERS]) -> State {
     state.counts.copy_from_slice(&numbers[3..3 + VARIABLES]);
     state.refs.copy_from_slice(&numbers[3 + VARIABLES..]);
     state
+}
+
+/// The facts in order, as one slice.
+fn packed_facts(event: &Event) -> Vec<u32> {
+    let fact = |fact: &Fact| -> [u32; FACT_NUMBERS] {
+        let [first, second, third] = fact.values;
+        [fact.predicate, fact.count, first, second, third]
+    };
+    event.facts.iter().flat_map(fact).collect()
 }
 
 impl Monitor for Linked {
@@ -136,7 +148,7 @@ impl Monitor for Linked {
     ) -> (State, Answer) {
         let mut state = packed(&state);
         let mut answer = [u32::MAX; ANSWER_NUMBERS];
-        let [first, second, third] = event.values;
+        let facts = packed_facts(event);
         let called = unsafe {
             moheguzari_event(
                 rows.as_ptr(),
@@ -147,11 +159,8 @@ impl Monitor for Linked {
                 values.len(),
                 work.as_mut_ptr(),
                 work.len(),
-                event.predicate,
-                event.count,
-                first,
-                second,
-                third,
+                facts.as_ptr(),
+                facts.len(),
                 state.as_mut_ptr(),
                 state.len(),
                 answer.as_mut_ptr(),
@@ -206,9 +215,10 @@ mod tests {
         (called, all.any(|&number| number != LEFT))
     }
 
-    /// The same of event.
-    fn event_with(state_len: usize, answer_len: usize) -> (bool, bool) {
+    /// The same of event, with facts of some length too.
+    fn event_with(state_len: usize, answer_len: usize, facts_len: usize) -> (bool, bool) {
         let (mut nodes, mut values, mut work) = ([LEFT; 3], [LEFT; 4], [LEFT; 1040]);
+        let facts = vec![0; facts_len];
         let (mut state, mut answer) = (vec![LEFT; state_len], vec![LEFT; answer_len]);
         let called = unsafe {
             moheguzari_event(
@@ -220,11 +230,8 @@ mod tests {
                 values.len(),
                 work.as_mut_ptr(),
                 work.len(),
-                0,
-                0,
-                0,
-                0,
-                0,
+                facts.as_ptr(),
+                facts.len(),
                 state.as_mut_ptr(),
                 state.len(),
                 answer.as_mut_ptr(),
@@ -240,9 +247,40 @@ mod tests {
     fn a_state_or_an_answer_of_another_length_is_turned_down() {
         for (state_len, answer_len) in [(0, 6), (70, 6), (72, 6), (71, 0), (71, 5), (71, 7)] {
             assert_eq!(start_with(state_len, answer_len), (false, false));
-            assert_eq!(event_with(state_len, answer_len), (false, false));
+            for facts_len in [0, 5, 45] {
+                assert_eq!(event_with(state_len, answer_len, facts_len), (false, false));
+            }
         }
         assert_eq!(start_with(71, 6), (true, true));
-        assert_eq!(event_with(71, 6), (true, true));
+    }
+
+    #[test]
+    fn facts_that_are_no_multiple_of_five_numbers_are_turned_down() {
+        for facts_len in (0..=60).chain([5001, 5000]) {
+            let called = facts_len % FACT_NUMBERS == 0;
+            assert_eq!(
+                event_with(71, 6, facts_len),
+                (called, called),
+                "{facts_len}"
+            );
+        }
+    }
+
+    #[test]
+    fn more_than_eight_facts_are_refused_however_many() {
+        let (mut nodes, mut values, mut work) = ([0; 3], [0; 4], [0; 1040]);
+        let (state, _) = Linked.start(1, &ROWS, &mut nodes, &mut values);
+        for count in [0, 1, 7, 8, 9, 255, 256, 257, 264, 65_536, 65_537] {
+            let facts = vec![Fact::new(9, &[]); count];
+            let slices = (&mut nodes, &mut values, &mut work);
+            let (left, answer) =
+                Linked.event(state, &ROWS, slices.0, slices.1, slices.2, &Event { facts });
+            let refused = Answer::Refused {
+                number: 5,
+                place: 0,
+            };
+            assert_eq!(answer == refused, count > 8, "{count}");
+            assert_eq!(left == state, count > 8, "{count}");
+        }
     }
 }

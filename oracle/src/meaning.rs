@@ -3,7 +3,7 @@
 
 use std::collections::{BTreeSet, HashMap};
 
-use crate::event::Event;
+use crate::event::{Event, Fact};
 use crate::rows::{Argument, Row, Rule, VARIABLES};
 
 /// A binding for each variable. Bindings are whole numbers of any size; events and constants stay below 2^32.
@@ -15,7 +15,7 @@ pub const UNSEEN: u64 = 1 << 32;
 /// The rule, the events so far, and the answers already worked out.
 ///
 /// Quantifiers range over the values of the events, the rule's constants and one unseen value. One is enough:
-/// a binding enters the meaning only where an atom compares it with a value of an event, never with another
+/// a binding enters the meaning only where an atom compares it with a value of a fact, never with another
 /// binding, and any two values that are in no event fail each such comparison alike. So any binding outside
 /// the events' values can be exchanged for `UNSEEN`, also where two variables are both bound to it.
 /// For the same reason an answer stays right when later events widen the range.
@@ -54,10 +54,10 @@ impl Meaning {
     }
 
     pub fn take(&mut self, event: &Event) {
-        for &value in event.given() {
+        for &value in event.facts.iter().flat_map(Fact::given) {
             self.widen(u64::from(value));
         }
-        self.events.push(*event);
+        self.events.push(event.clone());
         self.known.push(HashMap::new());
     }
 
@@ -97,15 +97,17 @@ impl Meaning {
                 predicate,
                 arguments,
             } => {
-                let event = &self.events[position - 1];
-                event.predicate == predicate
-                    && arguments
-                        .iter()
-                        .zip(event.given())
-                        .all(|(argument, &value)| match *argument {
-                            Argument::Constant(constant) => constant == value,
-                            Argument::Variable(variable) => bound[variable] == u64::from(value),
-                        })
+                let matches = |fact: &Fact| {
+                    fact.predicate == predicate
+                        && arguments
+                            .iter()
+                            .zip(fact.given())
+                            .all(|(argument, &value)| match *argument {
+                                Argument::Constant(constant) => constant == value,
+                                Argument::Variable(variable) => bound[variable] == u64::from(value),
+                            })
+                };
+                self.events[position - 1].facts.iter().any(matches)
             }
             Row::And(left, right) => {
                 self.holds(left, position, bound) && self.holds(right, position, bound)

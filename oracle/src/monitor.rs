@@ -6,7 +6,7 @@ use crate::numbering::Lists;
 use crate::refusals::{at_event, at_start, in_state, work_used, Refusal};
 use crate::room::room;
 use crate::rows::Rule;
-use crate::table::{met_by_exists, step, Shape, Table};
+use crate::table::{met_by_exists, step, turns, Shape, Table};
 
 /// The two calls. A compared monitor stands behind these.
 pub trait Monitor {
@@ -40,9 +40,10 @@ pub struct Asked<'a> {
     pub lists_after: Lists,
 }
 
-/// The rows' functions before and after an event.
+/// The rows' functions before and after an event, and those of its atoms after each fact in turn.
 pub struct Functions {
     pub before: Vec<Table>,
+    pub turns: Vec<Table>,
     pub after: Vec<Table>,
 }
 
@@ -126,9 +127,14 @@ fn judge(
         lists_before,
         lists_after,
     };
-    let Functions { before, after } = functions(&asked);
+    let Functions {
+        before,
+        turns,
+        after,
+    } = functions(&asked);
     let met = met_by_exists(rule, &asked.shape, &after);
-    let counted: Vec<&Table> = before.iter().chain(&after).chain(&met).collect();
+    let of_rows = before.iter().chain(&after);
+    let counted: Vec<&Table> = of_rows.chain(&turns).chain(&met).collect();
     let room = room(&asked.shape, &counted);
     if room as usize > nodes.len() / 3 {
         return Err((7, 0));
@@ -164,14 +170,12 @@ fn by_step(asked: &Asked) -> Functions {
         .iter()
         .map(|&reference| shown(&asked.shape, asked.nodes, reference))
         .collect();
-    let after = step(
-        asked.rule,
-        &asked.shape,
-        &before,
-        asked.event,
-        &asked.lists_after,
-    );
-    Functions { before, after }
+    let (rule, shape, lists) = (asked.rule, &asked.shape, &asked.lists_after);
+    Functions {
+        turns: turns(rule, shape, asked.event, lists),
+        after: step(rule, shape, &before, asked.event, lists),
+        before,
+    }
 }
 
 fn refused((number, place): Refusal) -> Answer {
@@ -199,8 +203,8 @@ impl Monitor for Stepping {
         nodes: &mut [u32],
         values: &mut [u32],
         work: &mut [u32],
-        fact: &Event,
+        facts: &Event,
     ) -> (State, Answer) {
-        event(state, rows, nodes, values, work, fact)
+        event(state, rows, nodes, values, work, facts)
     }
 }

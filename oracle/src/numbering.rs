@@ -1,6 +1,6 @@
 //! Numbers for values: each variable's list of values in number order, and what an event asks.
 
-use crate::event::Event;
+use crate::event::{Event, Fact};
 use crate::rows::{Argument, Row, Rule, VARIABLES};
 
 /// How many numbers a variable can give out: 2^k - 1 is reserved.
@@ -37,20 +37,25 @@ impl Lists {
         self.0[variable].iter().position(|&listed| listed == value)
     }
 
-    /// The lists after an event has asked its numbers, whether or not the variables have so many.
+    /// The lists after an event has asked its numbers, whether or not the variables have so many: fact by fact, the rows in
+    /// order within each.
     pub fn asked(&self, rule: &Rule, event: &Event) -> Lists {
         let mut lists = self.clone();
-        for row in &rule.rows {
-            let Some(bindings) = bindings(row, event) else {
-                continue;
-            };
-            for (variable, value) in bindings {
-                if lists.number_of(variable, value).is_none() {
-                    lists.0[variable].push(value);
-                }
+        for fact in &event.facts {
+            for row in &rule.rows {
+                lists.ask(row, fact);
             }
         }
         lists
+    }
+
+    /// Gives a number to each value that an atom which matches the fact has none for.
+    pub fn ask(&mut self, row: &Row, fact: &Fact) {
+        for (variable, value) in bindings(row, fact).unwrap_or_default() {
+            if self.number_of(variable, value).is_none() {
+                self.0[variable].push(value);
+            }
+        }
     }
 
     /// The lowest variable that has given out more numbers than there are.
@@ -59,8 +64,8 @@ impl Lists {
     }
 }
 
-/// What an atom that matches the event binds, in argument order; nothing for any other row.
-pub fn bindings(row: &Row, event: &Event) -> Option<Vec<(usize, u32)>> {
+/// What an atom that matches the fact binds, in argument order; nothing for any other row.
+pub fn bindings(row: &Row, fact: &Fact) -> Option<Vec<(usize, u32)>> {
     let Row::Atom {
         predicate,
         arguments,
@@ -68,11 +73,11 @@ pub fn bindings(row: &Row, event: &Event) -> Option<Vec<(usize, u32)>> {
     else {
         return None;
     };
-    if *predicate != event.predicate {
+    if *predicate != fact.predicate {
         return None;
     }
     let mut bound: Vec<(usize, u32)> = Vec::new();
-    for (argument, &value) in arguments.iter().zip(event.given()) {
+    for (argument, &value) in arguments.iter().zip(fact.given()) {
         match *argument {
             Argument::Constant(constant) if constant != value => return None,
             Argument::Constant(_) => {}

@@ -2,7 +2,7 @@
 
 use std::io::{BufRead, Result, Write};
 
-use crate::event::{Answer, Event, State};
+use crate::event::{Answer, Event, Fact, State};
 use crate::lines::{read, Line};
 use crate::monitor::Monitor;
 use crate::numbering::numbers;
@@ -54,7 +54,7 @@ pub fn run(monitor: &mut dyn Monitor, input: impl BufRead, mut output: impl Writ
         let Line::Event { predicate, values } = read else {
             return writeln!(output, "bad line");
         };
-        let answer = run.event(monitor, &Event::new(predicate, &values));
+        let answer = run.event(monitor, &Event::one(Fact::new(predicate, &values)));
         write_answer(&mut output, run.ordinal, answer)?;
         line = next()?;
     }

@@ -1,6 +1,6 @@
 //! The refusals that need no function of a row: 1 to 6, in order, each with its place.
 
-use crate::event::{Event, State};
+use crate::event::{Event, Fact, State, MOST_FACTS};
 use crate::numbering::{numbers, Lists};
 use crate::rows::{Rule, VARIABLES};
 use crate::well_formed;
@@ -55,8 +55,8 @@ pub fn in_state(
     if !well_formed::broken(state, rule, nodes, values).is_empty() {
         return Err((4, 0));
     }
-    let count = rule.count_of(event.predicate);
-    if event.count > 3 || count.is_some_and(|count| count != event.count as usize) {
+    // The whole list is looked at before any number is asked.
+    if event.facts.len() > MOST_FACTS || event.facts.iter().any(|fact| unfit(rule, fact)) {
         return Err((5, 0));
     }
     let before = Lists::read(state.k, &state.counts, values);
@@ -65,4 +65,10 @@ pub fn in_state(
         Some(variable) => Err((6, variable)),
         None => Ok((before, after)),
     }
+}
+
+/// Whether a fact has more than three values, or not as many as the rule's atoms of its predicate.
+pub fn unfit(rule: &Rule, fact: &Fact) -> bool {
+    let count = rule.count_of(fact.predicate);
+    fact.count > 3 || count.is_some_and(|count| count != fact.count as usize)
 }

@@ -1,6 +1,6 @@
 //! Functions of the rows as truth tables over the bits of numbers, and one step of the meaning on them.
 
-use crate::event::Event;
+use crate::event::{Event, Fact};
 use crate::numbering::{bindings, Lists};
 use crate::rows::{Row, Rule};
 
@@ -142,7 +142,7 @@ pub fn step(
     for (place, row) in rule.rows.iter().enumerate() {
         let table = match row {
             Row::True => shape.constant(true),
-            Row::Atom { .. } => atom(shape, row, event, lists),
+            Row::Atom { .. } => atom(shape, row, &event.facts, lists),
             Row::And(left, right) => after[*left].and(&after[*right]),
             Row::Not(below) => after[*below].not(),
             Row::Since { left, right } => after[*right].or(&after[*left].and(&before[place])),
@@ -157,19 +157,34 @@ pub fn step(
     after
 }
 
-/// An atom's function: no, or the one number that each of its variables has.
-pub fn atom(shape: &Shape, row: &Row, event: &Event, lists: &Lists) -> Table {
-    let Some(bindings) = bindings(row, event) else {
-        return shape.constant(false);
-    };
-    let wanted: Vec<(usize, usize)> = bindings
-        .into_iter()
-        .map(|(variable, value)| {
-            let number = lists.number_of(variable, value);
-            (variable, number.expect("the value was asked a number"))
+/// An atom's function: yes where some fact matches, which is where its variables have the numbers of that fact's values.
+fn atom(shape: &Shape, row: &Row, facts: &[Fact], lists: &Lists) -> Table {
+    let mut table = shape.constant(false);
+    for bindings in facts.iter().filter_map(|fact| bindings(row, fact)) {
+        let wanted: Vec<(usize, usize)> = bindings
+            .into_iter()
+            .map(|(variable, value)| {
+                let number = lists.number_of(variable, value);
+                (variable, number.expect("the value was asked a number"))
+            })
+            .collect();
+        table = table.or(&shape.exactly(&wanted));
+    }
+    table
+}
+
+/// Each atom row's function after each fact in turn.
+pub fn turns(rule: &Rule, shape: &Shape, event: &Event, lists: &Lists) -> Vec<Table> {
+    let atoms = rule
+        .rows
+        .iter()
+        .filter(|row| matches!(row, Row::Atom { .. }));
+    atoms
+        .flat_map(|row| {
+            let after = |count| atom(shape, row, &event.facts[..count], lists);
+            (1..=event.facts.len()).map(after)
         })
-        .collect();
-    shape.exactly(&wanted)
+        .collect()
 }
 
 /// The functions that the exists rows meet below their own after an event.

@@ -5,7 +5,9 @@ use crate::compare::{compare, Left};
 use crate::coverage::Coverage;
 use crate::event::Answer;
 use crate::generate::disguise::Renaming;
+use crate::kept_sets::other_set;
 use crate::monitor::Monitor;
+use crate::reached::facts;
 use crate::rows::Rule;
 use crate::well_formed::{broken, Clause};
 
@@ -27,6 +29,11 @@ pub enum Trial {
         plain: Case,
         disguised: Case,
         renaming: Renaming,
+    },
+    /// A log, and the same with the facts of its events in another order.
+    Reordered {
+        one: Case,
+        other: Case,
     },
 }
 
@@ -60,9 +67,18 @@ impl Trial {
                 disguised,
                 renaming,
             } => {
+                if plain.events.iter().any(|event| event.facts.len() > 1) {
+                    coverage.add("disguised log with several facts");
+                }
                 let plain = compare(plain, subject, coverage)?;
                 let disguised = compare(disguised, subject, coverage)?;
                 seen_alike(&plain, &disguised, renaming, coverage)?;
+            }
+            Trial::Reordered { one, other } => {
+                let rule = Rule::read(&one.rows).expect("made rules are right");
+                let one = compare(one, subject, coverage)?;
+                let other = compare(other, subject, coverage)?;
+                same_in_any_order(&rule, &one, &other, coverage)?;
             }
         }
         Ok(())
@@ -115,4 +131,33 @@ fn same_but_renamed(one: &Left, two: &Left, renaming: &Renaming) -> Result<(), S
     } else {
         Err(format!("a disguise was seen through: {one:?} and {two:?}"))
     }
+}
+
+/// While the same events are taken in both orders, the verdicts are the same, and so are the kept sets, read as values. Refusals 5
+/// and 6 do not depend on the order either, and 7 does.
+fn same_in_any_order(
+    rule: &Rule,
+    one: &[Left],
+    other: &[Left],
+    coverage: &mut Coverage,
+) -> Result<(), String> {
+    for (one, other) in one.iter().zip(other) {
+        facts::reordered(coverage, one.answer, other.answer);
+        let told = |what: &str| Err(format!("another order, {what}: {one:?} and {other:?}"));
+        match (one.answer, other.answer) {
+            (Answer::Verdict { yes: here, .. }, Answer::Verdict { yes: there, .. }) => {
+                if here != there {
+                    return told("another verdict");
+                }
+                if let Some(what) = other_set(rule, one, other) {
+                    return told(&what);
+                }
+            }
+            (here, there) if here == there => {}
+            (Answer::Refused { number: 7, .. }, Answer::Verdict { .. })
+            | (Answer::Verdict { .. }, Answer::Refused { number: 7, .. }) => return Ok(()),
+            _ => return told("another refusal"),
+        }
+    }
+    Ok(())
 }

@@ -6,6 +6,7 @@ use oracle::runs::printed;
 
 const RULE_K: &str = include_str!("../limits/rule-k.txt");
 const ROWS: &str = include_str!("../limits/rows.txt");
+const FACTS: &str = include_str!("../limits/facts.txt");
 const LINES: &str = include_str!("../cases/lines.txt");
 
 /// What the first difference is, in a text of cases.
@@ -26,6 +27,33 @@ fn with(text: &str, line: &str, other: &str) -> String {
 fn the_cases_are_as_written() {
     assert_eq!(told(RULE_K), Ok(()));
     assert_eq!(told(ROWS), Ok(()));
+    assert_eq!(told(FACTS), Ok(()));
+}
+
+#[test]
+fn other_facts_are_told() {
+    for (line, other) in [
+        ("event 1 7; 2 7  # both", "event 1 7  # both"),
+        ("event 1 7; 2 8", "event 2 8; 1 7; 2 7"),
+        ("event none\n  answer yes", "event none\n  answer no"),
+        ("event 1 3; 1 4; 2 5", "event 2 5; 1 3; 1 4"),
+        ("event 2 5; 1 3\n", "event 1 3; 2 5\n"),
+        (
+            "event 1 3; 1 4\n  answer yes, kept 1, room 2",
+            "event 1 3; 1 4\n  answer yes, kept 1, room 1",
+        ),
+        (
+            "event 9; 9; 9; 9; 9; 9; 9; 9; 9",
+            "event 9; 9; 9; 9; 9; 9; 9; 9",
+        ),
+        ("event 1 3; 1 4; 1 5 6", "event 1 3; 1 4; 1 5"),
+        (
+            "event 1 3; 1 3, count 4294967295",
+            "event 1 3; 1 3, count 1",
+        ),
+    ] {
+        assert!(told(&with(FACTS, line, other)).is_err(), "{other}");
+    }
 }
 
 #[test]
@@ -59,7 +87,15 @@ fn another_number_is_told() {
 #[test]
 fn what_is_no_case_is_told() {
     let event = "event 1 7  # 1 confirmed 7\n";
-    for other in ["event\n", "event 1 7x\n", "given\n", "happen 1 7\n"] {
+    for other in [
+        "event\n",
+        "event 1 7x\n",
+        "event 1 7;\n",
+        "event 1 7; none\n",
+        "event none; 1 7\n",
+        "given\n",
+        "happen 1 7\n",
+    ] {
         assert!(told(&with(RULE_K, event, other)).is_err(), "{other}");
     }
     let twice = "values 7\nvalues 7\n";

@@ -13,10 +13,10 @@ use Rattle.meaning.specs.declared.Event.{Event}
 use Rattle.meaning.specs.declared.Answer.{Answer}
 use Rattle.meaning.specs.declared.Answer.the-variants.{Started, Verdict, Refused}
 use Rattle.meaning.specs.declared.Turn.{Turn}
-use Rattle.meaning.specs.Qtl.{Assignment, Holds}
+use Rattle.meaning.specs.Qtl.{Assignment, SameFacts, SameEvents, Holds}
 use Rattle.meaning.specs.Rows.{rowCount, ruleOf, formulaAt}
 use Rattle.meaning.specs.Numbering.{shown, Shows}
-use Rattle.meaning.specs.Outcome.{capacity, workSize, cleared, factOf, SameEvent, stateOf, Machine, Arrays, WellFormed, enlarged, shows, log}
+use Rattle.meaning.specs.Outcome.{capacity, workSize, cleared, factsOf, SameEvent, stateOf, Machine, Arrays, WellFormed, enlarged, shows, log}
 use Rattle.meaning.specs.Refusals.{StartSentence, Sentence, First}
 use Rattle.meaning.specs.Verdicts.{Stepped, Answered}
 use Rattle.meaning.specs.Disguise.{Disguise, Disguised, DisguisedLog, Alike}
@@ -24,7 +24,7 @@ use Rattle.monitor.specs.Calls.{IsVerdict, IsRefusal, Starts, machine, Happens}
 use Rattle.monitor.specs.Runs.{Fresh, Call, Calls, takenIn, AllTaken}
 use Rattle.demands.proofs.AnsweredLaws.{starts-refuses, starts-keeps, starts-takes, starts-leaves, starts-answers, happens-refuses, happens-keeps, happens-takes, happens-answers, happens-steps, happens-alike, happens-larger}
 use Rattle.demands.proofs.LargerRuns.{runs-alike}
-use Rattle.demands.proofs.FreshRuns.{run-sets, run-numbers, run-verdict, same-verdict, both-answer, both-alike, hidden-verdict}
+use Rattle.demands.proofs.FreshRuns.{run-sets, run-numbers, run-verdict, same-sets, same-verdict, both-answer, both-alike, hidden-verdict}
 
 -- Demand 1, of `start`, for any numbers whatever handed to it, and what it then answers and leaves.
 module _ (k : ℕ) (rows nodes values : List ℕ) (t : Turn) (ns vs : List ℕ) (s : Starts k rows nodes values t ns vs) where
@@ -74,7 +74,7 @@ module _ (rows : List ℕ) (m : Machine) (e : Event) (t : Turn) (ns vs ws : List
   pub any-state : Arrays m → (y : Bool) (n r : ℕ) → t .answer ≡ Verdict y n r → Stepped rows m e y n r (machine (t .state) ns vs ws)
   any-state a y n r q = happens-steps rows m e t ns vs ws h a y n r q
 
-  -- "Values past an event's count are ignored."
+  -- "Values past an event's count are ignored", and so are facts past it.
   pub past-the-count : (f : Event) → SameEvent e f → Happens rows m f t ns vs ws
   past-the-count f s = happens-alike rows m e t ns vs ws h f s
 
@@ -107,14 +107,21 @@ pub larger-runs : (k : ℕ) (rows nodes values nodes′ values′ : List ℕ) (m
     → (es : List Event) (xs ys : List Answer) (m n : Machine) → Calls rows m₀ es xs m → Calls rows n₀ es ys n → AllTaken xs → ys ≡ xs
 larger-runs k rows nodes values nodes′ values′ m₀ n₀ a b d more long = runs-alike k rows nodes values nodes′ values′ m₀ n₀ a b d more long
 
--- "With a larger k, wherever both have taken the same events their verdicts agree."
-pub other-k : (k k′ : ℕ) (rows nodes values nodes′ values′ : List ℕ) (m₀ n₀ : Machine) → Fresh k rows nodes values m₀ → Fresh k′ rows nodes′ values′ n₀
-    → (es fs : List Event) (xs ys : List Answer) (m n : Machine) → Calls rows m₀ es xs m → Calls rows n₀ fs ys n → takenIn fs ys ≡ takenIn es xs
-    → (e f : Event) → factOf f ≡ factOf e → (y z : Bool) (i r j s : ℕ) (m′ n′ : Machine) → Call rows m e (Verdict y i r) m′ → Call rows n f (Verdict z j s) n′ → z ≡ y
-other-k = same-verdict
+-- "From a fresh start, verdicts and kept sets, read as values, don't depend on the facts' order while both orders are taken": two runs of one
+-- rule that have taken the same facts, event by event, in whatever order within each. Copies of a fact don't matter. Nothing is asked of k
+-- and of the tables, so this is also: "With a larger k, wherever both have taken the same events their verdicts agree."
+module _ (k k′ : ℕ) (rows nodes values nodes′ values′ : List ℕ) (m₀ n₀ : Machine) (one : Fresh k rows nodes values m₀) (other : Fresh k′ rows nodes′ values′ n₀)
+    (es fs : List Event) (xs ys : List Answer) (m n : Machine) (one-calls : Calls rows m₀ es xs m) (other-calls : Calls rows n₀ fs ys n) (same : SameEvents (takenIn es xs) (takenIn fs ys)) where
+  -- at whatever numbers stand for the assignment's values in each run
+  pub order-kept : (i : ℕ) → i < length (ruleOf rows) → (a : Assignment) (s s′ : Bits) → Shows k (shows rows m .lists) s a → Shows k′ (shows rows n .lists) s′ a
+      → eval (getD (shows rows m .trees) i off) s ≡ eval (getD (shows rows n .trees) i off) s′
+  order-kept = same-sets k k′ rows nodes values nodes′ values′ m₀ n₀ one other es fs xs ys m n one-calls other-calls same
+
+  pub order-verdicts : (e f : Event) → SameFacts (factsOf e) (factsOf f) → (y z : Bool) (i r j s : ℕ) (m′ n′ : Machine) → Call rows m e (Verdict y i r) m′ → Call rows n f (Verdict z j s) n′ → y ≡ z
+  order-verdicts = same-verdict k k′ rows nodes values nodes′ values′ m₀ n₀ one other es fs xs ys m n one-calls other-calls same
 
 -- Demand 3. "Disguised logs: rename values one to one, each constant of the rule to itself and nothing else to a constant. From a fresh start,
--- with the same rule and table sizes ..", whatever the values past an event's count:
+-- with the same rule and table sizes ..", whatever the values past a fact's count, and the facts past an event's:
 module _ (k : ℕ) (rows nodes values nodes′ values′ : List ℕ) (m₀ n₀ : Machine) (plain : Fresh k rows nodes values m₀) (hidden : Fresh k rows nodes′ values′ n₀)
     (same-nodes : length nodes′ ≡ length nodes) (same-values : length values′ ≡ length values) (same-work : length (n₀ .work) ≡ length (m₀ .work))
     (es fs : List Event) (π : ℕ → ℕ) (xs ys : List Answer) (m n : Machine) (plain-calls : Calls rows m₀ es xs m) (hidden-calls : Calls rows n₀ fs ys n) where
@@ -128,5 +135,5 @@ module _ (k : ℕ) (rows nodes values nodes′ values′ : List ℕ) (m₀ n₀ 
 
   -- ".. and those verdicts are QTL's for the undisguised events taken": one more event after any disguised log.
   pub hidden-verdicts : (e f : Event) → Disguise (ruleOf rows) (es ++ e ∷ []) π → DisguisedLog π es fs → Disguised π e f → (n′ : Machine) (y : Bool) (i r : ℕ) → Call rows n f (Verdict y i r) n′
-      → (a : Assignment) → (y ≡ true) ↔ Holds (log (takenIn es xs ++ factOf e ∷ [])) (formulaAt (ruleOf rows) (length (ruleOf rows) - 1)) (suc (length (takenIn es xs))) a
+      → (a : Assignment) → (y ≡ true) ↔ Holds (log (takenIn es xs ++ factsOf e ∷ [])) (formulaAt (ruleOf rows) (length (ruleOf rows) - 1)) (suc (length (takenIn es xs))) a
   hidden-verdicts = hidden-verdict k rows nodes values nodes′ values′ m₀ n₀ plain hidden same-nodes same-values same-work es fs π xs ys m n plain-calls hidden-calls

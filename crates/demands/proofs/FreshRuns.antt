@@ -11,12 +11,13 @@ use Rattle.trees.proofs.Tests.{iff-eq}
 use Rattle.meaning.specs.declared.Event.{Event}
 use Rattle.meaning.specs.declared.Answer.{Answer}
 use Rattle.meaning.specs.declared.Answer.the-variants.{Started, Verdict}
-use Rattle.meaning.specs.Qtl.{Assignment, Holds}
+use Rattle.meaning.specs.Qtl.{Assignment, SameFacts, SameEvents, Holds}
 use Rattle.meaning.specs.Rows.{ruleOf, formulaAt}
 use Rattle.meaning.specs.Numbering.{shown, Shows}
-use Rattle.meaning.specs.Outcome.{factOf, startOutcome, Machine, machineOf, shows, eventOutcome, runs, answers, takenOf, log}
+use Rattle.meaning.specs.Outcome.{factsOf, startOutcome, Machine, machineOf, shows, eventOutcome, runs, answers, takenOf, log}
 use Rattle.meaning.specs.Verdicts.{Answered}
 use Rattle.meaning.specs.Disguise.{Disguise, Disguised, DisguisedLog, Alike}
+use Rattle.meaning.proofs.OrderLaws.{same-length, same-snoc, same-holds}
 use Rattle.meaning.proofs.FromStart.{after, facts}
 use Rattle.meaning.proofs.Demands
 use Rattle.monitor.specs.Runs.{Fresh, Call, Calls, takenIn}
@@ -45,14 +46,21 @@ module _ (k : ℕ) (rows nodes values : List ℕ) (m₀ : Machine) (fresh : Fres
       subst (λ (x : Machine). Answered rows m e y n r x (takenIn es xs)) (sym (call-left rows m m′ e (Verdict y n r) c))
       ((rw (after-is, facts-are) at (Demands.verdicts k rows nodes values (m₀ .work) started es e y n r)) (sym (c .answer)))
 
--- two runs of one rule, with any k and any tables, that took the same facts
-pub same-verdict : (k k′ : ℕ) (rows nodes values nodes′ values′ : List ℕ) (m₀ n₀ : Machine) → Fresh k rows nodes values m₀ → Fresh k′ rows nodes′ values′ n₀
-    → (es fs : List Event) (xs ys : List Answer) (m n : Machine) → Calls rows m₀ es xs m → Calls rows n₀ fs ys n → takenIn fs ys ≡ takenIn es xs
-    → (e f : Event) → factOf f ≡ factOf e → (y z : Bool) (i r j s : ℕ) (m′ n′ : Machine) → Call rows m e (Verdict y i r) m′ → Call rows n f (Verdict z j s) n′ → z ≡ y
-same-verdict k k′ rows nodes values nodes′ values′ m₀ n₀ a b es fs xs ys m n c d t e f u y z i r j s m′ n′ p q =
-    let v = run-verdict k rows nodes values m₀ a es xs m c e y i r m′ p .verdict (λ x. 0) in
-    let w = rw (t, u) at (run-verdict k′ rows nodes′ values′ n₀ b fs ys n d f z j s n′ q .verdict (λ x. 0)) in
-    iff-eq z y (λ h. v .1 (w .0 h)) (λ h. w .1 (v .0 h))
+-- two runs of one rule, with any k and any tables, that took the same facts, event by event, in whatever order within each
+module _ (k k′ : ℕ) (rows nodes values nodes′ values′ : List ℕ) (m₀ n₀ : Machine) (a : Fresh k rows nodes values m₀) (b : Fresh k′ rows nodes′ values′ n₀)
+    (es fs : List Event) (xs ys : List Answer) (m n : Machine) (c : Calls rows m₀ es xs m) (d : Calls rows n₀ fs ys n) (same : SameEvents (takenIn es xs) (takenIn fs ys)) where
+  pub same-sets : (i : ℕ) → i < length (ruleOf rows) → (x : Assignment) (s s′ : Bits) → Shows k (shows rows m .lists) s x → Shows k′ (shows rows n .lists) s′ x
+      → eval (getD (shows rows m .trees) i off) s ≡ eval (getD (shows rows n .trees) i off) s′
+  same-sets i h x s s′ w w′ =
+      same-holds (takenIn es xs) (takenIn fs ys) same (formulaAt (ruleOf rows) i) (length (takenIn es xs)) x _ _ (run-sets k rows nodes values m₀ a es xs m c i h s x w)
+      (rw (same-length (takenIn es xs) (takenIn fs ys) same) (run-sets k′ rows nodes′ values′ n₀ b fs ys n d i h s′ x w′))
+
+  pub same-verdict : (e f : Event) → SameFacts (factsOf e) (factsOf f) → (y z : Bool) (i r j s : ℕ) (m′ n′ : Machine) → Call rows m e (Verdict y i r) m′ → Call rows n f (Verdict z j s) n′ → y ≡ z
+  same-verdict e f t y z i r j s m′ n′ p q =
+      same-holds (takenIn es xs ++ factsOf e ∷ []) (takenIn fs ys ++ factsOf f ∷ []) (same-snoc (takenIn es xs) (takenIn fs ys) (factsOf e) (factsOf f) same t)
+      (formulaAt (ruleOf rows) (length (ruleOf rows) - 1)) (suc (length (takenIn es xs))) (λ v. 0) y z
+      (run-verdict k rows nodes values m₀ a es xs m c e y i r m′ p .verdict (λ v. 0))
+      (rw (same-length (takenIn es xs) (takenIn fs ys) same) (run-verdict k′ rows nodes′ values′ n₀ b fs ys n d f z j s n′ q .verdict (λ v. 0)))
 
 -- a log and its disguise
 module _ (k : ℕ) (rows nodes values nodes′ values′ : List ℕ) (m₀ n₀ : Machine) (plain : Fresh k rows nodes values m₀) (hidden : Fresh k rows nodes′ values′ n₀)
@@ -76,7 +84,7 @@ module _ (k : ℕ) (rows nodes values nodes′ values′ : List ℕ) (m₀ n₀ 
         rw (plain-left, hidden-left) (Demands.same-tables k rows nodes values (m₀ .work) nodes′ values′ (n₀ .work) (fresh-started k rows nodes values m₀ plain) same-nodes same-values same-work es fs π d l)
 
   pub hidden-verdict : (e f : Event) → Disguise (ruleOf rows) (es ++ e ∷ []) π → DisguisedLog π es fs → Disguised π e f → (n′ : Machine) (y : Bool) (i r : ℕ) → Call rows n f (Verdict y i r) n′
-      → (a : Assignment) → (y ≡ true) ↔ Holds (log (takenIn es xs ++ factOf e ∷ [])) (formulaAt (ruleOf rows) (length (ruleOf rows) - 1)) (suc (length (takenIn es xs))) a
+      → (a : Assignment) → (y ≡ true) ↔ Holds (log (takenIn es xs ++ factsOf e ∷ [])) (formulaAt (ruleOf rows) (length (ruleOf rows) - 1)) (suc (length (takenIn es xs))) a
   hidden-verdict e f d l g n′ y i r q a =
       rw (facts-are k rows nodes values m₀ plain es xs m plain-calls) at
       (Demands.hidden-verdicts k rows nodes values (m₀ .work) nodes′ values′ (n₀ .work) (fresh-started k rows nodes values m₀ plain) same-nodes same-values same-work es fs e f π d l g y i r

@@ -17,7 +17,7 @@ use Rattle.meaning.specs.declared.Answer.the-variants.{Started, Verdict, Refuse
 use Rattle.meaning.specs.Rows.{rowCount, ruleOf}
 use Rattle.meaning.specs.Step.{Shown, step}
 use Rattle.meaning.specs.Tables.{most, keptTable, layState}
-use Rattle.meaning.specs.Outcome.{capacity, nodesRight, valuesRight, workSize, cleared, factOf, taken, stateOf, startOutcome, Machine, Arrays, WellFormed, enlarged, shows, decideEvent, eventOutcome}
+use Rattle.meaning.specs.Outcome.{capacity, nodesRight, valuesRight, workSize, cleared, factsOf, taken, stateOf, startOutcome, Machine, Arrays, WellFormed, enlarged, shows, decideEvent, eventOutcome}
 use Rattle.meaning.proofs.PartsLaws.{padded-length}
 use Rattle.meaning.proofs.StartLaws.{zeros, zeros-add}
 use Rattle.meaning.proofs.RunLaws.{few, Laid, C-is, laid-on, Begun, begun}
@@ -45,7 +45,7 @@ module _ (rows : List ℕ) (m : Machine) (e : Event) (arrays : Arrays m) (t : de
   left = eventOutcome rows m e .left
 
   abbrev after : Shown
-  after = step (m .state .k) (ruleOf rows) (shows rows m) (factOf e)
+  after = step (m .state .k) (ruleOf rows) (shows rows m) (factsOf e)
 
   laid : Laid rows (m .state .k) (capacity (m .nodes)) (passed rows m e arrays t .0) (passed rows m e arrays t .1) left after
   laid = laid-on rows (m .state .k) (capacity (m .nodes)) (passed rows m e arrays t .0) (passed rows m e arrays t .1) m (shows rows m) (laid-of rows m e arrays t) e t

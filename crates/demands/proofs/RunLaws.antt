@@ -10,7 +10,7 @@ use Rattle.meaning.specs.declared.Answer.{Answer}
 use Rattle.meaning.specs.declared.Answer.the-variants.{Started, Verdict, Refused}
 use Rattle.meaning.specs.Qtl.{Fact}
 use Rattle.meaning.specs.Rows.{rowCount}
-use Rattle.meaning.specs.Outcome.{capacity, cleared, factOf, Decision, taken, refused, stateOf, settleStart, decideStart, startOutcome, Machine, machineOf, shows, verdictOf, decideEvent, settleEvent, eventOutcome, runs, answers, withTaken, takenOf}
+use Rattle.meaning.specs.Outcome.{capacity, cleared, factsOf, Decision, taken, refused, stateOf, settleStart, decideStart, startOutcome, Machine, machineOf, shows, verdictOf, decideEvent, settleEvent, eventOutcome, runs, answers, withTaken, takenOf}
 use Rattle.monitor.specs.Calls.{Happens}
 use Rattle.monitor.specs.Runs.{Fresh, Call, Calls, takenIn}
 

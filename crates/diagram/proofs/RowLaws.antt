@@ -17,9 +17,9 @@ use Rattle.making.specs.declared.Made.{Made}
 use Rattle.making.specs.declared.Made.the-variants as made
 use Rattle.walks.specs.declared.Counted.{Counted}
 use Rattle.walks.specs.declared.Counted.the-variants.{Full, At}
-use Rattle.making.specs.declared.Place.{Place}
 use Rattle.diagram.specs.declared.Instruction.{Instruction}
-use Rattle.diagram.specs.declared.Instruction.the-variants.{Yes, No, Cube, And, Not, Since, Old, Drop}
+use Rattle.diagram.specs.declared.Instruction.the-variants.{Yes, And, Not, Since, Old, Drop}
+use Rattle.diagram.specs.declared.Turn.{Turn}
 use Rattle.making.specs.Tables.{Added}
 use Rattle.walks.specs.Walks.{Within}
 use Rattle.walks.specs.Desks.{Desk, Remembered}
@@ -29,8 +29,7 @@ use Rattle.walks.proofs.MapLaws.{map-is}
 use Rattle.walks.proofs.ComplementLaws.{complement-fits}
 use Rattle.walks.proofs.Visited.{not-visits}
 use Rattle.nodes.specs.Nodes.{Grown, Stuck}
-use Rattle.making.specs.Cubes.{cubeSays}
-use Rattle.diagram.specs.Steps.{instructionSays, dropStages, stagesOf}
+use Rattle.diagram.specs.Steps.{facts, does, turnsSay, turnStages, instructionSays, taskSays, dropStages, stagesOf, taskStages}
 use Rattle.diagram.specs.Works.{Leads, led, Base, Reached, Short, Worked, plainly, Plain, RowDone}
 use Rattle.nodes.proofs.ReadLaws.{grown-ref, stays}
 use Rattle.walks.proofs.SinceLaws.{and-since}
@@ -69,7 +68,7 @@ leads-to l a e = rw e (l .each a)
 module _ (k : ℕ) {ns : List ℕ} {n : ℕ} (olds news : List ℕ) (i : ℕ) {w : List ℕ} {c slots : ℕ} (d : Desk ns n (4 * k) w c slots) where
   -- what the row's work left, by its instruction
   abbrev Row : List ℕ → List ℕ → Instruction → Counted → Type 0
-  Row ms w′ x m = RowDone k ns ms n olds news i x w w′ c slots m
+  Row ms w′ x m = RowDone k ns ms n olds news i (does x) w w′ c slots m
 
   -- the same of walks that count nothing
   abbrev Walks : List ℕ → List ℕ → Instruction → Made → Type 0
@@ -81,42 +80,35 @@ module _ (k : ℕ) {ns : List ℕ} {n : ℕ} (olds news : List ℕ) (i : ℕ) {w
 
   -- yes
   pub row-yes : Row ns w Yes (At n 1 0)
-  unfolding stagesOf instructionSays at eval
+  unfolding taskStages taskSays stagesOf instructionSays at eval
   row-yes =
       let g : Walks ns w Yes (made.At n 1) = one-there d _ 1 (omega arith) (tree-one (4 * k) (λ s. true) (record { only = λ s t h. refl }) on (fine-on 0 (4 * k)) (λ s. refl)) in
       (g .0, d, untouched (g .1))
 
-  -- no
-  pub row-no : Row ns w No (At n 0 0)
-  unfolding stagesOf instructionSays at eval
-  row-no =
-      let g : Walks ns w No (made.At n 0) = one-there d _ 0 (omega arith) (tree-one (4 * k) (λ s. false) (record { only = λ s t h. refl }) off (fine-off 0 (4 * k)) (λ s. refl)) in
-      (g .0, d, untouched (g .1))
-
   -- an old diagram
   pub row-old : (a : ℕ) → Leads ns n (4 * k) olds → Row ns w (Old a) (At n (getD olds a 0) 0)
-  unfolding stagesOf instructionSays led
+  unfolding taskStages taskSays stagesOf instructionSays led
   row-old a l =
       let g : Walks ns w (Old a) (made.At n (getD olds a 0)) = one-there d _ (getD olds a 0) (l .each a .below) (tree-eval (4 * k) _ (within-fine (l .each a))) in
       (g .0, d, untouched (g .1))
 
   module _ (ms w′ : List ℕ) where
-    -- a cube
-    pub row-cube : (x y z u : Place) (m : Made) → Added (λ xs j. Remembered w xs j (4 * k) w′ c slots) ns ms n (treeOf (4 * k) (cubeSays k (x ∷ y ∷ z ∷ u ∷ []))) m → Row ms w′ (Cube x y z u) (plainly m)
-    unfolding stagesOf instructionSays
-    row-cube x y z u made.Full g = one-short _ refl g
-    row-cube x y z u (made.At j r) g = (one-reached _ refl (g .0), g .1 .desk, untouched (g .1))
+    -- an atom
+    pub row-facts : (ts : List Turn) (m : Made) → Worked (4 * k) ns ms n (turnStages k [] ts) (turnsSay k ts) w w′ c slots m → RowDone k ns ms n olds news i (facts ts) w w′ c slots (plainly m)
+    unfolding taskStages taskSays
+    row-facts ts made.Full g = g
+    row-facts ts (made.At j r) g = (g .0, g .1 .desk, untouched (g .1))
 
     -- an and
     pub row-and : (a b : ℕ) (m : Made)
         → Added (λ xs j. Remembered w xs j (4 * k) w′ c slots) ns ms n (sinceT (4 * k) (at (treesOf ns n) (getD news a 0)) (at (treesOf ns n) 0) (at (treesOf ns n) (getD news b 0))) m → Row ms w′ (And a b) (plainly m)
-    unfolding stagesOf instructionSays led at
+    unfolding taskStages taskSays stagesOf instructionSays led at
     row-and a b made.Full g = one-short _ (sym (and-since (4 * k) (at (treesOf ns n) (getD news a 0)) (at (treesOf ns n) (getD news b 0)))) g
     row-and a b (made.At j r) g = (one-reached _ (sym (and-since (4 * k) (at (treesOf ns n) (getD news a 0)) (at (treesOf ns n) (getD news b 0)))) (g .0), g .1 .desk, untouched (g .1))
 
     -- a complement
     pub row-not : Leads ns n (4 * k) news → (a : ℕ) (m : Counted) → Complemented ns ms n (4 * k) (4 * k) (getD news a 0) w w′ c slots m → Row ms w′ (Not a) m
-    unfolding stagesOf instructionSays led notT
+    unfolding taskStages taskSays stagesOf instructionSays led notT
     row-not l a Full g = one-short _ refl g
     row-not l a (At j r v) g = (
       one-reached _ refl (g .0),
@@ -127,14 +119,14 @@ module _ (k : ℕ) {ns : List ℕ} {n : ℕ} (olds news : List ℕ) (i : ℕ) {w
     -- a since
     pub row-since : (a b l r o : ℕ) → l ≡ getD news a 0 → r ≡ getD news b 0 → o ≡ getD olds i 0 → (m : Made)
         → Added (λ xs j. Remembered w xs j (4 * k) w′ c slots) ns ms n (sinceT (4 * k) (at (treesOf ns n) l) (at (treesOf ns n) r) (at (treesOf ns n) o)) m → Row ms w′ (Since a b) (plainly m)
-    unfolding stagesOf instructionSays led sinceT
+    unfolding taskStages taskSays stagesOf instructionSays led sinceT
     row-since a b l r o el er eo made.Full g = one-short _ refl (rw (el, er, eo) at g)
     row-since a b l r o el er eo (made.At j q) g = (one-reached _ refl (rw (el, er, eo) at (g .0)), g .1 .desk, untouched (g .1))
 
     -- a removal
     pub row-drop : (v a : ℕ) (m : Made)
         → Worked (4 * k) ns ms n (dropStages (v * k) k (eval (at (treesOf ns n) (getD news a 0)))) (drops (v * k) k (eval (at (treesOf ns n) (getD news a 0)))) w w′ c slots m → Row ms w′ (Drop v a) (plainly m)
-    unfolding stagesOf instructionSays led
+    unfolding taskStages taskSays stagesOf instructionSays led
     row-drop v a made.Full g = g
     row-drop v a (made.At j r) g = (g .0, g .1 .desk, untouched (g .1))
 

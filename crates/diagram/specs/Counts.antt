@@ -10,10 +10,10 @@ use Rattle.trees.specs.Table.{addTrees, refOf, show, treesOf}
 use Rattle.trees.specs.Kept.{diagrams}
 use Rattle.visits.specs.Visits.{nodeCount, complement, sweeps}
 use Rattle.diagram.specs.declared.Instruction.{Instruction}
-use Rattle.diagram.specs.declared.Instruction.the-variants.{Yes, No, Cube, And, Not, Since, Old, Drop}
+use Rattle.diagram.specs.declared.Instruction.the-variants.{Yes, And, Not, Since, Old, Drop}
 use Rattle.diagram.specs.declared.Told.{Told}
 use Rattle.diagram.specs.declared.Told.the-variants.{Unfit, Bad, Full, Done}
-use Rattle.diagram.specs.Steps.{says, stagesOf, newTrees, workTable}
+use Rattle.diagram.specs.Steps.{Task, facts, does, says, stagesOf, taskStages, newTrees, workTable}
 
 -- the node slice of `size` numbers that holds a table, zeros behind it
 abbrev pub holding : ℕ → List Tree → List ℕ
@@ -35,40 +35,45 @@ walked size levels d s =
     let w = complement (holding size (s .table)) levels (s .table) (s .notes) (refOf (s .table) d) in
     record { table = w .table; notes = w .notes; visits = s .visits + w .visits }
 
--- the work on row i, by its instruction
+-- the work on row i, by its instruction ..
 unfoldable pub countRow : ℕ → ℕ → List Tree → List Tree → ℕ → Instruction → Counting → Counting
 countRow size k old now i Yes = meets (4 * k) (stagesOf k (says old) (says now) i Yes)
-countRow size k old now i No = meets (4 * k) (stagesOf k (says old) (says now) i No)
-countRow size k old now i (Cube x y z u) = meets (4 * k) (stagesOf k (says old) (says now) i (Cube x y z u))
 countRow size k old now i (And a b) = meets (4 * k) (stagesOf k (says old) (says now) i (And a b))
 countRow size k old now i (Not a) = walked size (4 * k) (getD now a off)
 countRow size k old now i (Since l r) = meets (4 * k) (stagesOf k (says old) (says now) i (Since l r))
 countRow size k old now i (Old a) = meets (4 * k) (stagesOf k (says old) (says now) i (Old a))
 countRow size k old now i (Drop v a) = meets (4 * k) (stagesOf k (says old) (says now) i (Drop v a))
 
+-- .. and by its task
+unfoldable pub countTask : ℕ → ℕ → List Tree → List Tree → ℕ → Task → Counting → Counting
+countTask size k old now i (facts ts) = meets (4 * k) (taskStages k (says old) (says now) i (facts ts))
+countTask size k old now i (does x) = countRow size k old now i x
+
 -- the work on the first n rows, from the kept nodes and an empty map on
-unfoldable pub counting : ℕ → ℕ → List Instruction → List Tree → List Tree → ℕ → Counting
+unfoldable pub counting : ℕ → ℕ → List Task → List Tree → List Tree → ℕ → Counting
 counting size k plan old ts zero = record { table = ts; notes = replicate (size / 3) 0; visits = 0 }
-counting size k plan old ts (suc i) = countRow size k old (newTrees k plan old i) i (getD plan i Yes) (counting size k plan old ts i)
+counting size k plan old ts (suc i) = countTask size k old (newTrees k plan old i) i (getD plan i (does Yes)) (counting size k plan old ts i)
 
 -- the ceiling of a row's visits: "at most 2 × n + 1" for the complement of a diagram of n nodes
 unfoldable pub rowCeiling : List Tree → Instruction → ℕ
 rowCeiling now Yes = 0
-rowCeiling now No = 0
-rowCeiling now (Cube x y z u) = 0
 rowCeiling now (And a b) = 0
 rowCeiling now (Not a) = 2 * nodeCount (getD now a off) + 1
 rowCeiling now (Since l r) = 0
 rowCeiling now (Old a) = 0
 rowCeiling now (Drop v a) = 0
 
+unfoldable pub taskCeiling : List Tree → Task → ℕ
+taskCeiling now (facts ts) = 0
+taskCeiling now (does x) = rowCeiling now x
+
 -- the ceiling of the first n rows' visits
-unfoldable pub ceiling : ℕ → List Instruction → List Tree → ℕ → ℕ
+unfoldable pub ceiling : ℕ → List Task → List Tree → ℕ → ℕ
 ceiling k plan old zero = 0
-ceiling k plan old (suc i) = ceiling k plan old i + rowCeiling (newTrees k plan old i) (getD plan i Yes)
+ceiling k plan old (suc i) = ceiling k plan old i + taskCeiling (newTrees k plan old i) (getD plan i (does Yes))
 
 -- the visits of all complements of an event
-unfoldable pub complementVisits : ℕ → ℕ → List Instruction → List ℕ → ℕ → List ℕ → ℕ
+unfoldable pub complementVisits : ℕ → ℕ → List Task → List ℕ → ℕ → List ℕ → ℕ
 complementVisits k count plan refs kept ns = counting (length ns) k plan (diagrams ns kept refs count) (treesOf ns kept) count .visits
 
 -- the visits of the sweep of the new diagrams out of the table ts
@@ -76,14 +81,14 @@ unfoldable pub sweepVisits : ℕ → ℕ → List Tree → List Tree → ℕ
 sweepVisits size levels ts ds = sweeps (holding size ts) levels [] (replicate (length ts) 0) (map (refOf ts) ds) .visits
 
 -- an event that is done made just these visits, and no more than the ceilings: for the sweep "2 × kept + rows"
-pub record Visited (k count : ℕ) (plan : List Instruction) (refs : List ℕ) (kept : ℕ) (ns : List ℕ) (kept′ complements swept : ℕ) : Type 0 where
+pub record Visited (k count : ℕ) (plan : List Task) (refs : List ℕ) (kept : ℕ) (ns : List ℕ) (kept′ complements swept : ℕ) : Type 0 where
   pub complements-are : complements ≡ complementVisits k count plan refs kept ns
   pub complements-most : complements ≤ ceiling k plan (diagrams ns kept refs count) count
   pub sweep-is : swept ≡ sweepVisits (length ns) (4 * k) (workTable k count plan refs kept ns) (newTrees k plan (diagrams ns kept refs count) count)
   pub sweep-most : swept ≤ 2 * kept′ + count
 
 -- the visits that a step tells: none where it is refused
-abbrev pub Visits : ℕ → ℕ → List Instruction → List ℕ → ℕ → List ℕ → Told → ℕ → ℕ → Type 0
+abbrev pub Visits : ℕ → ℕ → List Task → List ℕ → ℕ → List ℕ → Told → ℕ → ℕ → Type 0
 Visits k count plan refs kept ns Unfit complements swept = (complements ≡ 0) × (swept ≡ 0)
 Visits k count plan refs kept ns Bad complements swept = (complements ≡ 0) × (swept ≡ 0)
 Visits k count plan refs kept ns Full complements swept = (complements ≡ 0) × (swept ≡ 0)

@@ -11,7 +11,9 @@ use Rattle.trees.specs.Tree.{Tree, off, eval, treeOf}
 use Rattle.trees.specs.Table.{addTrees, refOf, show, treesOf}
 use Rattle.trees.specs.Kept.{diagrams, wellKept}
 use Rattle.diagram.specs.declared.Instruction.{Instruction}
-use Rattle.diagram.specs.declared.Instruction.the-variants.{Yes, No, Cube, And, Not, Since, Old, Drop}
+use Rattle.diagram.specs.declared.Instruction.the-variants.{Yes, And, Not, Since, Old, Drop}
+use Rattle.diagram.specs.declared.Turn.{Turn}
+use Rattle.diagram.specs.declared.Turn.the-variants.{Miss, Hit}
 use Rattle.diagram.specs.declared.Told.{Told}
 use Rattle.diagram.specs.declared.Told.the-variants.{Unfit, Bad, Full, Done}
 use Rattle.diagram.specs.declared.Formed.{Formed}
@@ -23,16 +25,38 @@ use Rattle.keeping.specs.Checks.{freeBy}
 unfoldable pub says : List Tree → ℕ → Function
 says ts a = eval (getD ts a off)
 
+-- what a row asks: an atom has a turn for each fact, in order; any other row an instruction
+pub data Task : Type 0 where
+  facts : List Turn → Task
+  does : Instruction → Task
+
+-- the points of one turn, and of some: "An atom holds for a binding if some fact matches."
+abbrev pub turnSays : ℕ → Turn → Function
+turnSays k Miss s = false
+turnSays k (Hit x y z u) s = cubeSays k (x ∷ y ∷ z ∷ u ∷ []) s
+
+unfoldable pub turnsSay : ℕ → List Turn → Function
+turnsSay k [] s = false
+turnsSay k (t ∷ ts) s = turnSays k t s || turnsSay k ts s
+
 -- the new function of row i, by its instruction, from the old functions and those of the rows worked so far
 unfoldable pub instructionSays : ℕ → (ℕ → Function) → (ℕ → Function) → ℕ → Instruction → Function
 instructionSays k old now i Yes s = true
-instructionSays k old now i No s = false
-instructionSays k old now i (Cube x y z u) s = cubeSays k (x ∷ y ∷ z ∷ u ∷ []) s
 instructionSays k old now i (And a b) s = now a s && now b s
 instructionSays k old now i (Not a) s = not (now a s)
 instructionSays k old now i (Since l r) s = now r s || (now l s && old i s)
 instructionSays k old now i (Old a) s = old a s
 instructionSays k old now i (Drop v a) s = drops (v * k) k (now a) s
+
+-- and by its task
+unfoldable pub taskSays : ℕ → (ℕ → Function) → (ℕ → Function) → ℕ → Task → Function
+taskSays k old now i (facts ts) = turnsSay k ts
+taskSays k old now i (does x) = instructionSays k old now i x
+
+-- an atom's function after each turn, those done standing first
+unfoldable pub turnStages : ℕ → List Turn → List Turn → List Function
+turnStages k done [] = []
+turnStages k done (t ∷ ts) = turnsSay k (done ++ t ∷ []) ∷ turnStages k (done ++ t ∷ []) ts
 
 -- the functions met when n bits from base on are removed one at a time, from the highest down
 unfoldable pub dropStages : ℕ → ℕ → Function → List Function
@@ -42,34 +66,38 @@ dropStages base (suc n) g = drop (base + n) g ∷ dropStages base n (drop (base 
 -- the functions met in the work of row i: those of a removal, bit by bit, and else the new function alone
 unfoldable pub stagesOf : ℕ → (ℕ → Function) → (ℕ → Function) → ℕ → Instruction → List Function
 stagesOf k old now i Yes = instructionSays k old now i Yes ∷ []
-stagesOf k old now i No = instructionSays k old now i No ∷ []
-stagesOf k old now i (Cube x y z u) = instructionSays k old now i (Cube x y z u) ∷ []
 stagesOf k old now i (And a b) = instructionSays k old now i (And a b) ∷ []
 stagesOf k old now i (Not a) = instructionSays k old now i (Not a) ∷ []
 stagesOf k old now i (Since l r) = instructionSays k old now i (Since l r) ∷ []
 stagesOf k old now i (Old a) = instructionSays k old now i (Old a) ∷ []
 stagesOf k old now i (Drop v a) = dropStages (v * k) k (now a)
 
+-- and of an atom, "its function after each fact in turn"
+unfoldable pub taskStages : ℕ → (ℕ → Function) → (ℕ → Function) → ℕ → Task → List Function
+taskStages k old now i (facts ts) = turnStages k [] ts
+taskStages k old now i (does x) = stagesOf k old now i x
+
 -- the diagrams with that of row i after them
-unfoldable pub withRow : ℕ → List Instruction → List Tree → ℕ → List Tree → List Tree
-withRow k plan old i now = now ++ treeOf (4 * k) (instructionSays k (says old) (says now) i (getD plan i Yes)) ∷ []
+unfoldable pub withRow : ℕ → List Task → List Tree → ℕ → List Tree → List Tree
+withRow k plan old i now = now ++ treeOf (4 * k) (taskSays k (says old) (says now) i (getD plan i (does Yes))) ∷ []
 
 -- the new diagrams of the first n rows
-unfoldable pub newTrees : ℕ → List Instruction → List Tree → ℕ → List Tree
+unfoldable pub newTrees : ℕ → List Task → List Tree → ℕ → List Tree
 newTrees k plan old zero = []
 newTrees k plan old (suc i) = withRow k plan old i (newTrees k plan old i)
 
 -- the functions met in the work of the first n rows
-unfoldable pub stages : ℕ → List Instruction → List Tree → ℕ → List Function
+unfoldable pub stages : ℕ → List Task → List Tree → ℕ → List Function
 stages k plan old zero = []
-stages k plan old (suc i) = stages k plan old i ++ stagesOf k (says old) (says (newTrees k plan old i)) i (getD plan i Yes)
+stages k plan old (suc i) = stages k plan old i ++ taskStages k (says old) (says (newTrees k plan old i)) i (getD plan i (does Yes))
 
 -- the working table: the kept nodes, and then the diagrams of the functions met, in order
-unfoldable pub workTable : ℕ → ℕ → List Instruction → List ℕ → ℕ → List ℕ → List Tree
+unfoldable pub workTable : ℕ → ℕ → List Task → List ℕ → ℕ → List ℕ → List Tree
 workTable k count plan refs kept ns = addTrees (treesOf ns kept) (map (treeOf (4 * k)) (stages k plan (diagrams ns kept refs count) count))
 
--- the functions that document 01 counts: each row's before the event, each row's after it, and those met when bits are removed
-unfoldable pub counted : ℕ → ℕ → List Instruction → List ℕ → ℕ → List ℕ → List Function
+-- the functions that document 01 counts: each row's before the event, each row's after it, those met when bits are removed, and an
+-- atom's after each fact
+unfoldable pub counted : ℕ → ℕ → List Task → List ℕ → ℕ → List ℕ → List Function
 counted k count plan refs kept ns = map eval (diagrams ns kept refs count) ++ stages k plan (diagrams ns kept refs count) count
 
 -- what a step leaves: what it tells, the references, the node slice and the work slice
@@ -102,7 +130,7 @@ layout ds count T room ns w = record {
 }
 
 -- what is left of well kept diagrams: all as it was where the room is over C, and else the new diagrams' layout
-unfoldable pub workOutcome : Bool → ℕ → ℕ → List Instruction → List ℕ → ℕ → List ℕ → List ℕ → Outcome
+unfoldable pub workOutcome : Bool → ℕ → ℕ → List Task → List ℕ → ℕ → List ℕ → List ℕ → Outcome
 workOutcome false k count plan refs kept ns w = record { told = Full; refs = refs; nodes = ns; work = cleared (length ns / 3) w }
 workOutcome true k count plan refs kept ns w =
     let ds = newTrees k plan (diagrams ns kept refs count) count in
@@ -115,7 +143,7 @@ judge true false refs ns w then = record { told = Bad; refs = refs; nodes = ns; 
 judge true true refs ns w then = then
 
 -- what a step gives back and leaves
-unfoldable pub stepOutcome : ℕ → ℕ → List Instruction → List ℕ → List ℕ → ℕ → List ℕ → List ℕ → Outcome
+unfoldable pub stepOutcome : ℕ → ℕ → List Task → List ℕ → List ℕ → ℕ → List ℕ → List ℕ → Outcome
 stepOutcome k count plan allowed refs kept ns w =
     judge (fits k count (length ns) (length w)) (wellKept (freeBy k allowed) (length ns / 3) count refs kept ns) refs ns w
     (workOutcome (leb (length (workTable k count plan refs kept ns)) (length ns / 3)) k count plan refs kept ns w)

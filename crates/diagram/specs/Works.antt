@@ -2,23 +2,27 @@
 use Prim.Native.Nat.{ℕ, _+_, _*_, _-_, _/_, _≤_, _<_}
 use mathlib.Core.Path.{_≡_}
 use mathlib.Core.Bool.{Bool, true, false}
-use mathlib.Core.List.{List, map}
+use mathlib.Core.List.{List, [], _∷_, map}
 use lib.ListN.{length, getD, replicate}
 use Rattle.trees.specs.Bits.{Function}
-use Rattle.trees.specs.Tree.{Tree, off, eval, treeOf}
+use Rattle.trees.specs.Tree.{Tree, off, eval, Fine, treeOf}
 use Rattle.trees.specs.Table.{addTrees, at, treesOf}
+use Rattle.making.specs.declared.Place.{Place}
 use Rattle.making.specs.declared.Made.{Made}
 use Rattle.making.specs.declared.Made.the-variants as made
 use Rattle.walks.specs.declared.Counted.{Counted}
 use Rattle.walks.specs.declared.Counted.the-variants.{Full, At}
 use Rattle.diagram.specs.declared.Instruction.{Instruction}
-use Rattle.diagram.specs.declared.Instruction.the-variants.{Yes, No, Cube, And, Not, Since, Old, Drop}
+use Rattle.diagram.specs.declared.Instruction.the-variants.{Yes, And, Not, Since, Old, Drop}
+use Rattle.diagram.specs.declared.Turn.{Turn}
+use Rattle.diagram.specs.declared.Turn.the-variants.{Miss, Hit}
 use Rattle.visits.specs.Visits.{nodeCount, complement, Refines}
 use Rattle.nodes.specs.Nodes.{Table, Front, Rest, To}
+use Rattle.making.specs.Cubes.{Over, SameShape}
 use Rattle.walks.specs.Walks.{Within}
 use Rattle.walks.specs.Desks.{Desk, Remembered}
 use Rattle.walks.specs.Complements.{mapOf}
-use Rattle.diagram.specs.Steps.{instructionSays, stagesOf, newTrees, stages}
+use Rattle.diagram.specs.Steps.{Task, facts, does, taskSays, taskStages, newTrees, stages}
 use Rattle.diagram.specs.Counts.{counting, ceiling}
 
 -- the numbers that a step can work with
@@ -53,6 +57,16 @@ pub record Base (k v base : ℕ) : Type 0 where
   pub near : v < 4 → base ≡ v * k
   pub far : 4 ≤ v → base ≡ 4 * k
   pub small : base ≤ 4 * k
+
+-- the diagram can take the turn: it is one over the variables that the turn gives numbers to
+abbrev pub TurnOver : ℕ → Turn → Tree → Type 0
+TurnOver k Miss t = Fine 0 (4 * k) t
+TurnOver k (Hit x y z u) t = Over k (x ∷ y ∷ z ∷ u ∷ []) t
+
+-- the turn gives numbers to the same variables as these places
+abbrev pub Shaped : List Place → Turn → Type 0
+Shaped ps Miss = Unit {0}
+Shaped ps (Hit x y z u) = SameShape ps (x ∷ y ∷ z ∷ u ∷ [])
 
 -- the trees of the functions gs were added in order, and r leads to the tree of f
 pub record Reached (levels : ℕ) (ns ns′ : List ℕ) (n n′ r : ℕ) (gs : List Function) (f : Function) : Type 0 where
@@ -92,21 +106,24 @@ pub record Walked (levels : ℕ) (ns ns′ : List ℕ) (n n′ p r : ℕ) (w w�
 -- what the work on a row with an instruction leaves of the map, and its visits
 abbrev pub Tolled : ℕ → List ℕ → List ℕ → ℕ → ℕ → ℕ → List ℕ → List ℕ → List ℕ → ℕ → ℕ → Instruction → Type 0
 Tolled levels ns ns′ n n′ r news w w′ c v Yes = Plain w w′ c v
-Tolled levels ns ns′ n n′ r news w w′ c v No = Plain w w′ c v
-Tolled levels ns ns′ n n′ r news w w′ c v (Cube x y z u) = Plain w w′ c v
 Tolled levels ns ns′ n n′ r news w w′ c v (And a b) = Plain w w′ c v
 Tolled levels ns ns′ n n′ r news w w′ c v (Not a) = Walked levels ns ns′ n n′ (getD news a 0) r w w′ c v
 Tolled levels ns ns′ n n′ r news w w′ c v (Since a b) = Plain w w′ c v
 Tolled levels ns ns′ n n′ r news w w′ c v (Old a) = Plain w w′ c v
 Tolled levels ns ns′ n n′ r news w w′ c v (Drop x a) = Plain w w′ c v
 
--- the work on row i, whose instruction is x, left ns′ and w′ and said m
-abbrev pub RowDone : ℕ → List ℕ → List ℕ → ℕ → List ℕ → List ℕ → ℕ → Instruction → List ℕ → List ℕ → ℕ → ℕ → Counted → Type 0
-RowDone k ns ns′ n olds news i x w w′ c slots Full = Short (4 * k) ns ns′ n (stagesOf k (led ns n olds) (led ns n news) i x)
+-- and with a task: an atom walks no complement
+abbrev pub TolledBy : ℕ → List ℕ → List ℕ → ℕ → ℕ → ℕ → List ℕ → List ℕ → List ℕ → ℕ → ℕ → Task → Type 0
+TolledBy levels ns ns′ n n′ r news w w′ c v (facts ts) = Plain w w′ c v
+TolledBy levels ns ns′ n n′ r news w w′ c v (does x) = Tolled levels ns ns′ n n′ r news w w′ c v x
+
+-- the work on row i, whose task is x, left ns′ and w′ and said m
+abbrev pub RowDone : ℕ → List ℕ → List ℕ → ℕ → List ℕ → List ℕ → ℕ → Task → List ℕ → List ℕ → ℕ → ℕ → Counted → Type 0
+RowDone k ns ns′ n olds news i x w w′ c slots Full = Short (4 * k) ns ns′ n (taskStages k (led ns n olds) (led ns n news) i x)
 RowDone k ns ns′ n olds news i x w w′ c slots (At n′ r v) =
-    Reached (4 * k) ns ns′ n n′ r (stagesOf k (led ns n olds) (led ns n news) i x) (instructionSays k (led ns n olds) (led ns n news) i x)
+    Reached (4 * k) ns ns′ n n′ r (taskStages k (led ns n olds) (led ns n news) i x) (taskSays k (led ns n olds) (led ns n news) i x)
     × Desk ns′ n′ (4 * k) w′ c slots
-    × Tolled (4 * k) ns ns′ n n′ r news w w′ c v x
+    × TolledBy (4 * k) ns ns′ n n′ r news w w′ c v x
 
 -- the references lead to these diagrams, and to no past them
 abbrev pub Are : List ℕ → ℕ → List ℕ → List Tree → Type 0
@@ -118,7 +135,7 @@ pub record Fresh (ns : List ℕ) (n : ℕ) (w : List ℕ) (c : ℕ) : Type 0 whe
   pub map : mapOf c w ≡ replicate c 0
 
 -- the visits v of the first i rows are those of the definition, as are the table and the map that they leave
-pub record Tallied (size k : ℕ) (plan : List Instruction) (old ts : List Tree) (i : ℕ) (us : List Tree) (noted : List ℕ) (v : ℕ) : Type 0 where
+pub record Tallied (size k : ℕ) (plan : List Task) (old ts : List Tree) (i : ℕ) (us : List Tree) (noted : List ℕ) (v : ℕ) : Type 0 where
   pub table : counting size k plan old ts i .table ≡ us
   pub notes : counting size k plan old ts i .notes ≡ noted
   pub visits : counting size k plan old ts i .visits ≡ v
@@ -126,7 +143,7 @@ pub record Tallied (size k : ℕ) (plan : List Instruction) (old ts : List Tree)
   pub small : v ≤ 8193 * i
 
 -- the first i rows are worked: the table has the diagrams of the functions met, and the references lead to the new diagrams
-pub record Through (k : ℕ) (plan : List Instruction) (old : List Tree) (ns₀ : List ℕ) (kept : ℕ) (ns : List ℕ) (n : ℕ) (w : List ℕ) (c slots : ℕ) (olds news : List ℕ) (i v : ℕ) : Type 0 where
+pub record Through (k : ℕ) (plan : List Task) (old : List Tree) (ns₀ : List ℕ) (kept : ℕ) (ns : List ℕ) (n : ℕ) (w : List ℕ) (c slots : ℕ) (olds news : List ℕ) (i v : ℕ) : Type 0 where
   pub desk : Desk ns n (4 * k) w c slots
   pub size : length ns ≡ length ns₀
   pub same : Front (3 * kept) ns₀ ns
@@ -140,6 +157,6 @@ pub record Through (k : ℕ) (plan : List Instruction) (old : List Tree) (ns₀ 
   pub tally : Tallied (length ns₀) k plan old (treesOf ns₀ kept) i (treesOf ns n) (mapOf c w) v
 
 -- what the work on all rows says: no room, or all worked with v visits
-abbrev pub Ran : ℕ → List Instruction → List Tree → List ℕ → ℕ → List ℕ → List ℕ → ℕ → ℕ → List ℕ → ℕ → Bool → ℕ → List ℕ → ℕ → Type 0
+abbrev pub Ran : ℕ → List Task → List Tree → List ℕ → ℕ → List ℕ → List ℕ → ℕ → ℕ → List ℕ → ℕ → Bool → ℕ → List ℕ → ℕ → Type 0
 Ran k plan old ns₀ kept ns w c slots olds count true n news v = Short (4 * k) ns₀ ns kept (stages k plan old count)
 Ran k plan old ns₀ kept ns w c slots olds count false n news v = Through k plan old ns₀ kept ns n w c slots olds news count v

@@ -3,16 +3,21 @@
 // and j + 2 is the node at place j. A row's new diagram is made by the walk that its instruction asks for (`row::row`). What a whole
 // event makes of the diagrams is defined in specs/Steps.antt. Assumes nothing.
 pub mod row;
+pub mod turns;
 
 use making::Place;
 
-// What a row's new diagram is: yes; no; that the four variables show these numbers; of rows worked before it the and, the
-// complement, the since with its own old diagram; the old diagram of a row; or a row's diagram without the bits of a
-// variable, which is named first. A row that is not worked yet reads as no.
+// What one fact adds to an atom's diagram: nothing where it does not match, and else that the four variables show these numbers.
+pub enum Turn {
+    Miss,
+    Hit(Place, Place, Place, Place),
+}
+
+// What the new diagram of a row that is no atom is: yes; of rows worked before it the and, the complement, the since with its own
+// old diagram; the old diagram of a row; or a row's diagram without the bits of a variable, which is named first. A row that is
+// not worked yet reads as no.
 pub enum Instruction {
     Yes,
-    No,
-    Cube(Place, Place, Place, Place),
     And(u32, u32),
     Not(u32),
     Since(u32, u32),

@@ -1,4 +1,4 @@
-// The work of one row: the walk that its instruction asks for. Assumes that the first n nodes are a table, and that the work
+// The work of one row that is no atom: the walk that its instruction asks for. Assumes that the first n nodes are a table, and that the work
 // slice holds its chains, its map of complements and its memory.
 ghost use mathlib.Core.Path.{_≡_};
 ghost use Prim.Native.Nat.{_*_, _≤_};
@@ -8,11 +8,10 @@ ghost use Rattle.trees.specs.Tree.{eval};
 ghost use Rattle.trees.specs.Table.{at, treesOf};
 ghost use Rattle.walks.specs.Walks.{Within};
 ghost use Rattle.walks.specs.Desks.{Desk};
-ghost use Rattle.diagram.specs.Steps.{dropStages};
+ghost use Rattle.diagram.specs.Steps.{dropStages, does};
 ghost use Rattle.diagram.specs.Works.{Leads, Worked, Base, plainly, RowDone};
 use crate::Instruction;
 use making::Made;
-use making::cube::cube;
 use walks::Counted;
 use walks::drop_walk;
 use walks::not_walk;
@@ -72,7 +71,7 @@ fn drops_row(
 }
 
 // The answer of walks that count no visits.
-fn uncounted(m: Made) -> Counted
+pub fn uncounted(m: Made) -> Counted
     ensures { λ x. ⌜ x ≡ plainly m ⌝ }
 {
     match m {
@@ -97,15 +96,10 @@ pub fn row(
 ) -> Counted
     requires { ⌜ (k ≤ 10) × Desk (now nodes) n (4 * k) (now work) c slots ⌝ }
     requires { ⌜ Leads (now nodes) n (4 * k) (now olds) × Leads (now nodes) n (4 * k) (now news) ⌝ }
-    ensures { λ m. ⌜ RowDone k (now (nodes .entry)) (now (nodes .exit)) n (now (olds .entry)) (now (news .entry)) i x (now (work .entry)) (now (work .exit)) c slots m ⌝ }
+    ensures { λ m. ⌜ RowDone k (now (nodes .entry)) (now (nodes .exit)) n (now (olds .entry)) (now (news .entry)) i (does x) (now (work .entry)) (now (work .exit)) c slots m ⌝ }
 {
     match x {
         Instruction::Yes => Counted::At(n, 1, 0),
-        Instruction::No => Counted::At(n, 0, 0),
-        Instruction::Cube(p, q, r, s) => {
-            let places = [p, q, r, s];
-            uncounted(cube(nodes, work, c, n, k, places))
-        }
         Instruction::And(a, b) => {
             let l = pick(news, a);
             let o = pick(news, b);

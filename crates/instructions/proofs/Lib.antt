@@ -3,5 +3,7 @@ pub mod CubeLaws
 pub mod PlanLaws
 pub mod ReadLaws
 pub mod PlannedLaws
+pub mod InLaws
+pub mod MetLaws
 pub mod RoomLaws
 pub mod OutcomeLaws

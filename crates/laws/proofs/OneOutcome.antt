@@ -77,7 +77,7 @@ never-both {ns} {xs} {ys} {n} {b} {s} {d} g h =
     let z = h .size in
     omega arith
 
--- `make`, `cube`, `since_walk` and `drop_walk`: the answer and the node slice
+-- `make`, `into`, `since_walk` and `drop_walk`: the answer and the node slice
 pub one-added : (I J : List ℕ → ℕ → Type 0) (ns xs ys : List ℕ) (n : ℕ) (d : Tree) (x y : Made) → Added I ns xs n d x → Added J ns ys n d y → (x ≡ y) × (xs ≡ ys)
 one-added I J ns xs ys n d Full Full p q = (refl, one-stuck p q)
 one-added I J ns xs ys n d Full (At b s) p q = absurd (never-both p (q .0))

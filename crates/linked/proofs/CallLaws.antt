@@ -1,5 +1,5 @@
 -- Laws of the two calls: what makes one, and what it then leaves. Assumes nothing.
-use Prim.Native.Nat.{ℕ}
+use Prim.Native.Nat.{ℕ, _%_}
 use mathlib.Core.Path.{_≡_, refl, ap, subst, _∙_}
 use mathlib.Core.Bool.{true, false}
 use mathlib.Core.List.{List}
@@ -13,7 +13,8 @@ use Rattle.monitor.specs.Calls.{Starts, Happens, machine}
 use Rattle.monitor.specs.Visits.{Looks}
 use Rattle.monitor.proofs.OneOutcome.{looks-are}
 use Rattle.linked.specs.Packing.{packedState, unpackedState, packedAnswer}
-use Rattle.linked.specs.Calls.{fits, settleStart, startLeft, LinkedStart, machineOf, settleEvent, eventLeft, LinkedEvent}
+use Rattle.linked.specs.Happening.{eventOf}
+use Rattle.linked.specs.Calls.{fits, fitsEvent, settleStart, startLeft, LinkedStart, machineOf, settleEvent, eventLeft, LinkedEvent}
 
 -- a state of another length
 pub other-state : (state answer : List ℕ) → (length state ≡ 71 → ⊥) → fits state answer ≡ false
@@ -51,11 +52,21 @@ start-made k rows nodes values state answer t ns vs ss as′ h g o p q =
       answer-is = rw e (q ∙ ap (λ (a : Answer). packedAnswer a 0 0) (o .answer));
     }
 
+-- facts that are no fives
+pub other-facts : (facts state answer : List ℕ) → (length facts % 5 ≡ 0 → ⊥) → fitsEvent facts state answer ≡ false
+unfolding fitsEvent
+other-facts facts state answer h = rw (ne-eqb (length facts % 5) 0 h) refl
+
+-- facts of five numbers each leave it to the other lengths
+pub whole-facts : (facts state answer : List ℕ) → length facts % 5 ≡ 0 → fitsEvent facts state answer ≡ fits state answer
+unfolding fitsEvent
+whole-facts facts state answer h = rw (eq-eqb (length facts % 5) 0 h) refl
+
 -- an event that is not made
-pub event-not-made : (rows nodes values work : List ℕ) (e : Event) (state answer : List ℕ) → fits state answer ≡ false
-    → LinkedEvent rows nodes values work e state answer false nodes values work state answer
+pub event-not-made : (rows nodes values work facts state answer : List ℕ) → fitsEvent facts state answer ≡ false
+    → LinkedEvent rows nodes values work facts state answer false nodes values work state answer
 unfolding eventLeft settleEvent
-event-not-made rows nodes values work e state answer h = record {
+event-not-made rows nodes values work facts state answer h = record {
   called = rw h refl;
   nodes-are = rw h refl;
   values-are = rw h refl;
@@ -64,17 +75,20 @@ event-not-made rows nodes values work e state answer h = record {
   answer-is = rw h refl;
 }
 
--- an event that is made on the state that the numbers are
-pub event-made : (rows nodes values work : List ℕ) (e : Event) (state answer : List ℕ) (s : State) (t : Turn) (complements swept : ℕ) (ns vs ws ss as′ : List ℕ)
-    → length state ≡ 71 → length answer ≡ 6 → s ≡ unpackedState state
+-- an event that is made on the state and the facts that the numbers are
+pub event-made : (rows nodes values work facts state answer : List ℕ) (s : State) (e : Event) (t : Turn) (complements swept : ℕ) (ns vs ws ss as′ : List ℕ)
+    → length facts % 5 ≡ 0 → length state ≡ 71 → length answer ≡ 6 → s ≡ unpackedState state → e ≡ eventOf facts
     → Happens rows (machine s nodes values work) e t ns vs ws → Looks rows (machine s nodes values work) e (t .answer) complements swept
     → ss ≡ packedState (t .state) → as′ ≡ packedAnswer (t .answer) complements swept
-    → LinkedEvent rows nodes values work e state answer true ns vs ws ss as′
+    → LinkedEvent rows nodes values work facts state answer true ns vs ws ss as′
 unfolding eventLeft settleEvent machineOf
-event-made rows nodes values work e state answer s t complements swept ns vs ws ss as′ h g u o l p q =
-    let f : fits state answer ≡ true = right-lengths state answer h g in
-    let m : Happens rows (machine (unpackedState state) nodes values work) e t ns vs ws = subst (λ (x : State). Happens rows (machine x nodes values work) e t ns vs ws) u o in
-    let k = looks-are rows (machine (unpackedState state) nodes values work) e (t .answer) complements swept (subst (λ (x : State). Looks rows (machine x nodes values work) e (t .answer) complements swept) u l) in
+event-made rows nodes values work facts state answer s e t complements swept ns vs ws ss as′ w h g u d o l p q =
+    let f : fitsEvent facts state answer ≡ true = whole-facts facts state answer w ∙ right-lengths state answer h g in
+    let m : Happens rows (machine (unpackedState state) nodes values work) (eventOf facts) t ns vs ws =
+    subst (λ (y : Event). Happens rows (machine (unpackedState state) nodes values work) y t ns vs ws) d (subst (λ (x : State). Happens rows (machine x nodes values work) e t ns vs ws) u o) in
+    let v : Looks rows (machine (unpackedState state) nodes values work) (eventOf facts) (t .answer) complements swept =
+    subst (λ (y : Event). Looks rows (machine (unpackedState state) nodes values work) y (t .answer) complements swept) d (subst (λ (x : State). Looks rows (machine x nodes values work) e (t .answer) complements swept) u l) in
+    let k = looks-are rows (machine (unpackedState state) nodes values work) (eventOf facts) (t .answer) complements swept v in
     record {
       called = rw f refl;
       nodes-are = rw f (m .nodes-are);

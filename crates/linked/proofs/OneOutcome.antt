@@ -3,7 +3,6 @@ use Prim.Native.Nat.{ℕ}
 use mathlib.Core.Path.{_≡_, sym, _∙_}
 use mathlib.Core.Bool.{Bool}
 use mathlib.Core.List.{List}
-use Rattle.meaning.specs.declared.Event.{Event}
 use Rattle.linked.specs.Calls.{LinkedStart, LinkedEvent}
 
 -- `moheguzari_start`: what is given back, and the four slices
@@ -14,8 +13,8 @@ one-start k rows nodes values state answer r q ns vs ss as′ ms us ts bs a b =
     (a .called ∙ sym (b .called), a .nodes-are ∙ sym (b .nodes-are), a .values-are ∙ sym (b .values-are), a .state-is ∙ sym (b .state-is), a .answer-is ∙ sym (b .answer-is))
 
 -- `moheguzari_event`: what is given back, and the five slices
-pub one-event : (rows nodes values work : List ℕ) (e : Event) (state answer : List ℕ) (r q : Bool) (ns vs ws ss as′ ms us xs ts bs : List ℕ)
-    → LinkedEvent rows nodes values work e state answer r ns vs ws ss as′ → LinkedEvent rows nodes values work e state answer q ms us xs ts bs
+pub one-event : (rows nodes values work facts state answer : List ℕ) (r q : Bool) (ns vs ws ss as′ ms us xs ts bs : List ℕ)
+    → LinkedEvent rows nodes values work facts state answer r ns vs ws ss as′ → LinkedEvent rows nodes values work facts state answer q ms us xs ts bs
     → (r ≡ q) × (ns ≡ ms) × (vs ≡ us) × (ws ≡ xs) × (ss ≡ ts) × (as′ ≡ bs)
-one-event rows nodes values work e state answer r q ns vs ws ss as′ ms us xs ts bs a b =
+one-event rows nodes values work facts state answer r q ns vs ws ss as′ ms us xs ts bs a b =
     (a .called ∙ sym (b .called), a .nodes-are ∙ sym (b .nodes-are), a .values-are ∙ sym (b .values-are), a .work-is ∙ sym (b .work-is), a .state-is ∙ sym (b .state-is), a .answer-is ∙ sym (b .answer-is))

@@ -1,6 +1,6 @@
 -- Calls one after the other: what a call leaves is what the next one reads, so they are the calls that the monitor's demands speak of.
 -- Assumes nothing.
-use Prim.Native.Nat.{ℕ, _≤_}
+use Prim.Native.Nat.{ℕ, _%_, _≤_}
 use mathlib.Core.Path.{_≡_, refl, ap, sym, _∙_}
 use mathlib.Core.Bool.{Bool, true}
 use mathlib.Core.List.{List, map}
@@ -14,17 +14,18 @@ use Rattle.meaning.specs.declared.Answer.the-variants.{Started}
 use Rattle.meaning.specs.Step.{Shown, step}
 use Rattle.meaning.specs.Rows.{rowCount, ruleOf}
 use Rattle.meaning.specs.Tables.{keptTable, layState}
-use Rattle.meaning.specs.Outcome.{Decision, taken, refused, capacity, factOf, stateOf, settleStart, decideStart, startOutcome, Machine, Arrays, shows, decideEvent, settleEvent, eventOutcome}
+use Rattle.meaning.specs.Outcome.{Decision, taken, refused, capacity, factsOf, stateOf, settleStart, decideStart, startOutcome, Machine, Arrays, shows, decideEvent, settleEvent, eventOutcome}
 use Rattle.meaning.specs.Outcome as outcome
 use Rattle.monitor.specs.Runs.{Fresh, Call}
 use Rattle.meaning.proofs.PartsLaws.{padded-length}
 use Rattle.meaning.proofs.RunLaws.{few, laid-on}
 use Rattle.meaning.proofs.AnyState.{passed, laid-of}
 use Rattle.linked.specs.Packing.{figuresOf, referencesOf, packedState, unpackedState}
-use Rattle.linked.specs.Calls.{fits, startLeft, LinkedStart, machineOf, eventLeft, LinkedEvent}
+use Rattle.linked.specs.Happening.{eventOf}
+use Rattle.linked.specs.Calls.{fits, fitsEvent, startLeft, LinkedStart, machineOf, eventLeft, LinkedEvent}
 use Rattle.linked.specs.Calls as calls
 use Rattle.linked.proofs.PackingLaws.{unpack-pack}
-use Rattle.linked.proofs.CallLaws.{right-lengths}
+use Rattle.linked.proofs.CallLaws.{right-lengths, whole-facts}
 
 -- the arrays of a layout have their lengths
 lay-arrays : (k : ℕ) (s : Shown) → length (s .trees) ≤ 64 → (length (layState k s .counts) ≡ 4) × (length (layState k s .refs) ≡ 64)
@@ -42,7 +43,7 @@ arrays-kept rows m e a = go (decideEvent rows m e) refl
         let C = capacity (m .nodes) in
         let p = passed rows m e a h in
         let l = laid-on rows k C (p .0) (p .1) m (shows rows m) (laid-of rows m e a h) e h in
-        let t = lay-arrays k (step k (ruleOf rows) (shows rows m) (factOf e)) (omega (arith, l .proper .count, few rows k C (p .0) (p .1))) in
+        let t = lay-arrays k (step k (ruleOf rows) (shows rows m) (factsOf e)) (omega (arith, l .proper .count, few rows k C (p .0) (p .1))) in
         (ap (λ (s : State). length (s .counts)) (l .state-is) ∙ t .0, ap (λ (s : State). length (s .refs)) (l .state-is) ∙ t .1)
     go (refused n p) h = rw h a
 
@@ -81,12 +82,13 @@ start-leaves k rows nodes values work state answer r ns vs ss as′ h g o =
     (λ i. record { state = q i; nodes = n i; values = v i; work = work }, ap length p ∙ packed-length x (a .0) (a .1))
 
 -- what an event leaves is what the next one reads
-pub event-leaves : (rows nodes values work : List ℕ) (e : Event) (state answer : List ℕ) (r : Bool) (ns vs ws ss as′ : List ℕ) → length state ≡ 71 → length answer ≡ 6
-    → LinkedEvent rows nodes values work e state answer r ns vs ws ss as′
-    → (machineOf ns vs ws ss ≡ eventOutcome rows (machineOf nodes values work state) e .left) × (length ss ≡ 71)
+pub event-leaves : (rows nodes values work facts state answer : List ℕ) (r : Bool) (ns vs ws ss as′ : List ℕ) → length facts % 5 ≡ 0 → length state ≡ 71 → length answer ≡ 6
+    → LinkedEvent rows nodes values work facts state answer r ns vs ws ss as′
+    → (machineOf ns vs ws ss ≡ eventOutcome rows (machineOf nodes values work state) (eventOf facts) .left) × (length ss ≡ 71)
 unfolding eventLeft calls.settleEvent machineOf
-event-leaves rows nodes values work e state answer r ns vs ws ss as′ h g o =
-    let f : fits state answer ≡ true = right-lengths state answer h g in
+event-leaves rows nodes values work facts state answer r ns vs ws ss as′ d h g o =
+    let f : fitsEvent facts state answer ≡ true = whole-facts facts state answer d ∙ right-lengths state answer h g in
+    let e : Event = eventOf facts in
     let m : Machine = machineOf nodes values work state in
     let x : Machine = eventOutcome rows m e .left in
     let a = arrays-kept rows m e (unpacked-arrays state h) in
@@ -111,11 +113,11 @@ start-fresh k rows nodes values work state answer r ns vs ss as′ h g o t =
     }
 
 -- an event is a call of the monitor
-pub event-call : (rows nodes values work : List ℕ) (e : Event) (state answer : List ℕ) (r : Bool) (ns vs ws ss as′ : List ℕ) → length state ≡ 71 → length answer ≡ 6
-    → LinkedEvent rows nodes values work e state answer r ns vs ws ss as′
-    → Call rows (machineOf nodes values work state) e (eventOutcome rows (machineOf nodes values work state) e .answer) (machineOf ns vs ws ss)
-event-call rows nodes values work e state answer r ns vs ws ss as′ h g o =
-    let l = event-leaves rows nodes values work e state answer r ns vs ws ss as′ h g o .0 in
+pub event-call : (rows nodes values work facts state answer : List ℕ) (r : Bool) (ns vs ws ss as′ : List ℕ) → length facts % 5 ≡ 0 → length state ≡ 71 → length answer ≡ 6
+    → LinkedEvent rows nodes values work facts state answer r ns vs ws ss as′
+    → Call rows (machineOf nodes values work state) (eventOf facts) (eventOutcome rows (machineOf nodes values work state) (eventOf facts) .answer) (machineOf ns vs ws ss)
+event-call rows nodes values work facts state answer r ns vs ws ss as′ d h g o =
+    let l = event-leaves rows nodes values work facts state answer r ns vs ws ss as′ d h g o .0 in
     record {
       answer = refl;
       state = ap (λ (m : Machine). m .state) l;

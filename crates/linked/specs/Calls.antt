@@ -1,14 +1,14 @@
 -- What each of the two calls gives back and leaves, for all input. Assumes nothing: these are definitions.
-use Prim.Native.Nat.{ℕ}
+use Prim.Native.Nat.{ℕ, _%_}
 use mathlib.Core.Path.{_≡_}
 use mathlib.Core.Bool.{Bool, true, false, _&&_}
-use mathlib.Core.List.{List, [], _∷_}
+use mathlib.Core.List.{List}
 use lib.Dec.{eqb}
 use lib.ListN.{length}
-use Rattle.meaning.specs.declared.Event.{Event}
 use Rattle.meaning.specs.Outcome.{StartOutcome, startOutcome, Machine, EventOutcome, eventOutcome}
 use Rattle.monitor.specs.Visits.{complementsTold, sweptTold}
 use Rattle.linked.specs.Packing.{packedState, unpackedState, packedAnswer}
+use Rattle.linked.specs.Happening.{eventOf}
 
 -- a call is made if the state has 71 numbers and the answer 6
 unfoldable pub fits : List ℕ → List ℕ → Bool
@@ -38,9 +38,9 @@ pub record LinkedStart (k : ℕ) (rows nodes values state answer : List ℕ) (r 
   pub state-is : state′ ≡ startLeft k rows nodes values state answer .state
   pub answer-is : answer′ ≡ startLeft k rows nodes values state answer .answer
 
--- the event of a call: a predicate, a count and three values
-unfoldable pub eventOf : ℕ → ℕ → ℕ → ℕ → ℕ → Event
-eventOf p n a b c = record { predicate = p; count = n; values = record { 0 = a } ∷ record { 0 = b } ∷ record { 0 = c } ∷ [] }
+-- an event is made if the facts are five numbers each, too
+unfoldable pub fitsEvent : List ℕ → List ℕ → List ℕ → Bool
+fitsEvent facts state answer = eqb (length facts % 5) 0 && fits state answer
 
 -- the machine that an event is lent
 unfoldable pub machineOf : List ℕ → List ℕ → List ℕ → List ℕ → Machine
@@ -66,17 +66,18 @@ settleEvent true o complements swept nodes values work state answer = record {
 }
 settleEvent false o complements swept nodes values work state answer = record { called = false; nodes = nodes; values = values; work = work; state = state; answer = answer }
 
-unfoldable pub eventLeft : List ℕ → List ℕ → List ℕ → List ℕ → Event → List ℕ → List ℕ → EventLeft
-eventLeft rows nodes values work e state answer =
+unfoldable pub eventLeft : List ℕ → List ℕ → List ℕ → List ℕ → List ℕ → List ℕ → List ℕ → EventLeft
+eventLeft rows nodes values work facts state answer =
     let m = machineOf nodes values work state in
+    let e = eventOf facts in
     let a = eventOutcome rows m e .answer in
-    settleEvent (fits state answer) (eventOutcome rows m e) (complementsTold rows m e a) (sweptTold rows m e a) nodes values work state answer
+    settleEvent (fitsEvent facts state answer) (eventOutcome rows m e) (complementsTold rows m e a) (sweptTold rows m e a) nodes values work state answer
 
 -- an event that gave this back and left these slices had the outcome of the definitions
-pub record LinkedEvent (rows nodes values work : List ℕ) (e : Event) (state answer : List ℕ) (r : Bool) (nodes′ values′ work′ state′ answer′ : List ℕ) : Type 0 where
-  pub called : r ≡ eventLeft rows nodes values work e state answer .called
-  pub nodes-are : nodes′ ≡ eventLeft rows nodes values work e state answer .nodes
-  pub values-are : values′ ≡ eventLeft rows nodes values work e state answer .values
-  pub work-is : work′ ≡ eventLeft rows nodes values work e state answer .work
-  pub state-is : state′ ≡ eventLeft rows nodes values work e state answer .state
-  pub answer-is : answer′ ≡ eventLeft rows nodes values work e state answer .answer
+pub record LinkedEvent (rows nodes values work facts state answer : List ℕ) (r : Bool) (nodes′ values′ work′ state′ answer′ : List ℕ) : Type 0 where
+  pub called : r ≡ eventLeft rows nodes values work facts state answer .called
+  pub nodes-are : nodes′ ≡ eventLeft rows nodes values work facts state answer .nodes
+  pub values-are : values′ ≡ eventLeft rows nodes values work facts state answer .values
+  pub work-is : work′ ≡ eventLeft rows nodes values work facts state answer .work
+  pub state-is : state′ ≡ eventLeft rows nodes values work facts state answer .state
+  pub answer-is : answer′ ≡ eventLeft rows nodes values work facts state answer .answer

@@ -1,3 +1,4 @@
 -- What the two calls promise to those who link them.
 pub mod Packing
+pub mod Happening
 pub mod Calls

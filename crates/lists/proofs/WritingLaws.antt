@@ -1,23 +1,22 @@
 -- Laws of writing fresh values into the value slice, and of the lowest variable that is short. Assumes nothing.
-use Prim.Native.Nat.{ℕ, zero, suc, _+_, _-_, _*_, _/_, _%_, _≤_, _<_, min}
-use mathlib.Core.Path.{_≡_, ap, sym, _∙_}
+use Prim.Native.Nat.{ℕ, zero, suc, _+_, _-_, _*_, _≤_, _<_, min}
+use mathlib.Core.Path.{_≡_, refl, ap, sym, _∙_}
 use mathlib.Core.Bool.{Bool, true, false}
 use mathlib.Core.List.{List, [], _∷_, _++_, append-assoc, append-nil}
 use mathlib.Core.Logic.{⊎-elim}
 use native.Mathlib.Nat.{suc-add, zero-add}
 use native.Mathlib.Numerals.{add-one}
 use native.Mathlib.Omega.{arith}
-use lib.ListN.{length, getD, take, drop, set, replicate, length-append, length-drop}
+use lib.ListN.{length, getD, take, drop, set, replicate, length-append, length-drop, List·getD-map}
 use lib.Seq.{set-append-left, set-append-seam, take-suc, getD-drop, length-take-le}
-use borrow.Author.Tests.{lt-ltb, le-ltb}
 use Rattle.trees.proofs.Tests.{lt-or-ge, false-true}
 use Rattle.meaning.specs.Rows.{firstBelow}
 use Rattle.meaning.specs.Numbering.{Lists}
 use Rattle.meaning.specs.Tables.{most, padded, layValues}
 use Rattle.meaning.proofs.RowsLaws.{first-le, first-none, first-some}
 use Rattle.meaning.proofs.PartsLaws.{padded-length}
-use Rattle.numbers.specs.declared.Asked.{Asked}
-use Rattle.numbers.specs.Asking.{withFresh}
+use Rattle.meaning.specs.declared.Value.{Value}
+use Rattle.numbers.specs.Asking.{bare, withFresh}
 use Rattle.lists.specs.Writing.{written}
 use Rattle.numbers.proofs.TallyLaws.{same-or-not}
 
@@ -27,15 +26,6 @@ first-is n f r h none some = ⊎-elim
     (λ p. absurd (false-true (none (firstBelow n f) p) (first-some n f (omega arith))))
     (λ p. ⊎-elim (λ q. absurd (false-true (first-none n f r q) (some (omega (arith, first-le n f))))) (λ q. omega arith) (lt-or-ge r (firstBelow n f)))
     (lt-or-ge (firstBelow n f) r)
-
--- one place of the twelve
-pub written-none : (m b n y t : ℕ) (values : List ℕ) → n ≤ b + t % 3 → values ≡ written m b n y t values
-unfolding written
-written-none m b n y t values h = rw (le-ltb (b + t % 3) n h)
-
-pub written-some : (m b n y t : ℕ) (values : List ℕ) → b + t % 3 < n → set values (t / 3 * m + (b + t % 3)) y ≡ written m b n y t values
-unfolding written
-written-some m b n y t values h = rw (lt-ltb (b + t % 3) n h)
 
 -- a store behind a list
 set-right : (xs ys : List ℕ) (i a : ℕ) → set (xs ++ ys) (length xs + i) a ≡ xs ++ set ys i a
@@ -57,12 +47,6 @@ padded-set m xs y h =
 pub lay-same : (k : ℕ) (L M : Lists) → ((v : ℕ) → v < 4 → L v ≡ M v) → layValues k L ≡ layValues k M
 unfolding layValues
 lay-same k L M e = rw (e 0 (omega arith), e 1 (omega arith), e 2 (omega arith), e 3 (omega arith))
-
--- nothing is written where no list has grown
-pub nothing-fresh : (k : ℕ) (before : List ℕ) (a : Asked) (L : Lists) → ((v : ℕ) → v < 4 → getD (a .counts) v 0 ≡ getD before v 0) → layValues k (withFresh before a L) ≡ layValues k L
-unfolding withFresh
-nothing-fresh k before a L e = lay-same k (withFresh before a L) L (λ v h.
-    let z : getD (a .counts) v 0 - getD before v 0 ≡ 0 = omega (arith, e v h) in rw z (append-nil (L v)))
 
 -- a store in one of four parts
 module _ (m : ℕ) (p q r s : List ℕ) (hp : length p ≡ m) (hq : length q ≡ m) (hr : length r ≡ m) (i a : ℕ) (h : i < m) where
@@ -115,82 +99,102 @@ min-right x g h = omega arith
 min-left : (x g : ℕ) → x ≤ g → min x g ≡ x
 min-left x g h = omega arith
 
--- The lists after the first t of the twelve places.
-unfoldable pub firstFresh : List ℕ → Asked → Lists → ℕ → Lists
-firstFresh before a L t v = L v ++ take (min (t - 3 * v) (getD (a .counts) v 0 - getD before v 0)) (drop (3 * v) (a .fresh))
+-- one fresh value more is written
+pub written-none : (m b v : ℕ) (fresh values : List ℕ) → values ≡ written m b fresh v 0 values
+unfolding written
+written-none m b v fresh values = refl
 
-module _ (k : ℕ) (before : List ℕ) (a : Asked) (L : Lists) (twelve : length (a .fresh) ≡ 12) (start : (v : ℕ) → v < 4 → length (L v) ≡ getD before v 0)
-    (few : (v : ℕ) → v < 4 → getD (a .counts) v 0 ≤ getD before v 0 + 3) (room : (v : ℕ) → v < 4 → getD (a .counts) v 0 ≤ most k)
-    (grown : (v : ℕ) → v < 4 → getD before v 0 ≤ getD (a .counts) v 0) where
-  pub fresh-none : layValues k (firstFresh before a L 0) ≡ layValues k L
+pub written-more : (m b v j : ℕ) (fresh : List Value) (values now : List ℕ) → now ≡ written m b (bare fresh) v j values
+    → set now (v * m + b + j) (getD fresh (24 * v + j) (record { 0 = 0 }) .0) ≡ written m b (bare fresh) v (j + 1) values
+unfolding written
+written-more m b v j fresh values now e = rw (add-one j, e, List·getD-map (λ (x : Value). x .0) fresh (24 * v + j) (record { 0 = 0 }))
+
+-- The lists after the first t of the 96 places, of which 24 belong to each variable.
+unfoldable pub firstFresh : List ℕ → List ℕ → List ℕ → Lists → ℕ → Lists
+firstFresh before counts fresh L t v = L v ++ take (min (t - 24 * v) (getD counts v 0 - getD before v 0)) (drop (24 * v) fresh)
+
+module _ (k : ℕ) (before counts fresh : List ℕ) (L : Lists) (size : length fresh ≡ 96) (start : (v : ℕ) → v < 4 → length (L v) ≡ getD before v 0)
+    (few : (v : ℕ) → v < 4 → getD counts v 0 ≤ getD before v 0 + 24) (room : (v : ℕ) → v < 4 → getD counts v 0 ≤ most k)
+    (grown : (v : ℕ) → v < 4 → getD before v 0 ≤ getD counts v 0) where
+  pub fresh-none : layValues k (firstFresh before counts fresh L (24 * 0)) ≡ layValues k L
   unfolding firstFresh
-  fresh-none = lay-same k (firstFresh before a L 0) L (λ v h. let z : min (0 - 3 * v) (getD (a .counts) v 0 - getD before v 0) ≡ 0 = omega arith in rw z (append-nil (L v)))
+  fresh-none = lay-same k (firstFresh before counts fresh L (24 * 0)) L (λ v h. let z : min (24 * 0 - 24 * v) (getD counts v 0 - getD before v 0) ≡ 0 = omega arith in rw z (append-nil (L v)))
 
-  pub fresh-all : layValues k (firstFresh before a L 12) ≡ layValues k (withFresh before a L)
+  pub fresh-all : (v : ℕ) → v ≡ 4 → layValues k (firstFresh before counts fresh L (24 * v)) ≡ layValues k (withFresh before counts fresh L)
   unfolding firstFresh withFresh
-  fresh-all = lay-same k (firstFresh before a L 12) (withFresh before a L) (λ v h.
-      let z : min (12 - 3 * v) (getD (a .counts) v 0 - getD before v 0) ≡ getD (a .counts) v 0 - getD before v 0 = omega (arith, few v h) in rw z)
+  fresh-all v e = lay-same k (firstFresh before counts fresh L (24 * v)) (withFresh before counts fresh L) (λ w h.
+      let z : min (24 * v - 24 * w) (getD counts w 0 - getD before w 0) ≡ getD counts w 0 - getD before w 0 = omega (arith, few w h) in rw z)
 
-  -- how many fresh values of a variable stand there
-  size : (t v : ℕ) → v < 4 → length (firstFresh before a L t v) ≡ getD before v 0 + min (t - 3 * v) (getD (a .counts) v 0 - getD before v 0)
+  -- how many values of a variable stand there
+  listed-size : (t v : ℕ) → v < 4 → length (firstFresh before counts fresh L t v) ≡ getD before v 0 + min (t - 24 * v) (getD counts v 0 - getD before v 0)
   unfolding firstFresh
-  size t v h =
+  listed-size t v h =
       length-append (L v) _
-      ∙ rw (start v h, length-take-le (min (t - 3 * v) (getD (a .counts) v 0 - getD before v 0)) (drop (3 * v) (a .fresh)) (rw (length-drop, twelve) (omega (arith, few v h))))
+      ∙ rw (start v h, length-take-le (min (t - 24 * v) (getD counts v 0 - getD before v 0)) (drop (24 * v) fresh) (rw (length-drop, size) (omega (arith, few v h))))
 
-  -- one place more leaves the lists of the other variables
-  same : (t w : ℕ) → t < 12 → w < 4 → (w ≡ t / 3 → ⊥) → firstFresh before a L (t + 1) w ≡ firstFresh before a L t w
+  -- two places of the variable v leave the other variables' lists alike
+  same : (v w i j : ℕ) → w < 4 → i ≤ 24 → j ≤ 24 → (w ≡ v → ⊥) → firstFresh before counts fresh L (24 * v + i) w ≡ firstFresh before counts fresh L (24 * v + j) w
   unfolding firstFresh
-  same t w h q n = ⊎-elim
+  same v w i j h hi hj n = ⊎-elim
       (λ p.
-      let g : getD (a .counts) w 0 - getD before w 0 ≤ 3 = omega (arith, few w q) in
-      rw (min-right (t + 1 - 3 * w) (getD (a .counts) w 0 - getD before w 0) (omega arith), min-right (t - 3 * w) (getD (a .counts) w 0 - getD before w 0) (omega arith)))
+      let g : getD counts w 0 - getD before w 0 ≤ 24 = omega (arith, few w h) in
+      rw (min-right (24 * v + i - 24 * w) (getD counts w 0 - getD before w 0) (omega arith), min-right (24 * v + j - 24 * w) (getD counts w 0 - getD before w 0) (omega arith)))
       (λ p.
-      let x : t + 1 - 3 * w ≡ 0 = omega (arith, n) in
-      let y : t - 3 * w ≡ 0 = omega arith in
+      let x : 24 * v + i - 24 * w ≡ 0 = omega (arith, n) in
+      let y : 24 * v + j - 24 * w ≡ 0 = omega (arith, n) in
       rw (x, y))
-      (lt-or-ge w (t / 3))
+      (lt-or-ge w v)
 
-  -- where there is a fresh value at the place, it goes to the end of its variable's list
-  module _ (t : ℕ) (h : t < 12) (p : getD before (t / 3) 0 + t % 3 < getD (a .counts) (t / 3) 0) where
-    there : min (t - 3 * (t / 3)) (getD (a .counts) (t / 3) 0 - getD before (t / 3) 0) ≡ t % 3
-    there = let z : t - 3 * (t / 3) ≡ t % 3 = omega arith in rw z (min-left (t % 3) (getD (a .counts) (t / 3) 0 - getD before (t / 3) 0) (omega arith))
+  -- a fresh value goes to the end of its variable's list
+  module _ (v j : ℕ) (h : v < 4) (p : j < getD counts v 0 - getD before v 0) where
+    there : min (24 * v + j - 24 * v) (getD counts v 0 - getD before v 0) ≡ j
+    there = let z : 24 * v + j - 24 * v ≡ j = omega arith in rw z (min-left j (getD counts v 0 - getD before v 0) (omega arith))
 
-    one-more : min (t + 1 - 3 * (t / 3)) (getD (a .counts) (t / 3) 0 - getD before (t / 3) 0) ≡ suc (t % 3)
-    one-more = let z : t + 1 - 3 * (t / 3) ≡ suc (t % 3) = omega arith in rw z (min-left (suc (t % 3)) (getD (a .counts) (t / 3) 0 - getD before (t / 3) 0) (omega arith))
+    one-more : min (24 * v + suc j - 24 * v) (getD counts v 0 - getD before v 0) ≡ suc j
+    one-more = let z : 24 * v + suc j - 24 * v ≡ suc j = omega arith in rw z (min-left (suc j) (getD counts v 0 - getD before v 0) (omega arith))
 
-    next : firstFresh before a L (t + 1) (t / 3) ≡ firstFresh before a L t (t / 3) ++ getD (a .fresh) t 0 ∷ []
+    next : firstFresh before counts fresh L (24 * v + suc j) v ≡ firstFresh before counts fresh L (24 * v + j) v ++ getD fresh (24 * v + j) 0 ∷ []
     unfolding firstFresh
     next =
-        let z : 3 * (t / 3) + t % 3 ≡ t = omega arith in
-        let l : t % 3 < length (drop (3 * (t / 3)) (a .fresh)) = rw (length-drop, twelve) (omega arith) in
-        let y : getD (drop (3 * (t / 3)) (a .fresh)) (t % 3) 0 ≡ getD (a .fresh) t 0 = getD-drop (3 * (t / 3)) (a .fresh) (t % 3) 0 ∙ ap (λ n. getD (a .fresh) n 0) z in
-        rw (one-more, there, take-suc (drop (3 * (t / 3)) (a .fresh)) (t % 3) 0 l, y) (sym (append-assoc (L (t / 3)) (take (t % 3) (drop (3 * (t / 3)) (a .fresh))) (getD (a .fresh) t 0 ∷ [])))
+        let l : j < length (drop (24 * v) fresh) = rw (length-drop, size) (omega (arith, few v h)) in
+        rw (one-more, there, take-suc (drop (24 * v) fresh) j 0 l, getD-drop (24 * v) fresh j 0) (sym (append-assoc (L v) (take j (drop (24 * v) fresh)) (getD fresh (24 * v + j) 0 ∷ [])))
 
-    length-here : length (firstFresh before a L t (t / 3)) ≡ getD before (t / 3) 0 + t % 3
-    length-here = size t (t / 3) (omega arith) ∙ rw there
+    length-here : length (firstFresh before counts fresh L (24 * v + j) v) ≡ getD before v 0 + j
+    length-here = listed-size (24 * v + j) v h ∙ rw there
 
-    fresh-some : (values : List ℕ) → values ≡ layValues k (firstFresh before a L t) → written (most k) (getD before (t / 3) 0) (getD (a .counts) (t / 3) 0) (getD (a .fresh) t 0) t values ≡ layValues k (firstFresh before a L (t + 1))
-    fresh-some values e =
-        sym (written-some (most k) (getD before (t / 3) 0) (getD (a .counts) (t / 3) 0) (getD (a .fresh) t 0) t values p)
-        ∙ rw (e, ← length-here)
-        (lay-set k (firstFresh before a L t) (firstFresh before a L (t + 1)) (t / 3) (getD (a .fresh) t 0) fits (omega arith)
-        (rw length-here (omega (arith, room (t / 3) (omega arith)))) next (λ w q n. same t w h q n))
-      where
-        fits : (w : ℕ) → w < 4 → length (firstFresh before a L t w) ≤ most k
-        fits w q = rw (size t w q) (omega (arith, room w q, grown w q))
+    fits : (w : ℕ) → w < 4 → length (firstFresh before counts fresh L (24 * v + j) w) ≤ most k
+    fits w q = rw (listed-size (24 * v + j) w q) (omega (arith, room w q, grown w q))
 
-  fresh-none-here : (t : ℕ) (values : List ℕ) → t < 12 → getD (a .counts) (t / 3) 0 ≤ getD before (t / 3) 0 + t % 3 → values ≡ layValues k (firstFresh before a L t)
-      → written (most k) (getD before (t / 3) 0) (getD (a .counts) (t / 3) 0) (getD (a .fresh) t 0) t values ≡ layValues k (firstFresh before a L (t + 1))
+    fresh-one : set (layValues k (firstFresh before counts fresh L (24 * v + j))) (v * most k + getD before v 0 + j) (getD fresh (24 * v + j) 0) ≡ layValues k (firstFresh before counts fresh L (24 * v + suc j))
+    fresh-one =
+        let z : v * most k + getD before v 0 + j ≡ v * most k + length (firstFresh before counts fresh L (24 * v + j) v) = omega (arith, length-here) in
+        rw z
+        (lay-set k (firstFresh before counts fresh L (24 * v + j)) (firstFresh before counts fresh L (24 * v + suc j)) v (getD fresh (24 * v + j) 0) fits h
+        (rw length-here (omega (arith, room v h))) next (λ w q n. same v w (suc j) j q (omega (arith, few v h)) (omega (arith, few v h)) n))
+
+  -- the fresh values of one variable, up to the place j
+  written-to : (v j : ℕ) (values : List ℕ) → v < 4 → j ≤ getD counts v 0 - getD before v 0 → values ≡ layValues k (firstFresh before counts fresh L (24 * v))
+      → written (most k) (getD before v 0) fresh v j values ≡ layValues k (firstFresh before counts fresh L (24 * v + j))
+  unfolding written
+  written-to v zero values h q e = let z : 24 * v + 0 ≡ 24 * v = omega arith in rw z e
+  written-to v (suc j) values h q e = rw (written-to v j values h (omega arith) e) (fresh-one v j h (omega arith))
+
+  -- all of them
+  whole : (v : ℕ) → v < 4 → firstFresh before counts fresh L (24 * v + (getD counts v 0 - getD before v 0)) v ≡ firstFresh before counts fresh L (24 * (v + 1)) v
   unfolding firstFresh
-  fresh-none-here t values h p e =
-      sym (written-none (most k) (getD before (t / 3) 0) (getD (a .counts) (t / 3) 0) (getD (a .fresh) t 0) t values p)
-      ∙ (e ∙ lay-same k (firstFresh before a L t) (firstFresh before a L (t + 1)) (λ w q. ⊎-elim
-      (λ n.
-      let z : w ≡ t / 3 = n in
-      rw (z, min-right (t + 1 - 3 * (t / 3)) (getD (a .counts) (t / 3) 0 - getD before (t / 3) 0) (omega arith), min-right (t - 3 * (t / 3)) (getD (a .counts) (t / 3) 0 - getD before (t / 3) 0) (omega arith)))
-      (λ n. sym (same t w h q n))
-      (same-or-not w (t / 3))))
+  whole v h =
+      let g : getD counts v 0 - getD before v 0 ≤ 24 = omega (arith, few v h) in
+      rw (min-right (24 * v + (getD counts v 0 - getD before v 0) - 24 * v) (getD counts v 0 - getD before v 0) (omega arith), min-right (24 * (v + 1) - 24 * v) (getD counts v 0 - getD before v 0) (omega arith))
 
-  pub fresh-more : (t : ℕ) (values : List ℕ) → t < 12 → values ≡ layValues k (firstFresh before a L t) → written (most k) (getD before (t / 3) 0) (getD (a .counts) (t / 3) 0) (getD (a .fresh) t 0) t values ≡ layValues k (firstFresh before a L (t + 1))
-  fresh-more t values h e = ⊎-elim (λ p. fresh-some t h p values e) (λ p. fresh-none-here t values h p e) (lt-or-ge (getD before (t / 3) 0 + t % 3) (getD (a .counts) (t / 3) 0))
+  pub fresh-more : (v : ℕ) (values : List ℕ) → v < 4 → values ≡ layValues k (firstFresh before counts fresh L (24 * v))
+      → written (most k) (getD before v 0) fresh v (getD counts v 0 - getD before v 0) values ≡ layValues k (firstFresh before counts fresh L (24 * (v + 1)))
+  fresh-more v values h e =
+      written-to v (getD counts v 0 - getD before v 0) values h (omega arith) e
+      ∙ lay-same k (firstFresh before counts fresh L (24 * v + (getD counts v 0 - getD before v 0))) (firstFresh before counts fresh L (24 * (v + 1))) (λ w q. ⊎-elim
+      (λ n. let z : w ≡ v = n in rw z (whole v h))
+      (λ n.
+      let g : getD counts v 0 - getD before v 0 ≤ 24 = omega (arith, few v h) in
+      let u : 24 ≤ 24 = omega arith in
+      let z : 24 * (v + 1) ≡ 24 * v + 24 = omega arith in
+      rw z (same v w (getD counts v 0 - getD before v 0) 24 q g u n))
+      (same-or-not w v))

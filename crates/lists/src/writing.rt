@@ -1,15 +1,16 @@
 // How an event's fresh values are written, where no variable is short. What each function promises is in specs/Writing.antt.
+use meaning::Value;
 use numbers::Asked;
 use numbers::most;
 ghost use mathlib.Core.Path.{_≡_};
-ghost use Prim.Native.Nat.{_≤_};
+ghost use Prim.Native.Nat.{_-_, _≤_};
 ghost use lib.Dec.{ltb};
 ghost use lib.ListN.{getD};
 ghost use Rattle.meaning.specs.Rows.{firstBelow};
 ghost use Rattle.meaning.specs.Tables;
 ghost use Rattle.meaning.specs.Tables.{listOf, layValues};
-ghost use Rattle.numbers.specs.Asking.{withCounts, withFresh};
-ghost use Rattle.lists.specs.Writing.{Grows, Writable, WritableAt, written};
+ghost use Rattle.numbers.specs.Asking.{withCounts, withFresh, bare};
+ghost use Rattle.lists.specs.Writing.{Writable, WritableAt, written};
 
 // The lowest variable with more values than numbers, or 4.
 pub fn shortest(k: u32, counts: [u32; 4]) -> u32
@@ -26,43 +27,30 @@ pub fn shortest(k: u32, counts: [u32; 4]) -> u32
     4
 }
 
-// Writes y, the fresh value at place t of the twelve, if there is one: the variable had b values, and now has n.
-fn write_one(m: usize, b: u32, n: u32, y: u32, values: &mut [u32], t: usize)
-    requires { ⌜ WritableAt m b n (now values) t ⌝ }
-    ensures { λ _. ⌜ now (values .exit) ≡ written m b n y t (now (values .entry)) ⌝ }
+// Writes the fresh values of variable v: it had b values, and now has n.
+fn write_list(m: usize, b: u32, n: u32, fresh: [Value; 96], values: &mut [u32], v: usize)
+    requires { ⌜ WritableAt m b n (now values) v ⌝ }
+    ensures { λ _. ⌜ now (values .exit) ≡ written m b (bare fresh) v (n - b) (now (values .entry)) ⌝ }
 {
-    let at = b as usize + t % 3;
-    if n as usize <= at {
-        return;
+    let at = v * m + b as usize;
+    let from = 24 * v;
+    let many = (n - b) as usize;
+    for j in 0..many {
+        let y = fresh[from + j];
+        values[at + j] = y.0;
     }
-    values[t / 3 * m + at] = y;
-}
-
-// Whether some list has grown.
-fn grown(before: [u32; 4], after: [u32; 4]) -> bool
-    ensures { λ r. ⌜ Grows before after r ⌝ }
-{
-    for v in 0..4 {
-        if before[v] != after[v] {
-            return true;
-        }
-    }
-    false
 }
 
 // Writes the fresh values behind those of before. The caller has checked the lists (refusal 4), that no variable is short (refusal 6), and
-// got the fresh values from `ask`.
+// got the fresh values from `ask`. Only a variable that has grown takes time.
 pub fn write_fresh(k: u32, before: [u32; 4], asked: Asked, values: &mut [u32])
     requires { ⌜ Writable k before asked (now values) ⌝ }
-    ensures { λ _. ⌜ now (values .exit) ≡ layValues k (withFresh before asked (listOf k (withCounts before) (now (values .entry)))) ⌝ }
+    ensures { λ _. ⌜ now (values .exit) ≡ layValues k (withFresh before (asked .counts) (bare (asked .fresh)) (listOf k (withCounts before) (now (values .entry)))) ⌝ }
 {
-    let after = asked.counts;
-    if !grown(before, after) {
-        return;
-    }
     let m = most(k) as usize;
-    for t in 0..12 {
-        let v = t / 3;
-        write_one(m, before[v], asked.counts[v], asked.fresh[t], values, t);
+    let after = asked.counts;
+    let fresh = asked.fresh;
+    for v in 0..4 {
+        write_list(m, before[v], after[v], fresh, values, v);
     }
 }

@@ -1,5 +1,6 @@
--- The laws that the proofs of find-or-make and of cubes cite.
+-- The laws that the proofs of find-or-make and of facts' numbers cite.
 pub mod NodesLaws
 pub mod SideLaws
 pub mod WalkLaws
 pub mod CubeLaws
+pub mod IntoLaws

@@ -1,9 +1,10 @@
 -- The first level of a reference, and its sides at a level. Assumes nothing.
 use Prim.Native.Nat.{ℕ, zero, suc, _+_, _<_}
-use mathlib.Core.Path.{_≡_, refl}
+use mathlib.Core.Path.{_≡_, refl, sym}
 use mathlib.Core.Bool.{Bool, true, false}
 use mathlib.Core.List.{List}
 use native.Mathlib.Omega.{arith}
+use Rattle.trees.specs.Tree.{Tree}
 use Rattle.trees.specs.Table.{at, treesOf}
 use Rattle.trees.proofs.TreeLaws.{side, side-own, side-later}
 use Rattle.nodes.specs.Nodes.{Splits, Sides, firstLevel}
@@ -24,12 +25,16 @@ top-node s = rw (s .is)
 alike : {ns : List ℕ} {n r v : ℕ} → r < n + 2 → ((x : Bool) → at (treesOf ns n) r ≡ side v x (at (treesOf ns n) r)) → Sides ns n r v r r
 alike h e = record { low = record { below = h; is = e false }; high = record { below = h; is = e true } }
 
--- the sides of a leaf
-pub sides-leaf : (ns : List ℕ) (n r v : ℕ) → r < 2 → Sides ns n r v r r
+-- the sides of a leaf are the leaf
+pub leaf-side : (ts : List Tree) (r : ℕ) → r < 2 → (v : ℕ) (x : Bool) → side v x (at ts r) ≡ at ts r
 unfolding side at
-sides-leaf ns n zero v h = alike (omega arith) (λ x. refl)
-sides-leaf ns n (suc zero) v h = alike (omega arith) (λ x. refl)
-sides-leaf ns n (suc (suc r)) v h = absurd (omega arith)
+leaf-side ts zero h v x = refl
+leaf-side ts (suc zero) h v x = refl
+leaf-side ts (suc (suc r)) h v x = absurd (omega arith)
+
+-- its references
+pub sides-leaf : (ns : List ℕ) (n r v : ℕ) → r < 2 → Sides ns n r v r r
+sides-leaf ns n r v h = alike (omega arith) (λ x. sym (leaf-side (treesOf ns n) r h v x))
 
 module _ {ns : List ℕ} {n r l a b : ℕ} (s : Splits ns n r l a b) (v : ℕ) where
   -- the sides of a node at another level

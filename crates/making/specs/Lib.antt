@@ -1,3 +1,3 @@
--- What find-or-make, the memory of results and the diagram of some numbers promise.
+-- What find-or-make, the memory of results and the numbers of facts promise.
 pub mod Tables
 pub mod Cubes

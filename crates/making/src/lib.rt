@@ -1,6 +1,6 @@
-// Find-or-make by the chains of nodes, the memory of results, and the diagram of some numbers. Assumes that the first n nodes
-// are a table.
-pub mod cube;
+// Find-or-make by the chains of nodes, the memory of results, and a fact's numbers put into a diagram. Assumes that the first n
+// nodes are a table.
+pub mod into;
 pub mod memory;
 pub mod table;
 

@@ -18,7 +18,7 @@ use Rattle.meaning.specs.Rows.{Row, ruleOf, rowCount, rowsUpTo, formulaA
 use Rattle.meaning.specs.Step.{saysAt, Shown, step, counted, roomOf}
 use Rattle.meaning.specs.Tables.{keptTable, layState}
 use Rattle.meaning.specs.Verdicts.{Counts, Answered}
-use Rattle.meaning.specs.Outcome.{kRight, factOf, Decision, taken, refused, Machine, shows, decideEvent, verdictOf, settleEvent, eventOutcome, log}
+use Rattle.meaning.specs.Outcome.{kRight, factsOf, Decision, taken, refused, Machine, shows, decideEvent, verdictOf, settleEvent, eventOutcome, log}
 use Rattle.meaning.proofs.RowsLaws.{Checked, checked, rows-length, free-beyond}
 use Rattle.meaning.proofs.Simulation.{Faithful}
 use Rattle.meaning.proofs.VerdictLaws.{sentence}
@@ -46,7 +46,7 @@ verdict-taken rows m e y n r q = go (decideEvent rows m e) q
 
 -- and what is taken is answered by one
 pub taken-verdict : (rows : List ℕ) (m : Machine) (e : Event) → decideEvent rows m e ≡ taken
-    → eventOutcome rows m e .answer ≡ verdictOf (m .state .k) (ruleOf rows) (shows rows m) (step (m .state .k) (ruleOf rows) (shows rows m) (factOf e))
+    → eventOutcome rows m e .answer ≡ verdictOf (m .state .k) (ruleOf rows) (shows rows m) (factsOf e) (step (m .state .k) (ruleOf rows) (shows rows m) (factsOf e))
 unfolding eventOutcome settleEvent
 taken-verdict rows m e d = rw d
 
@@ -63,8 +63,8 @@ module _ (rows : List ℕ) (cr : checkRows rows ≡ right) where
 module _ (rows : List ℕ) (k C : ℕ) (kr : kRight k ≡ true) (cr : checkRows rows ≡ right) (m : Machine) (s : Shown) (laid : Laid rows k C kr cr m s) (e : Event) (y : Bool) (n r : ℕ) where
   -- the verdict of the step, in its parts
   pub verdict-parts : decideEvent rows m e ≡ taken → eventOutcome rows m e .answer ≡ Verdict y n r
-      → (isOn (getD (step k (ruleOf rows) s (factOf e) .trees) (length (ruleOf rows) - 1) off) ≡ y)
-      × (length (keptTable (step k (ruleOf rows) s (factOf e))) ≡ n) × (roomOf k (ruleOf rows) (s .trees) (step k (ruleOf rows) s (factOf e) .trees) ≡ r)
+      → (isOn (getD (step k (ruleOf rows) s (factsOf e) .trees) (length (ruleOf rows) - 1) off) ≡ y)
+      × (length (keptTable (step k (ruleOf rows) s (factsOf e))) ≡ n) × (roomOf k (ruleOf rows) s (factsOf e) (step k (ruleOf rows) s (factsOf e)) ≡ r)
   unfolding verdictOf
   verdict-parts d q =
       let v = rw (shows-is rows k C kr cr m s laid, k-is rows k C kr cr m s laid) at (sym (taken-verdict rows m e d) ∙ q) in
@@ -76,24 +76,24 @@ module _ (rows : List ℕ) (k C : ℕ) (kr : kRight k ≡ true) (cr : checkRows 
       let d = verdict-taken rows m e y n r q in
       let l = laid-on rows k C kr cr m s laid e d in
       let p = verdict-parts d q in
-      let after = shows-is rows k C kr cr (eventOutcome rows m e .left) (step k (ruleOf rows) s (factOf e)) l in
+      let after = shows-is rows k C kr cr (eventOutcome rows m e .left) (step k (ruleOf rows) s (factsOf e)) l in
       record {
         kept = sym (p .1) ∙ sym (unfold layState in ap (λ (t : State). t .kept) (l .state-is));
         nodes-kept = rw after (sym (p .1));
         room =
             rw (shows-is rows k C kr cr m s laid, after, k-is rows k C kr cr m s laid)
-            (rw (p .2) at (room-is k (ruleOf rows) (s .trees) (step k (ruleOf rows) s (factOf e) .trees) (laid .proper .fine) (l .proper .fine)));
+            (rw (p .2) at (room-is k (ruleOf rows) (checked rows cr .rows) s (factsOf e) (step k (ruleOf rows) s (factsOf e)) (laid .proper .fine) (l .proper .fine)));
       }
 
-module _ (rows : List ℕ) (k C : ℕ) (kr : kRight k ≡ true) (cr : checkRows rows ≡ right) (m : Machine) (fs : List Fact) (run : Running rows k C kr cr m fs) (e : Event) where
+module _ (rows : List ℕ) (k C : ℕ) (kr : kRight k ≡ true) (cr : checkRows rows ≡ right) (m : Machine) (fs : List (List Fact)) (run : Running rows k C kr cr m fs) (e : Event) where
   says : decideEvent rows m e ≡ taken → (a : Assignment)
-      → (isOn (getD (step k (ruleOf rows) (run .s) (factOf e) .trees) (length (ruleOf rows) - 1) off) ≡ true)
-      ↔ Holds (log (fs ++ factOf e ∷ [])) (formulaAt (ruleOf rows) (length (ruleOf rows) - 1)) (suc (length fs)) a
+      → (isOn (getD (step k (ruleOf rows) (run .s) (factsOf e) .trees) (length (ruleOf rows) - 1) off) ≡ true)
+      ↔ Holds (log (fs ++ factsOf e ∷ [])) (formulaAt (ruleOf rows) (length (ruleOf rows) - 1)) (suc (length fs)) a
   unfolding formulaAt
   says d a =
       let f = after-faithful rows k C kr cr m fs run e d in
-      sentence k (step k (ruleOf rows) (run .s) (factOf e) .lists) (getD (step k (ruleOf rows) (run .s) (factOf e) .trees) (length (ruleOf rows) - 1) off)
-      (log (fs ++ factOf e ∷ [])) _ (suc (length fs)) (closed-all rows cr) (f .fine (length (ruleOf rows) - 1)) (unfold saysAt in f .means (length (ruleOf rows) - 1) (last-row rows cr)) a
+      sentence k (step k (ruleOf rows) (run .s) (factsOf e) .lists) (getD (step k (ruleOf rows) (run .s) (factsOf e) .trees) (length (ruleOf rows) - 1) off)
+      (log (fs ++ factsOf e ∷ [])) _ (suc (length fs)) (closed-all rows cr) (f .fine (length (ruleOf rows) - 1)) (unfold saysAt in f .means (length (ruleOf rows) - 1) (last-row rows cr)) a
 
   -- a verdict was taken, and says what QTL says
   pub answered : (y : Bool) (n r : ℕ) → eventOutcome rows m e .answer ≡ Verdict y n r → Answered rows m e y n r (eventOutcome rows m e .left) fs

@@ -20,10 +20,10 @@ use Rattle.meaning.specs.declared.Event.{Event}
 use Rattle.meaning.specs.declared.Answer.the-variants.{Verdict}
 use Rattle.meaning.specs.Qtl.{Fact, free}
 use Rattle.meaning.specs.Rows.{Row, truth, atom, both, neg, since, previous, exists, ruleOf, right, checkRows}
-use Rattle.meaning.specs.Numbering.{Lists, askRows}
+use Rattle.meaning.specs.Numbering.{Lists, askFacts}
 use Rattle.meaning.specs.Step.{rowSays, saysAt, rowTree, rowTrees, Shown, step, OneStep}
 use Rattle.meaning.specs.Tables.{most, read, freeLevel, layState, layNodes, layValues, wellFormed}
-use Rattle.meaning.specs.Outcome.{kRight, capacity, nodesRight, valuesRight, workSize, cleared, factOf, Decision, taken, judgeStart, judgeEvent, Machine, Arrays, WellFormed, shows, decideEvent, settleEvent, eventOutcome}
+use Rattle.meaning.specs.Outcome.{kRight, capacity, nodesRight, valuesRight, workSize, cleared, factsOf, Decision, taken, judgeStart, judgeEvent, Machine, Arrays, WellFormed, shows, decideEvent, settleEvent, eventOutcome}
 use Rattle.meaning.specs.Verdicts.{Stepped}
 use Rattle.meaning.proofs.RowsLaws.{RowOk, RowsOk, Checked, checked}
 use Rattle.meaning.proofs.StepLaws.{AllFine, fine-snoc, fine-row, eval-row, trees-keep}
@@ -32,47 +32,47 @@ use Rattle.meaning.proofs.RunLaws.{start-taken, event-taken, positive, 
 use Rattle.meaning.proofs.AnswerLaws.{verdict-taken, verdict-parts, counts-of, last-row, closed-all}
 
 -- a row reads the functions of earlier rows only
-row-now : (k : ℕ) (L : Lists) (e : Fact) (old now new : ℕ → Function) (i n : ℕ) (r : Row) → RowOk n r → ((j : ℕ) → j < n → Same (now j) (new j))
-    → Same (rowSays k L e old now i r) (rowSays k L e old new i r)
+row-now : (k : ℕ) (L : Lists) (es : List Fact) (old now new : ℕ → Function) (i n : ℕ) (r : Row) → RowOk n r → ((j : ℕ) → j < n → Same (now j) (new j))
+    → Same (rowSays k L es old now i r) (rowSays k L es old new i r)
 unfolding rowSays
-row-now k L e old now new i n truth o h s = refl
-row-now k L e old now new i n (atom p gs) o h s = refl
-row-now k L e old now new i n (both a b) o h s = rw (h a (o .0) s, h b (o .1) s)
-row-now k L e old now new i n (neg a) o h s = rw (h a o s)
-row-now k L e old now new i n (since a b) o h s = rw (h a (o .0) s, h b (o .1) s)
-row-now k L e old now new i n (previous a) o h s = refl
-row-now k L e old now new i n (exists x a) o h s = drops-same (x * k) k (now a) (new a) (h a (o .1)) s
+row-now k L es old now new i n truth o h s = refl
+row-now k L es old now new i n (atom p gs) o h s = refl
+row-now k L es old now new i n (both a b) o h s = rw (h a (o .0) s, h b (o .1) s)
+row-now k L es old now new i n (neg a) o h s = rw (h a o s)
+row-now k L es old now new i n (since a b) o h s = rw (h a (o .0) s, h b (o .1) s)
+row-now k L es old now new i n (previous a) o h s = refl
+row-now k L es old now new i n (exists x a) o h s = drops-same (x * k) k (now a) (new a) (h a (o .1)) s
 
 -- each diagram after the event says what its row says of those before and after
-module _ (k : ℕ) (L : Lists) (e : Fact) (old : List Tree) (wold : AllFine (4 * k) old) where
+module _ (k : ℕ) (L : Lists) (es : List Fact) (old : List Tree) (wold : AllFine (4 * k) old) where
   trees-say : (rs : List Row) (ts : List Tree) → RowsOk (length ts) rs → AllFine (4 * k) ts → (i : ℕ) → i < length rs
-      → Same (saysAt (rowTrees k L e old ts rs) (length ts + i)) (rowSays k L e (saysAt old) (saysAt (rowTrees k L e old ts rs)) (length ts + i) (getD rs i truth))
+      → Same (saysAt (rowTrees k L es old ts rs) (length ts + i)) (rowSays k L es (saysAt old) (saysAt (rowTrees k L es old ts rs)) (length ts + i) (getD rs i truth))
   unfolding rowTrees saysAt
   trees-say [] ts o w i h s = absurd (omega arith)
   trees-say (r ∷ rs) ts o w zero h s =
-      let t : Tree = rowTree k L e old ts r in
+      let t : Tree = rowTree k L es old ts r in
       let m : length (ts ++ t ∷ []) ≡ suc (length ts) = length-append ts (t ∷ []) ∙ omega arith in
       let z : length ts + 0 ≡ length ts = omega arith in
-      let here : getD (rowTrees k L e old (ts ++ t ∷ []) rs) (length ts) off ≡ t =
-      trees-keep k L e old wold rs (ts ++ t ∷ []) (length ts) (omega arith) ∙ getD-append-seam ts t [] off in
+      let here : getD (rowTrees k L es old (ts ++ t ∷ []) rs) (length ts) off ≡ t =
+      trees-keep k L es old wold rs (ts ++ t ∷ []) (length ts) (omega arith) ∙ getD-append-seam ts t [] off in
       rw (z, here)
-      (eval-row k L e old wold ts r (length ts) w (o .0) s
-      ∙ row-now k L e (saysAt old) (saysAt ts) (saysAt (rowTrees k L e old (ts ++ t ∷ []) rs)) (length ts) (length ts) r (o .0)
-      (λ j q u. ap (λ (d : Tree). eval d u) (sym (trees-keep k L e old wold (r ∷ rs) ts j q))) s)
+      (eval-row k L es old wold ts r (length ts) w (o .0) s
+      ∙ row-now k L es (saysAt old) (saysAt ts) (saysAt (rowTrees k L es old (ts ++ t ∷ []) rs)) (length ts) (length ts) r (o .0)
+      (λ j q u. ap (λ (d : Tree). eval d u) (sym (trees-keep k L es old wold (r ∷ rs) ts j q))) s)
   trees-say (r ∷ rs) ts o w (suc i) h s =
-      let t : Tree = rowTree k L e old ts r in
+      let t : Tree = rowTree k L es old ts r in
       let m : length (ts ++ t ∷ []) ≡ suc (length ts) = length-append ts (t ∷ []) ∙ omega arith in
       let z : length ts + suc i ≡ length (ts ++ t ∷ []) + i = omega arith in
-      rw z (trees-say rs (ts ++ t ∷ []) (rw m (o .1)) (fine-snoc (4 * k) ts t w (fine-row k L e old wold ts r)) i (omega arith) s)
+      rw z (trees-say rs (ts ++ t ∷ []) (rw m (o .1)) (fine-snoc (4 * k) ts t w (fine-row k L es old wold ts r)) i (omega arith) s)
 
 -- the step of the definitions is one step of the meaning
-pub one-step : (k C : ℕ) (rule : List Row) (s : Shown) (e : Fact) → RowsOk 0 rule → Proper k C rule s → OneStep k rule s e (step k rule s e)
+pub one-step : (k C : ℕ) (rule : List Row) (s : Shown) (es : List Fact) → RowsOk 0 rule → Proper k C rule s → OneStep k rule s es (step k rule s es)
 unfolding step
-one-step k C rule s e o p = record {
+one-step k C rule s es o p = record {
   lists-are = refl;
   rows-say = λ i h b.
       let z : 0 + i ≡ i = omega arith in
-      rw z at (trees-say k (askRows e (s .lists) rule) e (s .trees) (p .fine) rule [] o (λ j. fine-off 0 (4 * k)) i h b);
+      rw z at (trees-say k (askFacts es (s .lists) rule) es (s .trees) (p .fine) rule [] o (λ j. fine-off 0 (4 * k)) i h b);
 }
 
 -- a state that passes the tests of 1 to 4
@@ -118,14 +118,14 @@ module _ (rows : List ℕ) (m : Machine) (e : Event) (arrays : Arrays m) (d : de
   pub laid-of : Laid rows (m .state .k) (capacity (m .nodes)) (passed .0) (passed .1) m (shows rows m)
   laid-of = laid-formed rows m arrays (passed .0) (passed .1) (passed .2) (passed .3)
 
-  left-laid : Laid rows (m .state .k) (capacity (m .nodes)) (passed .0) (passed .1) (eventOutcome rows m e .left) (step (m .state .k) (ruleOf rows) (shows rows m) (factOf e))
+  left-laid : Laid rows (m .state .k) (capacity (m .nodes)) (passed .0) (passed .1) (eventOutcome rows m e .left) (step (m .state .k) (ruleOf rows) (shows rows m) (factsOf e))
   left-laid = laid-on rows (m .state .k) (capacity (m .nodes)) (passed .0) (passed .1) m (shows rows m) laid-of e d
 
   -- the functions shown go to those that one step of the meaning gives
-  pub any-step : OneStep (m .state .k) (ruleOf rows) (shows rows m) (factOf e) (shows rows (eventOutcome rows m e .left))
+  pub any-step : OneStep (m .state .k) (ruleOf rows) (shows rows m) (factsOf e) (shows rows (eventOutcome rows m e .left))
   any-step =
       rw (shows-is rows (m .state .k) (capacity (m .nodes)) (passed .0) (passed .1) (eventOutcome rows m e .left) _ left-laid)
-      (one-step (m .state .k) (capacity (m .nodes)) (ruleOf rows) (shows rows m) (factOf e) (checked rows (passed .1) .rows) (laid-of .proper))
+      (one-step (m .state .k) (capacity (m .nodes)) (ruleOf rows) (shows rows m) (factsOf e) (checked rows (passed .1) .rows) (laid-of .proper))
 
   -- the new state is well formed
   pub any-formed : let n = eventOutcome rows m e .left in wellFormed (n .state .k) (capacity (n .nodes)) (ruleOf rows) (n .state) (n .nodes) (n .values) ≡ true
@@ -151,7 +151,7 @@ module _ (rows : List ℕ) (m : Machine) (e : Event) (arrays : Arrays m) (y : Bo
   abbrev left : Machine
   left = eventOutcome rows m e .left
 
-  after : shows rows left ≡ step (m .state .k) (ruleOf rows) (shows rows m) (factOf e)
+  after : shows rows left ≡ step (m .state .k) (ruleOf rows) (shows rows m) (factsOf e)
   after = shows-is rows (m .state .k) (capacity (m .nodes)) (passed rows m e arrays d .0) (passed rows m e arrays d .1) left _ (left-laid rows m e arrays d)
 
   k-left : left .state .k ≡ m .state .k
@@ -169,7 +169,7 @@ module _ (rows : List ℕ) (m : Machine) (e : Event) (arrays : Arrays m) (y : Bo
       let cr = passed rows m e arrays d .1 in
       let p = verdict-parts rows (m .state .k) (capacity (m .nodes)) (passed rows m e arrays d .0) cr m (shows rows m) (laid-of rows m e arrays d) e y n r d q in
       rw after
-      (leaf (freeLevel (m .state .k) (ruleOf rows) last) (λ l. closed-all rows cr (l / m .state .k)) (getD (step (m .state .k) (ruleOf rows) (shows rows m) (factOf e) .trees) last off)
+      (leaf (freeLevel (m .state .k) (ruleOf rows) last) (λ l. closed-all rows cr (l / m .state .k)) (getD (step (m .state .k) (ruleOf rows) (shows rows m) (factsOf e) .trees) last off)
       (left-laid rows m e arrays d .proper .free last (last-row rows cr)) s
       ∙ p .0)
 

@@ -12,12 +12,12 @@ use Rattle.trees.proofs.RoomLaws.{room-one}
 use Rattle.meaning.specs.declared.State.{State}
 use Rattle.meaning.specs.declared.Event.{Event}
 use Rattle.meaning.specs.declared.Answer.the-variants.{Started, Verdict, Refused}
-use Rattle.meaning.specs.Qtl.{Assignment, Holds}
+use Rattle.meaning.specs.Qtl.{Fact, Assignment, SameFacts, SameEvents, Holds}
 use Rattle.meaning.specs.Rows.{Row, ruleOf, formulaAt}
 use Rattle.meaning.specs.Numbering.{shown, Shows}
 use Rattle.meaning.specs.Step.{saysAt}
 use Rattle.meaning.specs.Tables.{wellFormed}
-use Rattle.meaning.specs.Outcome.{capacity, workSize, cleared, factOf, SameEvent, taken, refused, decideStart, decideEvent, startOutcome, Machine, Arrays, WellFormed, enlarged, machineOf, shows, settleEvent, eventOutcome, runs, answers, log}
+use Rattle.meaning.specs.Outcome.{capacity, workSize, cleared, factsOf, SameEvent, taken, refused, decideStart, decideEvent, startOutcome, Machine, Arrays, WellFormed, enlarged, machineOf, shows, settleEvent, eventOutcome, runs, answers, log}
 use Rattle.meaning.specs.Refusals.{IllFormed, StartSentence, Sentence, First}
 use Rattle.meaning.specs.Verdicts.{Stepped, Answered}
 use Rattle.meaning.specs.Disguise.{Disguise, Disguised, DisguisedLog, Alike}
@@ -26,6 +26,7 @@ use Rattle.meaning.proofs.IllFormedLaws.{formed-bad}
 use Rattle.meaning.proofs.FromStart.{after, facts, sets, own-numbers, says}
 use Rattle.meaning.proofs.AnyState.{stepped, one-tables}
 use Rattle.meaning.proofs.LargerTable.{large-formed, large-shows, large-answers, large-left}
+use Rattle.meaning.proofs.OrderLaws.{same-length, same-snoc, same-holds}
 use Rattle.meaning.proofs.IgnoredLaws.{ignored}
 use Rattle.meaning.proofs.HiddenRuns.{hidden-answers, hidden-alike, hidden-answer}
 
@@ -80,6 +81,39 @@ module _ (k : ℕ) (rows nodes values work : List ℕ) (started : startOutcome k
       → Answered rows (after k rows nodes values work started es) e y n r (eventOutcome rows (after k rows nodes values work started es) e .left) (facts k rows nodes values work started es)
   verdicts e y n r q = says k rows nodes values work started es e y n r q
 
+-- Several facts in one moment. "From a fresh start, verdicts and kept sets, read as values, don't depend on the facts' order while both orders
+-- are taken": two runs of one rule that have taken the same facts, event by event, in whatever order within each. Nothing is asked of the
+-- table sizes, and copies of a fact don't matter.
+module _ (k k′ : ℕ) (rows nodes nodes′ values values′ work work′ : List ℕ) (started : startOutcome k rows nodes values .answer ≡ Started)
+    (started′ : startOutcome k′ rows nodes′ values′ .answer ≡ Started) (es es′ : List Event)
+    (same : SameEvents (facts k rows nodes values work started es) (facts k′ rows nodes′ values′ work′ started′ es′)) where
+  abbrev one : Machine
+  one = after k rows nodes values work started es
+
+  abbrev other : Machine
+  other = after k′ rows nodes′ values′ work′ started′ es′
+
+  abbrev taken-one : List (List Fact)
+  taken-one = facts k rows nodes values work started es
+
+  abbrev taken-other : List (List Fact)
+  taken-other = facts k′ rows nodes′ values′ work′ started′ es′
+
+  -- at whatever numbers stand for the assignment's values in each run
+  pub order-kept : (i : ℕ) → i < length (ruleOf rows) → (a : Assignment) (s s′ : Bits) → Shows k (shows rows one .lists) s a → Shows k′ (shows rows other .lists) s′ a
+      → eval (getD (shows rows one .trees) i off) s ≡ eval (getD (shows rows other .trees) i off) s′
+  order-kept i h a s s′ w w′ =
+      same-holds taken-one taken-other same (formulaAt (ruleOf rows) i) (length taken-one) a _ _ (kept-sets k rows nodes values work started es i h s a w)
+      (rw (same-length taken-one taken-other same) (kept-sets k′ rows nodes′ values′ work′ started′ es′ i h s′ a w′))
+
+  pub order-verdicts : (e e′ : Event) → SameFacts (factsOf e) (factsOf e′) → (y y′ : Bool) (n n′ r r′ : ℕ)
+      → eventOutcome rows one e .answer ≡ Verdict y n r → eventOutcome rows other e′ .answer ≡ Verdict y′ n′ r′ → y ≡ y′
+  order-verdicts e e′ t y y′ n n′ r r′ p q =
+      same-holds (taken-one ++ factsOf e ∷ []) (taken-other ++ factsOf e′ ∷ []) (same-snoc taken-one taken-other (factsOf e) (factsOf e′) same t)
+      (formulaAt (ruleOf rows) (length (ruleOf rows) - 1)) (suc (length taken-one)) (λ v. 0) y y′
+      (verdicts k rows nodes values work started es e y n r p .verdict (λ v. 0))
+      (rw (same-length taken-one taken-other same) (verdicts k′ rows nodes′ values′ work′ started′ es′ e′ y′ n′ r′ q .verdict (λ v. 0)))
+
 -- "The functions shown by the diagrams go to those that one step of the meaning gives, read over numbers", for any well-formed state:
 -- the new state is well formed, and verdict, kept, room and the work slice are as 01 says.
 pub any-state : (rows : List ℕ) (m : Machine) (e : Event) → Arrays m → (y : Bool) (n r : ℕ) → eventOutcome rows m e .answer ≡ Verdict y n r → Stepped rows m e y n r (eventOutcome rows m e .left)
@@ -117,7 +151,7 @@ pub larger-leaves : (rows : List ℕ) (m : Machine) → WellFormed rows m → (d
 larger-leaves rows m w d work most long e t = large-left rows m w d work most long e t
 
 -- Demand 3. "Disguised logs: rename values one to one, each constant of the rule to itself and nothing else to a constant. From a fresh start,
--- with the same rule and table sizes ..", whatever the values past an event's count:
+-- with the same rule and table sizes ..", whatever the values past a fact's count, and the facts past an event's:
 module _ (k : ℕ) (rows nodes values work nodes′ values′ work′ : List ℕ) (started : startOutcome k rows nodes values .answer ≡ Started)
     (same-nodes : length nodes′ ≡ length nodes) (same-values : length values′ ≡ length values) (same-work : length work′ ≡ length work)
     (es fs : List Event) (π : ℕ → ℕ) (d : Disguise (ruleOf rows) es π) (l : DisguisedLog π es fs) where
@@ -140,6 +174,6 @@ pub hidden-verdicts : (k : ℕ) (rows nodes values work nodes′ values′ work�
     → length nodes′ ≡ length nodes → length values′ ≡ length values → length work′ ≡ length work
     → (es fs : List Event) (e f : Event) (π : ℕ → ℕ) → Disguise (ruleOf rows) (es ++ e ∷ []) π → DisguisedLog π es fs → Disguised π e f
     → (y : Bool) (n r : ℕ) → eventOutcome rows (runs rows (machineOf (startOutcome k rows nodes′ values′) work′) fs) f .answer ≡ Verdict y n r
-    → (a : Assignment) → (y ≡ true) ↔ Holds (log (facts k rows nodes values work started es ++ factOf e ∷ [])) (formulaAt (ruleOf rows) (length (ruleOf rows) - 1)) (suc (length (facts k rows nodes values work started es))) a
+    → (a : Assignment) → (y ≡ true) ↔ Holds (log (facts k rows nodes values work started es ++ factsOf e ∷ [])) (formulaAt (ruleOf rows) (length (ruleOf rows) - 1)) (suc (length (facts k rows nodes values work started es))) a
 hidden-verdicts k rows nodes values work nodes′ values′ work′ started sn sv sw es fs e f π d l g y n r q =
     verdicts k rows nodes values work started es e y n r (sym (hidden-answer k rows nodes values work nodes′ values′ work′ started sn sv sw es fs e f π d l g) ∙ q) .verdict

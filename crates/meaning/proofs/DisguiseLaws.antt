@@ -12,26 +12,27 @@ use Rattle.trees.specs.Tree.{Tree, off}
 use Rattle.trees.proofs.Tests.{or-l, or-r, eqb-same}
 use Rattle.meaning.specs.declared.State.{State}
 use Rattle.meaning.specs.declared.Event.{Event}
+use Rattle.meaning.specs.declared.Fact.{Fact as Given}
 use Rattle.meaning.specs.declared.Value.{Value}
 use Rattle.meaning.specs.declared.Answer.{Answer}
 use Rattle.meaning.specs.Qtl.{Argument, variable, constant, Fact}
 use Rattle.meaning.specs.Rows.{Row, truth, atom, both, neg, since, previous, exists, ruleOf, firstBelow, Found, right, checkRows}
-use Rattle.meaning.specs.Numbering.{Lists, askRows}
+use Rattle.meaning.specs.Numbering.{Lists, askFacts}
 use Rattle.meaning.specs.Step.{Shown, step, roomOf}
 use Rattle.meaning.specs.Tables.{most, padded, keptTable, layState, layNodes, layValues, wellFormed}
-use Rattle.meaning.specs.Outcome.{kRight, capacity, nodesRight, valuesRight, workSize, cleared, factOf, agrees, allAgree, countRight, shortest, Decision, taken, refused, judgeStart, judgeEvent, Machine, shows, decideEvent, verdictOf, settleEvent, eventOutcome, runs, answers}
-use Rattle.meaning.specs.Disguise.{among, used, constantsIn, constants, Disguise, disguised, disguisedFact}
+use Rattle.meaning.specs.Outcome.{kRight, capacity, nodesRight, valuesRight, workSize, cleared, factOf, given, factsOf, agrees, allAgree, factRight, allRight, countRight, shortest, Decision, taken, refused, judgeStart, judgeEvent, Machine, shows, decideEvent, verdictOf, settleEvent, eventOutcome, runs, answers}
+use Rattle.meaning.specs.Disguise.{among, used, constantsIn, constants, Disguise, disguisedGiven, disguised, disguisedFact}
 use Rattle.meaning.proofs.ValuesLaws.{Distinct}
 use Rattle.meaning.proofs.PartsLaws.{padded-length}
 use Rattle.meaning.proofs.ProperLaws.{Proper}
-use Rattle.meaning.proofs.RenameLaws.{Every, EveryFact, EveryList, KeepsArguments, KeepsRow, KeepsRows, renamedLists, renamed, askRows-every, askRows-ren, step-ren}
+use Rattle.meaning.proofs.RenameLaws.{Every, EveryFact, EveryEvent, EveryList, KeepsArguments, KeepsRow, KeepsRows, renamedLists, renamed, askFacts-every, askFacts-ren, step-ren, room-ren}
 use Rattle.meaning.proofs.RunLaws.{Laid, k-is, C-is, shows-is, formed-is, laid-on, laid-stays}
 
 -- the fact of a disguised event
-take-map : (n : ℕ) (f : Value → Value) (vs : List Value) → take n (map f vs) ≡ map f (take n vs)
+take-map : {A : Type 0} (n : ℕ) (f : A → A) (vs : List A) → take n (map f vs) ≡ map f (take n vs)
 take-map zero f vs = refl
 take-map (suc n) f [] = refl
-take-map (suc n) f (v ∷ vs) = ap (λ (l : List Value). f v ∷ l) (take-map n f vs)
+take-map {A} (suc n) f (v ∷ vs) = ap (λ (l : List A). f v ∷ l) (take-map n f vs)
 
 hidden : (ℕ → ℕ) → Value → Value
 hidden π v = record { 0 = π (v .0) }
@@ -44,15 +45,27 @@ unfolding hidden plain
 values-of π [] = refl
 values-of π (v ∷ vs) = ap (λ (l : List ℕ). π (v .0) ∷ l) (values-of π vs)
 
-pub fact-of : (π : ℕ → ℕ) (e : Event) → factOf (disguised π e) ≡ disguisedFact π (factOf e)
-unfolding factOf disguised disguisedFact hidden plain
+pub fact-of : (π : ℕ → ℕ) (e : Given) → factOf (disguisedGiven π e) ≡ disguisedFact π (factOf e)
+unfolding factOf disguisedGiven disguisedFact hidden plain
 fact-of π e =
     let q : map plain (take (e .count) (map (hidden π) (e .values))) ≡ map π (map plain (take (e .count) (e .values))) =
     ap (map plain) (take-map (e .count) (hidden π) (e .values)) ∙ values-of π (take (e .count) (e .values)) in
     λ i. record { predicate = e .predicate; values = q i }
 
-agree-same : (π : ℕ → ℕ) (e : Event) (rs : List Row) → allAgree (disguised π e) rs ≡ allAgree e rs
-unfolding allAgree agrees disguised
+pub given-of : (π : ℕ → ℕ) (e : Event) → given (disguised π e) ≡ map (disguisedGiven π) (given e)
+unfolding given disguised
+given-of π e = take-map (e .count) (disguisedGiven π) (e .facts)
+
+pub facts-of : (π : ℕ → ℕ) (e : Event) → factsOf (disguised π e) ≡ map (disguisedFact π) (factsOf e)
+unfolding factsOf
+facts-of π e = rw (given-of π e) (go (given e))
+  where
+    go : (fs : List Given) → map factOf (map (disguisedGiven π) fs) ≡ map (disguisedFact π) (map factOf fs)
+    go [] = refl
+    go (f ∷ fs) = ap₂ (λ (x : Fact) (l : List Fact). x ∷ l) (fact-of π f) (go fs)
+
+agree-same : (π : ℕ → ℕ) (e : Given) (rs : List Row) → allAgree (disguisedGiven π e) rs ≡ allAgree e rs
+unfolding allAgree agrees disguisedGiven
 agree-same π e [] = refl
 agree-same π e (truth ∷ rs) = agree-same π e rs
 agree-same π e (atom p gs ∷ rs) = rw (agree-same π e rs)
@@ -62,9 +75,14 @@ agree-same π e (since l r ∷ rs) = agree-same π e rs
 agree-same π e (previous r ∷ rs) = agree-same π e rs
 agree-same π e (exists x r ∷ rs) = agree-same π e rs
 
+right-same : (π : ℕ → ℕ) (fs : List Given) (rs : List Row) → allRight rs (map (disguisedGiven π) fs) ≡ allRight rs fs
+unfolding allRight factRight
+right-same π [] rs = refl
+right-same π (f ∷ fs) rs = rw (agree-same π f rs, right-same π fs rs) (unfold disguisedGiven in refl)
+
 count-same : (π : ℕ → ℕ) (e : Event) (rs : List Row) → countRight rs (disguised π e) ≡ countRight rs e
 unfolding countRight
-count-same π e rs = rw (agree-same π e rs) (unfold disguised in refl)
+count-same π e rs = rw (given-of π e, right-same π (given e) rs) (unfold disguised in refl)
 
 -- what is shown, renamed, is laid out alike
 pub lay-same : (π : ℕ → ℕ) (k : ℕ) (s : Shown) → layState k (renamed π s) ≡ layState k s
@@ -74,10 +92,6 @@ lay-same π k s = rw (length-map (s .lists 0) π, length-map (s .lists 1) π, le
 pub nodes-same : (π : ℕ → ℕ) (C : ℕ) (s : Shown) → layNodes C (renamed π s) ≡ layNodes C s
 unfolding layNodes renamed keptTable
 nodes-same π C s = refl
-
-verdict-same : (π : ℕ → ℕ) (k : ℕ) (rule : List Row) (s t : Shown) → verdictOf k rule (renamed π s) (renamed π t) ≡ verdictOf k rule s t
-unfolding verdictOf renamed keptTable
-verdict-same π k rule s t = refl
 
 lay-length : (k : ℕ) (L : Lists) → ((v : ℕ) → v < 4 → length (L v) ≤ most k) → length (layValues k L) ≡ 4 * most k
 unfolding layValues
@@ -146,7 +160,7 @@ module _ (π : ℕ → ℕ) (U : ℕ → Type 0) (inj : (x y : ℕ) → U x → 
       pub work : length (n .work) ≡ length (m .work)
       pub uses : EveryList U (s .lists)
 
-    module _ (m n : Machine) (t : Twins m n) (e : Event) (ue : Every U (factOf e .values)) where
+    module _ (m n : Machine) (t : Twins m n) (e : Event) (ue : EveryFact U (factsOf e)) where
       state-same : n .state ≡ m .state
       state-same = t .twin .state-is ∙ lay-same π k (t .s) ∙ sym (t .laid .state-is)
 
@@ -169,13 +183,13 @@ module _ (π : ℕ → ℕ) (U : ℕ → Type 0) (inj : (x y : ℕ) → U x → 
       shows-m : shows rows m ≡ t .s
       shows-m = shows-is rows k C kr cr m (t .s) (t .laid)
 
-      after-n : step (n .state .k) (ruleOf rows) (shows rows n) (factOf (disguised π e)) ≡ renamed π (step k (ruleOf rows) (t .s) (factOf e))
-      after-n = rw (shows-n, k-is rows k C kr cr n (renamed π (t .s)) (t .twin), fact-of π e) (step-ren π U inj k (ruleOf rows) (t .s) (factOf e) (t .uses) ue keeps)
+      after-n : step (n .state .k) (ruleOf rows) (shows rows n) (factsOf (disguised π e)) ≡ renamed π (step k (ruleOf rows) (t .s) (factsOf e))
+      after-n = rw (shows-n, k-is rows k C kr cr n (renamed π (t .s)) (t .twin), facts-of π e) (step-ren π U inj k (ruleOf rows) (t .s) (factsOf e) (t .uses) ue keeps)
 
-      after-m : step (m .state .k) (ruleOf rows) (shows rows m) (factOf e) ≡ step k (ruleOf rows) (t .s) (factOf e)
+      after-m : step (m .state .k) (ruleOf rows) (shows rows m) (factsOf e) ≡ step k (ruleOf rows) (t .s) (factsOf e)
       after-m = rw (shows-m, k-is rows k C kr cr m (t .s) (t .laid))
 
-      short-same : shortest (n .state .k) (ruleOf rows) (shows rows n) (factOf (disguised π e)) ≡ shortest (m .state .k) (ruleOf rows) (shows rows m) (factOf e)
+      short-same : shortest (n .state .k) (ruleOf rows) (shows rows n) (factsOf (disguised π e)) ≡ shortest (m .state .k) (ruleOf rows) (shows rows m) (factsOf e)
       unfolding shortest renamed
       short-same =
           rw (
@@ -183,15 +197,20 @@ module _ (π : ℕ → ℕ) (U : ℕ → Type 0) (inj : (x y : ℕ) → U x → 
             shows-m,
             k-is rows k C kr cr n (renamed π (t .s)) (t .twin),
             k-is rows k C kr cr m (t .s) (t .laid),
-            fact-of π e,
-            askRows-ren π U inj (factOf e) (ruleOf rows) (t .s .lists) (t .uses) ue keeps,
+            facts-of π e,
+            askFacts-ren π U inj (factsOf e) (ruleOf rows) (t .s .lists) (t .uses) ue keeps,
           )
-          (ap (firstBelow 4) (fun-ext (λ v. ap (ltb (most k)) (unfold renamedLists in length-map (askRows (factOf e) (t .s .lists) (ruleOf rows) v) π))))
+          (ap (firstBelow 4) (fun-ext (λ v. ap (ltb (most k)) (unfold renamedLists in length-map (askFacts (factsOf e) (t .s .lists) (ruleOf rows) v) π))))
 
-      room-same : roomOf (n .state .k) (ruleOf rows) (shows rows n .trees) (step (n .state .k) (ruleOf rows) (shows rows n) (factOf (disguised π e)) .trees)
-          ≡ roomOf (m .state .k) (ruleOf rows) (shows rows m .trees) (step (m .state .k) (ruleOf rows) (shows rows m) (factOf e) .trees)
-      unfolding renamed
-      room-same = rw (after-n, after-m, shows-n, shows-m, k-is rows k C kr cr n (renamed π (t .s)) (t .twin), k-is rows k C kr cr m (t .s) (t .laid))
+      after-uses : EveryList U (step k (ruleOf rows) (t .s) (factsOf e) .lists)
+      unfolding step
+      after-uses = askFacts-every U (factsOf e) (ruleOf rows) (t .s .lists) ue (t .uses)
+
+      room-same : roomOf (n .state .k) (ruleOf rows) (shows rows n) (factsOf (disguised π e)) (step (n .state .k) (ruleOf rows) (shows rows n) (factsOf (disguised π e)))
+          ≡ roomOf (m .state .k) (ruleOf rows) (shows rows m) (factsOf e) (step (m .state .k) (ruleOf rows) (shows rows m) (factsOf e))
+      room-same =
+          rw (after-n, after-m, shows-n, shows-m, k-is rows k C kr cr n (renamed π (t .s)) (t .twin), k-is rows k C kr cr m (t .s) (t .laid), facts-of π e)
+          (room-ren π U inj k (ruleOf rows) (t .s) (factsOf e) (step k (ruleOf rows) (t .s) (factsOf e)) after-uses ue keeps)
 
       -- both events are decided alike
       pub decide-same : decideEvent rows n (disguised π e) ≡ decideEvent rows m e
@@ -202,11 +221,10 @@ module _ (π : ℕ → ℕ) (U : ℕ → Type 0) (inj : (x y : ℕ) → U x → 
           (formed-is rows k C kr cr n (renamed π (t .s)) (t .twin) ∙ sym (formed-is rows k C kr cr m (t .s) (t .laid)))
           (count-same π e (ruleOf rows)) short-same (ap₂ leb room-same (ap capacity nodes-are))
 
-      verdicts-same : verdictOf (n .state .k) (ruleOf rows) (shows rows n) (step (n .state .k) (ruleOf rows) (shows rows n) (factOf (disguised π e)))
-          ≡ verdictOf (m .state .k) (ruleOf rows) (shows rows m) (step (m .state .k) (ruleOf rows) (shows rows m) (factOf e))
-      verdicts-same =
-          rw (after-n, after-m, shows-n, shows-m, k-is rows k C kr cr n (renamed π (t .s)) (t .twin), k-is rows k C kr cr m (t .s) (t .laid))
-          (verdict-same π k (ruleOf rows) (t .s) (step k (ruleOf rows) (t .s) (factOf e)))
+      verdicts-same : verdictOf (n .state .k) (ruleOf rows) (shows rows n) (factsOf (disguised π e)) (step (n .state .k) (ruleOf rows) (shows rows n) (factsOf (disguised π e)))
+          ≡ verdictOf (m .state .k) (ruleOf rows) (shows rows m) (factsOf e) (step (m .state .k) (ruleOf rows) (shows rows m) (factsOf e))
+      unfolding verdictOf
+      verdicts-same = rw (room-same, after-n, after-m) (unfold renamed keptTable in refl)
 
       -- and answered alike
       pub answer-same : eventOutcome rows n (disguised π e) .answer ≡ eventOutcome rows m e .answer
@@ -235,13 +253,13 @@ module _ (π : ℕ → ℕ) (U : ℕ → Type 0) (inj : (x y : ℕ) → U x → 
         where
           go : (d : Decision) → decideEvent rows m e ≡ d → Twins (eventOutcome rows m e .left) (eventOutcome rows n (disguised π e) .left)
           go taken q = record {
-            s = step k (ruleOf rows) (t .s) (factOf e);
+            s = step k (ruleOf rows) (t .s) (factsOf e);
             laid = laid-on rows k C kr cr m (t .s) (t .laid) e q;
             twin =
-                rw (fact-of π e, step-ren π U inj k (ruleOf rows) (t .s) (factOf e) (t .uses) ue keeps) at
+                rw (facts-of π e, step-ren π U inj k (ruleOf rows) (t .s) (factsOf e) (t .uses) ue keeps) at
                 (laid-on rows k C kr cr n (renamed π (t .s)) (t .twin) (disguised π e) (decide-same ∙ q));
             work = work-same;
-            uses = unfold step in askRows-every U (factOf e) (ruleOf rows) (t .s .lists) ue (t .uses);
+            uses = after-uses;
           }
           go (refused j p) q = record {
             s = t .s;
@@ -252,14 +270,14 @@ module _ (π : ℕ → ℕ) (U : ℕ → Type 0) (inj : (x y : ℕ) → U x → 
           }
 
     -- whole runs
-    pub twins-answers : (es : List Event) (m n : Machine) → Twins m n → EveryFact U es → answers rows n (map (disguised π) es) ≡ answers rows m es
+    pub twins-answers : (es : List Event) (m n : Machine) → Twins m n → EveryEvent U es → answers rows n (map (disguised π) es) ≡ answers rows m es
     unfolding answers
     twins-answers [] m n t u = refl
     twins-answers (e ∷ es) m n t u =
         ap₂ (λ (a : Answer) (l : List Answer). a ∷ l) (answer-same m n t e (u .0))
         (twins-answers es (eventOutcome rows m e .left) (eventOutcome rows n (disguised π e) .left) (twins-turn m n t e (u .0)) (u .1))
 
-    pub twins-runs : (es : List Event) (m n : Machine) → Twins m n → EveryFact U es → Twins (runs rows m es) (runs rows n (map (disguised π) es))
+    pub twins-runs : (es : List Event) (m n : Machine) → Twins m n → EveryEvent U es → Twins (runs rows m es) (runs rows n (map (disguised π) es))
     unfolding runs
     twins-runs [] m n t u = t
     twins-runs (e ∷ es) m n t u =

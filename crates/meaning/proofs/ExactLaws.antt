@@ -14,14 +14,15 @@ use Rattle.trees.proofs.Tests.{bool, lt-or-ge, false-true, and-true, and-true-l
 use Rattle.trees.proofs.KeptLaws.{all-at, all-fails, not-false}
 use Rattle.trees.proofs.RoomLaws.{room-one}
 use Rattle.meaning.specs.declared.Event.{Event}
+use Rattle.meaning.specs.declared.Fact.{Fact as Given}
 use Rattle.meaning.specs.Qtl.{Argument, free}
 use Rattle.meaning.specs.Rows.{Row, truth, atom, both, neg, since, previous, exists, rowFault, rowCount, rowsUpTo, ruleOf, formulaAt, closed, firstBelow, Found, right, fault, judgeRows, checkRows}
-use Rattle.meaning.specs.Numbering.{askRows}
+use Rattle.meaning.specs.Numbering.{askFacts}
 use Rattle.meaning.specs.Step.{step, counted, roomOf}
 use Rattle.meaning.specs.Tables.{most, wellFormed}
 use Rattle.meaning.specs.Outcome
-use Rattle.meaning.specs.Outcome.{kRight, capacity, nodesRight, valuesRight, workSize, factOf, agrees, allAgree, countRight, shortest, Decision, taken, refused, judgeStart, judgeEvent, decideStart, decideEvent, Machine, shows}
-use Rattle.meaning.specs.Refusals.{BadK, BadShape, FirstFault, OpenRule, BadRows, BadNodes, BadValues, BadWork, OtherCount, Short, NoRoom, StartSentence, Sentence, First}
+use Rattle.meaning.specs.Outcome.{kRight, capacity, nodesRight, valuesRight, workSize, given, factsOf, agrees, allAgree, factRight, allRight, countRight, shortest, Decision, taken, refused, judgeStart, judgeEvent, decideStart, decideEvent, Machine, shows}
+use Rattle.meaning.specs.Refusals.{BadK, BadShape, FirstFault, OpenRule, BadRows, BadNodes, BadValues, BadWork, OtherCount, BadFact, SomeBad, Short, NoRoom, StartSentence, Sentence, First}
 use Rattle.meaning.proofs.RowsLaws.{first-le, first-none, first-some, rows-length}
 
 -- a test that failed
@@ -143,7 +144,7 @@ either-bad a b P Q p q = (
 )
 
 -- 5
-agrees-fails : (e : Event) (r : Row) → agrees e r ≡ false → (gs : List Argument) × (r ≡ atom (e .predicate) gs) × (length gs ≢ e .count)
+agrees-fails : (e : Given) (r : Row) → agrees e r ≡ false → (gs : List Argument) × (r ≡ atom (e .predicate) gs) × (length gs ≢ e .count)
 unfolding agrees
 agrees-fails e truth h = absurd (false-true h refl)
 agrees-fails e (atom p gs) h = go (eqb (e .predicate) p) refl h
@@ -157,7 +158,7 @@ agrees-fails e (since l r) h = absurd (false-true h refl)
 agrees-fails e (previous r) h = absurd (false-true h refl)
 agrees-fails e (exists x r) h = absurd (false-true h refl)
 
-all-agree-fails : (e : Event) (rs : List Row) → allAgree e rs ≡ false → (i : ℕ) × (i < length rs) × (agrees e (getD rs i truth) ≡ false)
+all-agree-fails : (e : Given) (rs : List Row) → allAgree e rs ≡ false → (i : ℕ) × (i < length rs) × (agrees e (getD rs i truth) ≡ false)
 unfolding allAgree
 all-agree-fails e [] h = absurd (false-true h refl)
 all-agree-fails e (r ∷ rs) h = ⊎-elim
@@ -165,19 +166,19 @@ all-agree-fails e (r ∷ rs) h = ⊎-elim
     (λ p. let i = all-agree-fails e rs p in (suc (i .0), omega (arith, i .1), i .2))
     (and-false (agrees e r) (allAgree e rs) h)
 
-all-agree-at : (e : Event) (rs : List Row) (i : ℕ) → i < length rs → agrees e (getD rs i truth) ≡ false → allAgree e rs ≡ false
+all-agree-at : (e : Given) (rs : List Row) (i : ℕ) → i < length rs → agrees e (getD rs i truth) ≡ false → allAgree e rs ≡ false
 unfolding allAgree
 all-agree-at e [] i h p = absurd (omega arith)
 all-agree-at e (r ∷ rs) zero h p = and-false-l (agrees e r) (allAgree e rs) p
 all-agree-at e (r ∷ rs) (suc i) h p = and-false-r (agrees e r) (allAgree e rs) (all-agree-at e rs i (omega arith) p)
 
-agrees-other : (e : Event) (gs : List Argument) → length gs ≢ e .count → agrees e (atom (e .predicate) gs) ≡ false
+agrees-other : (e : Given) (gs : List Argument) → length gs ≢ e .count → agrees e (atom (e .predicate) gs) ≡ false
 unfolding agrees
 agrees-other e gs h = rw (eq-eqb (e .predicate) (e .predicate) refl, ne-eqb (length gs) (e .count) h)
 
-pub count-bad : (rows : List ℕ) (e : Event) → (countRight (ruleOf rows) e ≡ false) ↔ ((3 < e .count) ⊎ OtherCount rows e)
-unfolding countRight ruleOf
-count-bad rows e = either-bad (leb (e .count) 3) (allAgree e (rowsUpTo rows (rowCount rows))) (3 < e .count) (OtherCount rows e)
+fact-bad : (rows : List ℕ) (e : Given) → (factRight (ruleOf rows) e ≡ false) ↔ BadFact rows e
+unfolding factRight ruleOf
+fact-bad rows e = either-bad (leb (e .count) 3) (allAgree e (rowsUpTo rows (rowCount rows))) (3 < e .count) (OtherCount rows e)
     (leb-false (e .count) 3, lt-leb (e .count) 3) (there, back)
   where
     there : allAgree e (rowsUpTo rows (rowCount rows)) ≡ false → OtherCount rows e
@@ -189,8 +190,17 @@ count-bad rows e = either-bad (leb (e .count) 3) (allAgree e (rowsUpTo rows (row
     back : OtherCount rows e → allAgree e (rowsUpTo rows (rowCount rows)) ≡ false
     back o = all-agree-at e (rowsUpTo rows (rowCount rows)) (o .place) (let z = o .inside in omega (arith, rows-length rows (rowCount rows))) (rw (o .row-is) (agrees-other e (o .arguments) (o .differs)))
 
+facts-bad : (rows : List ℕ) (fs : List Given) → (allRight (ruleOf rows) fs ≡ false) ↔ SomeBad rows fs
+unfolding allRight
+facts-bad rows [] = (λ h. false-true h refl, λ z. absurd z)
+facts-bad rows (f ∷ fs) = either-bad (factRight (ruleOf rows) f) (allRight (ruleOf rows) fs) _ _ (fact-bad rows f) (facts-bad rows fs)
+
+pub count-bad : (rows : List ℕ) (e : Event) → (countRight (ruleOf rows) e ≡ false) ↔ ((8 < e .count) ⊎ SomeBad rows (given e))
+unfolding countRight
+count-bad rows e = either-bad (leb (e .count) 8) (allRight (ruleOf rows) (given e)) _ _ (leb-false (e .count) 8, lt-leb (e .count) 8) (facts-bad rows (given e))
+
 -- 6
-pub short-found : (rows : List ℕ) (m : Machine) (e : Event) → let v = shortest (m .state .k) (ruleOf rows) (shows rows m) (factOf e) in
+pub short-found : (rows : List ℕ) (m : Machine) (e : Event) → let v = shortest (m .state .k) (ruleOf rows) (shows rows m) (factsOf e) in
     (v < 4 → Short rows m e v) × ((w : ℕ) → Short rows m e w → (v < 4) × (w ≡ v))
 unfolding shortest
 short-found rows m e = (
@@ -205,4 +215,4 @@ short-found rows m e = (
 )
   where
     f : ℕ → Bool
-    f v = ltb (most (m .state .k)) (length (askRows (factOf e) (shows rows m .lists) (ruleOf rows) v))
+    f v = ltb (most (m .state .k)) (length (askFacts (factsOf e) (shows rows m .lists) (ruleOf rows) v))

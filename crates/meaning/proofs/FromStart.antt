@@ -25,7 +25,7 @@ module _ (k : ℕ) (rows nodes values work : List ℕ) (started : startOutcome k
   abbrev pub after : Machine
   after = runs rows (machineOf (startOutcome k rows nodes values) work) es
 
-  abbrev pub facts : List Fact
+  abbrev pub facts : List (List Fact)
   facts = takenOf rows (machineOf (startOutcome k rows nodes values) work) es
 
   pub kr : kRight k ≡ true

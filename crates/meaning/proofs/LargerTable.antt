@@ -19,7 +19,7 @@ use Rattle.meaning.specs.declared.Answer.the-variants.{Verdict, Refused}
 use Rattle.meaning.specs.Rows.{Row, ruleOf, right, checkRows}
 use Rattle.meaning.specs.Step.{Shown, step, roomOf}
 use Rattle.meaning.specs.Tables.{padded, keptTable, layNodes, wellFormed}
-use Rattle.meaning.specs.Outcome.{kRight, capacity, nodesRight, valuesRight, workSize, cleared, factOf, countRight, shortest, Decision, taken, refused, judgeStart, judgeEvent, Machine, Arrays, WellFormed, enlarged, shows, verdictOf, decideEvent, settleEvent, eventOutcome}
+use Rattle.meaning.specs.Outcome.{kRight, capacity, nodesRight, valuesRight, workSize, cleared, factsOf, countRight, shortest, Decision, taken, refused, judgeStart, judgeEvent, Machine, Arrays, WellFormed, enlarged, shows, verdictOf, decideEvent, settleEvent, eventOutcome}
 use Rattle.meaning.proofs.ProperLaws.{Proper}
 use Rattle.meaning.proofs.StartLaws.{zeros, zeros-add}
 use Rattle.meaning.proofs.RunLaws.{Laid, k-is, C-is, shows-is, formed-is, laid-on}
@@ -38,8 +38,8 @@ lay-more k C d rule s p =
 -- a machine with its layout, and what it decides and answers of an event
 module _ (rows : List ℕ) (k C : ℕ) (kr : kRight k ≡ true) (cr : checkRows rows ≡ right) (m : Machine) (s : Shown) (laid : Laid rows k C kr cr m s)
     (lengths : (nodesRight (m .nodes) && (valuesRight (m .state .k) (m .values) && leb (workSize (capacity (m .nodes))) (length (m .work)))) ≡ true) (e : Event) where
-  decided : decideEvent rows m e ≡ judgeEvent taken true (countRight (ruleOf rows) e) (ltb (shortest k (ruleOf rows) s (factOf e)) 4) (shortest k (ruleOf rows) s (factOf e))
-      (leb (roomOf k (ruleOf rows) (s .trees) (step k (ruleOf rows) s (factOf e) .trees)) C)
+  decided : decideEvent rows m e ≡ judgeEvent taken true (countRight (ruleOf rows) e) (ltb (shortest k (ruleOf rows) s (factsOf e)) 4) (shortest k (ruleOf rows) s (factsOf e))
+      (leb (roomOf k (ruleOf rows) s (factsOf e) (step k (ruleOf rows) s (factsOf e))) C)
   unfolding decideEvent judgeStart
   decided = rw (lengths, formed-is rows k C kr cr m s laid, shows-is rows k C kr cr m s laid, C-is rows k C kr cr m s laid, k-is rows k C kr cr m s laid, kr, cr) refl
 
@@ -49,11 +49,11 @@ answerOf taken a = a
 answerOf (refused n p) a = Refused n p
 
 answer-is : (rows : List ℕ) (k C : ℕ) (kr : kRight k ≡ true) (cr : checkRows rows ≡ right) (m : Machine) (s : Shown) → Laid rows k C kr cr m s → (e : Event)
-    → eventOutcome rows m e .answer ≡ answerOf (decideEvent rows m e) (verdictOf k (ruleOf rows) s (step k (ruleOf rows) s (factOf e)))
+    → eventOutcome rows m e .answer ≡ answerOf (decideEvent rows m e) (verdictOf k (ruleOf rows) s (factsOf e) (step k (ruleOf rows) s (factsOf e)))
 unfolding eventOutcome settleEvent answerOf
 answer-is rows k C kr cr m s laid e = go (decideEvent rows m e)
   where
-    go : (d : Decision) → settleEvent d rows m e .answer ≡ answerOf d (verdictOf k (ruleOf rows) s (step k (ruleOf rows) s (factOf e)))
+    go : (d : Decision) → settleEvent d rows m e .answer ≡ answerOf d (verdictOf k (ruleOf rows) s (factsOf e) (step k (ruleOf rows) s (factsOf e)))
     go taken = rw (shows-is rows k C kr cr m s laid, k-is rows k C kr cr m s laid)
     go (refused n p) = refl
 
@@ -131,7 +131,7 @@ module _ (rows : List ℕ) (m : Machine) (w : WellFormed rows m) (d : ℕ) (work
 
   module _ (e : Event) where
     abbrev said : Answer
-    said = verdictOf k (ruleOf rows) (shows rows m) (step k (ruleOf rows) (shows rows m) (factOf e))
+    said = verdictOf k (ruleOf rows) (shows rows m) (factsOf e) (step k (ruleOf rows) (shows rows m) (factsOf e))
 
     decides : (decideEvent rows m e ≡ refused 7 0) ⊎ (decideEvent rows (enlarged d work m) e ≡ decideEvent rows m e)
     decides =

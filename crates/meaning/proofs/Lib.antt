@@ -16,6 +16,7 @@ pub mod IllFormedLaws
 pub mod RefusalLaws
 pub mod RunLaws
 pub mod AnswerLaws
+pub mod OrderLaws
 pub mod StartLaws
 pub mod FromStart
 pub mod AnyState

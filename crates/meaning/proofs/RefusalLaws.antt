@@ -16,10 +16,10 @@ use Rattle.trees.proofs.TreeLaws.{fine-off}
 use Rattle.trees.proofs.RoomLaws.{room-one}
 use Rattle.meaning.specs.declared.Event.{Event}
 use Rattle.meaning.specs.Rows.{Row, ruleOf, Found, right, fault, checkRows}
-use Rattle.meaning.specs.Numbering.{askRows}
+use Rattle.meaning.specs.Numbering.{askFacts}
 use Rattle.meaning.specs.Step.{step, counted, roomOf}
 use Rattle.meaning.specs.Tables.{read, wellFormed}
-use Rattle.meaning.specs.Outcome.{kRight, capacity, nodesRight, valuesRight, workSize, factOf, countRight, shortest, Decision, taken, refused, judgeStart, judgeEvent, decideStart, decideEvent, Machine, shows}
+use Rattle.meaning.specs.Outcome.{kRight, capacity, nodesRight, valuesRight, workSize, factsOf, countRight, shortest, Decision, taken, refused, judgeStart, judgeEvent, decideStart, decideEvent, Machine, shows}
 use Rattle.meaning.specs.Refusals.{BadNodes, BadValues, BadWork, IllFormed, Short, NoRoom, StartSentence, Sentence, First}
 use Rattle.meaning.proofs.RowsLaws.{Checked, checked}
 use Rattle.meaning.proofs.StepLaws.{AllFine, fine-rows}
@@ -112,10 +112,10 @@ module _ (rows : List ℕ) (m : Machine) (e : Event) where
   C = capacity (m .nodes)
 
   W : ℕ
-  W = shortest (m .state .k) (ruleOf rows) (shows rows m) (factOf e)
+  W = shortest (m .state .k) (ruleOf rows) (shows rows m) (factsOf e)
 
   abbrev R : ℕ
-  R = roomOf (m .state .k) (ruleOf rows) (shows rows m .trees) (step (m .state .k) (ruleOf rows) (shows rows m) (factOf e) .trees)
+  R = roomOf (m .state .k) (ruleOf rows) (shows rows m) (factsOf e) (step (m .state .k) (ruleOf rows) (shows rows m) (factsOf e))
 
   lengths : Bool
   lengths = nodesRight (m .nodes) && (valuesRight (m .state .k) (m .values) && leb (workSize (capacity (m .nodes))) (length (m .work)))
@@ -144,14 +144,14 @@ module _ (rows : List ℕ) (m : Machine) (e : Event) where
   unfolding shows read
   fine-before a r f = read-fine (m .state .k) (capacity (m .nodes)) (ruleOf rows) (m .state) (m .nodes) (m .values) f (positive a) (checked rows r .rows)
 
-  fine-after : AllFine (4 * m .state .k) (shows rows m .trees) → AllFine (4 * m .state .k) (step (m .state .k) (ruleOf rows) (shows rows m) (factOf e) .trees)
+  fine-after : AllFine (4 * m .state .k) (shows rows m .trees) → AllFine (4 * m .state .k) (step (m .state .k) (ruleOf rows) (shows rows m) (factsOf e) .trees)
   unfolding step
-  fine-after w = fine-rows (m .state .k) (askRows (factOf e) (shows rows m .lists) (ruleOf rows)) (factOf e) (shows rows m .trees) w (ruleOf rows) [] (λ j. fine-off 0 (4 * m .state .k))
+  fine-after w = fine-rows (m .state .k) (askFacts (factsOf e) (shows rows m .lists) (ruleOf rows)) (factsOf e) (shows rows m .trees) w (ruleOf rows) [] (λ j. fine-off 0 (4 * m .state .k))
 
   -- the room of the outcome is document 01's
   pub event-room : kRight (m .state .k) ≡ true → checkRows rows ≡ right → formed ≡ true
-      → Room (4 * m .state .k) (counted (m .state .k) (ruleOf rows) (shows rows m .trees) (step (m .state .k) (ruleOf rows) (shows rows m) (factOf e) .trees)) R
-  event-room a r f = let w = fine-before a r f in room-is (m .state .k) (ruleOf rows) (shows rows m .trees) _ w (fine-after w)
+      → Room (4 * m .state .k) (counted (m .state .k) (ruleOf rows) (shows rows m) (factsOf e) (step (m .state .k) (ruleOf rows) (shows rows m) (factsOf e))) R
+  event-room a r f = let w = fine-before a r f in room-is (m .state .k) (ruleOf rows) (checked rows r .rows) (shows rows m) (factsOf e) _ w (fine-after w)
 
   no-room : kRight (m .state .k) ≡ true → checkRows rows ≡ right → formed ≡ true → (leb R C ≡ false) ↔ NoRoom rows m e
   unfolding C

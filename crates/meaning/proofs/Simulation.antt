@@ -17,14 +17,14 @@ use Rattle.trees.specs.Tree.{Tree, off, eval, Fine}
 use Rattle.trees.proofs.Tests.{EqCase, equal, other, eq-case, eqb-same, false-true, and-true-l, and-true-r, and-true}
 use Rattle.trees.proofs.BitsLaws.{Outside, drops-some, drops-of, number-agree, write, write-outside, write-number}
 use Rattle.trees.proofs.TreeLaws.{fine-off}
-use Rattle.meaning.specs.Qtl.{Argument, variable, constant, Fact, Formula, Assignment, bind, Matches, Holds}
+use Rattle.meaning.specs.Qtl.{Argument, variable, constant, Fact, Formula, Assignment, bind, Matches, Some, Matching, Holds}
 use Rattle.meaning.specs.Qtl
 use Rattle.meaning.specs.Rows.{Row, truth, atom, both, neg, since, previous, exists, follow, formulasFrom, formulas}
-use Rattle.meaning.specs.Numbering.{Lists, place, listed, repeats, fits, askRows, Stands, Shows}
-use Rattle.meaning.specs.Step.{argumentsSay, rowSays, saysAt, rowTree, rowTrees, Shown, fresh, step}
+use Rattle.meaning.specs.Numbering.{Lists, place, listed, repeats, fits, askFacts, Stands, Shows}
+use Rattle.meaning.specs.Step.{argumentsSay, factSays, atomSays, rowSays, saysAt, rowTree, rowTrees, Shown, fresh, step}
 use Rattle.meaning.proofs.RowsLaws.{ArgumentsOk, RowOk, RowsOk, formulas-keep, formulas-here, formulas-length}
 use Rattle.meaning.proofs.ValuesLaws.{Distinct, stands-back, value-of, number-of, stands-place, place-stands}
-use Rattle.meaning.proofs.AskingLaws.{has-place, GrowsL, DistinctL, Asked, InLists, Covered, AllCovered, askRows-grows, askRows-distinct, askRows-covers}
+use Rattle.meaning.proofs.AskingLaws.{has-place, GrowsL, DistinctL, Asked, InLists, Covered, CoveredBy, Covers, covers-row, covers-rest, askFacts-grows, askFacts-distinct, askFacts-covers}
 use Rattle.meaning.proofs.StepLaws.{AllFine, asks-at, fine-row, eval-row, fine-snoc, fine-rows, variable-fits}
 
 -- no variable has more values than numbers
@@ -148,9 +148,10 @@ module _ (k : ℕ) (L : Lists) (d : DistinctL L) (s : Bits) (a : Assignment) (h 
       rw (lt-ltb _ _ p, eq-eqb _ _ q, matches-says gs ys (o .1) (i .1) (m .1))
   matches-says (constant c ∷ gs) (y ∷ ys) o i m = rw (eq-eqb c y (m .0), matches-says gs ys (o .1) i (m .1))
 
-pub sim-atom : (k : ℕ) (L : Lists) → DistinctL L → (e : Fact) (p : ℕ) (gs : List Argument) → ArgumentsOk gs → Covered e L (atom p gs)
-    → Sim k L (λ s. eqb (e .predicate) p && argumentsSay k L gs (e .values) s) (λ a. (e .predicate ≡ p) × Matches a gs (e .values))
-sim-atom k L d e p gs o cov = record {
+sim-fact : (k : ℕ) (L : Lists) → DistinctL L → (e : Fact) (p : ℕ) (gs : List Argument) → ArgumentsOk gs → Covered e L (atom p gs)
+    → Sim k L (factSays k L p gs e) (λ a. Matching a p gs e)
+unfolding factSays
+sim-fact k L d e p gs o cov = record {
   means = λ s a h. (
     λ z.
         let q = and-true-l (eqb (e .predicate) p) (argumentsSay k L gs (e .values) s) z in
@@ -161,12 +162,21 @@ sim-atom k L d e p gs o cov = record {
   );
 }
 
+-- some fact matches
+sim-atom : (k : ℕ) (L : Lists) → DistinctL L → (es : List Fact) (p : ℕ) (gs : List Argument) → ArgumentsOk gs → CoveredBy es L (atom p gs)
+    → Sim k L (atomSays k L p gs es) (λ a. Some (Matching a p gs) es)
+unfolding atomSays
+sim-atom k L d [] p gs o cov = record { means = λ s a h. (λ z. absurd (false-true refl z), λ z. absurd z) }
+sim-atom k L d (e ∷ es) p gs o cov = record {
+  means = λ s a h. iff-or _ _ _ _ (sim-fact k L d e p gs o (cov .0) .means s a h) (sim-atom k L d es p gs o (cov .1) .means s a h);
+}
+
 -- the functions at the places below n show the formulas there, at the position i
-abbrev pub Sims : ℕ → Lists → (ℕ → Fact) → ℕ → ℕ → (ℕ → Function) → List Formula → Type 0
+abbrev pub Sims : ℕ → Lists → (ℕ → List Fact) → ℕ → ℕ → (ℕ → Function) → List Formula → Type 0
 Sims k L σ i n f fs = (j : ℕ) → j < n → Sim k L (f j) (λ a. Holds σ (getD fs j Qtl.truth) i a)
 
-module _ (k : ℕ) (L : Lists) (σ : ℕ → Fact) (i : ℕ) (d : DistinctL L) (room : Enough k L) (old : List Tree) (wold : AllFine (4 * k) old) where
-  row-sim : (n : ℕ) (ts : List Tree) (fs : List Formula) (r : Row) → RowOk n r → AllFine (4 * k) ts → Covered (σ (suc i)) L r
+module _ (k : ℕ) (L : Lists) (σ : ℕ → List Fact) (i : ℕ) (d : DistinctL L) (room : Enough k L) (old : List Tree) (wold : AllFine (4 * k) old) where
+  row-sim : (n : ℕ) (ts : List Tree) (fs : List Formula) (r : Row) → RowOk n r → AllFine (4 * k) ts → CoveredBy (σ (suc i)) L r
       → Sims k L σ (suc i) n (saysAt ts) fs → Sims k L σ i n (saysAt old) fs
       → Sim k L (saysAt old (length ts)) (λ a. Holds σ (follow fs r) i a)
       → Sim k L (rowSays k L (σ (suc i)) (saysAt old) (saysAt ts) (length ts) r) (λ a. Holds σ (follow fs r) (suc i) a)
@@ -194,7 +204,7 @@ module _ (k : ℕ) (L : Lists) (σ : ℕ → Fact) (i : ℕ) (d : DistinctL L) (
         rw (a, b) t-f)
   ]
 
-  pub rows-sim : (rs : List Row) (ts : List Tree) (fs : List Formula) → length ts ≡ length fs → AllFine (4 * k) ts → RowsOk (length fs) rs → AllCovered (σ (suc i)) L rs
+  pub rows-sim : (rs : List Row) (ts : List Tree) (fs : List Formula) → length ts ≡ length fs → AllFine (4 * k) ts → RowsOk (length fs) rs → Covers (σ (suc i)) L rs
       → Sims k L σ (suc i) (length fs) (saysAt ts) fs → Sims k L σ i (length (formulasFrom fs rs)) (saysAt old) (formulasFrom fs rs)
       → Sims k L σ (suc i) (length (formulasFrom fs rs)) (saysAt (rowTrees k L (σ (suc i)) old ts rs)) (formulasFrom fs rs)
   unfolding formulasFrom rowTrees
@@ -208,12 +218,12 @@ module _ (k : ℕ) (L : Lists) (σ : ℕ → Fact) (i : ℕ) (d : DistinctL L) (
       let was′ : Sims k L σ i (length fs) (saysAt old) fs = λ j h. rw (formulas-keep (r ∷ rs) fs j h) at (was j (omega arith)) in
       let self : Sim k L (saysAt old (length ts)) (λ a. Holds σ f i a) = rw e (rw (formulas-here r rs fs) at (was (length fs) (omega arith))) in
       let t-f : Sim k L (eval t) (λ a. Holds σ f (suc i) a) =
-      sim-same k L (eval t) _ _ (eval-row k L (σ (suc i)) old wold ts r (length fs) w (o .0)) (row-sim (length fs) ts fs r (o .0) w (c .0) now was′ self) in
-      rows-sim rs (ts ++ t ∷ []) (fs ++ f ∷ []) (omega arith) (fine-snoc (4 * k) ts t w (fine-row k L (σ (suc i)) old wold ts r)) (rw n (o .1)) (c .1)
+      sim-same k L (eval t) _ _ (eval-row k L (σ (suc i)) old wold ts r (length fs) w (o .0)) (row-sim (length fs) ts fs r (o .0) w (covers-row (σ (suc i)) L r rs c) now was′ self) in
+      rows-sim rs (ts ++ t ∷ []) (fs ++ f ∷ []) (omega arith) (fine-snoc (4 * k) ts t w (fine-row k L (σ (suc i)) old wold ts r)) (rw n (o .1)) (covers-rest (σ (suc i)) L r rs c)
       (rw n (sims-snoc (suc i) ts fs t f e now t-f)) was
 
 -- nothing holds at position 0
-pub holds-zero : (σ : ℕ → Fact) (f : Formula) (a : Assignment) → Holds σ f 0 a → ⊥
+pub holds-zero : (σ : ℕ → List Fact) (f : Formula) (a : Assignment) → Holds σ f 0 a → ⊥
 holds-zero σ Qtl.truth a h = h
 holds-zero σ (Qtl.atom p gs) a h = h
 holds-zero σ (Qtl.both f g) a h = h
@@ -223,12 +233,12 @@ holds-zero σ (Qtl.previous f) a h = h
 holds-zero σ (Qtl.exists x f) a h = h
 
 -- what is shown after i events is the meaning
-pub record Faithful (k : ℕ) (rule : List Row) (σ : ℕ → Fact) (i : ℕ) (s : Shown) : Type 0 where
+pub record Faithful (k : ℕ) (rule : List Row) (σ : ℕ → List Fact) (i : ℕ) (s : Shown) : Type 0 where
   pub distinct : DistinctL (s .lists)
   pub fine : AllFine (4 * k) (s .trees)
   pub means : Sims k (s .lists) σ i (length rule) (saysAt (s .trees)) (formulas rule)
 
-pub fresh-faithful : (k : ℕ) (rule : List Row) (σ : ℕ → Fact) → Faithful k rule σ 0 (fresh rule)
+pub fresh-faithful : (k : ℕ) (rule : List Row) (σ : ℕ → List Fact) → Faithful k rule σ 0 (fresh rule)
 unfolding fresh eval saysAt
 fresh-faithful k rule σ = record {
   distinct = λ v i j p q e. absurd (omega arith);
@@ -242,17 +252,17 @@ fresh-faithful k rule σ = record {
     none : (f : Formula) → Sim k (λ v. []) (λ s. false) (λ a. Holds σ f 0 a)
     none f = record { means = λ s a h. (λ z. absurd (false-true refl z), λ z. absurd (holds-zero σ f a z)) }
 
-pub step-faithful : (k : ℕ) (rule : List Row) (σ : ℕ → Fact) (i : ℕ) (s : Shown) → RowsOk 0 rule → Faithful k rule σ i s
+pub step-faithful : (k : ℕ) (rule : List Row) (σ : ℕ → List Fact) (i : ℕ) (s : Shown) → RowsOk 0 rule → Faithful k rule σ i s
     → Enough k (step k rule s (σ (suc i)) .lists) → Faithful k rule σ (suc i) (step k rule s (σ (suc i)))
 unfolding step formulas
 step-faithful k rule σ i s o g room =
-    let L : Lists = askRows (σ (suc i)) (s .lists) rule in
-    let d : DistinctL L = askRows-distinct (σ (suc i)) rule (s .lists) (g .distinct) in
+    let L : Lists = askFacts (σ (suc i)) (s .lists) rule in
+    let d : DistinctL L = askFacts-distinct (σ (suc i)) rule (s .lists) (g .distinct) in
     let n : length (formulasFrom [] rule) ≡ length rule = formulas-length rule [] ∙ omega arith in
     let none : AllFine (4 * k) [] = λ j. fine-off 0 (4 * k) in
-    let was : Sims k L σ i (length rule) (saysAt (s .trees)) (formulasFrom [] rule) = λ j h. sim-grows k (s .lists) L _ _ (askRows-grows (σ (suc i)) rule (s .lists)) d (g .means j h) in
+    let was : Sims k L σ i (length rule) (saysAt (s .trees)) (formulasFrom [] rule) = λ j h. sim-grows k (s .lists) L _ _ (askFacts-grows (σ (suc i)) rule (s .lists)) d (g .means j h) in
     record {
       distinct = d;
       fine = fine-rows k L (σ (suc i)) (s .trees) (g .fine) rule [] none;
-      means = rw n at (rows-sim k L σ i d room (s .trees) (g .fine) rule [] [] refl none o (askRows-covers (σ (suc i)) rule (s .lists)) (λ j h. absurd (omega arith)) (rw n was));
+      means = rw n at (rows-sim k L σ i d room (s .trees) (g .fine) rule [] [] refl none o (askFacts-covers (σ (suc i)) rule (s .lists)) (λ j h. absurd (omega arith)) (rw n was));
     }

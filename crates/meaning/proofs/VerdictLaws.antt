@@ -1,4 +1,4 @@
--- A formula reads its free variables and the events up to its position only; a sentence's diagram is a leaf. Assumes nothing.
+-- A formula reads its free variables and the facts up to its position only, in whatever order; a sentence's diagram is a leaf. Assumes nothing.
 use Prim.Native.Nat.{ℕ, zero, suc, _+_, _-_, _*_, _≤_, _<_}
 use mathlib.Core.Path.{_≡_, refl, ap, sym, _∙_}
 use mathlib.Core.Bool.{Bool, true, false, not, _&&_, _||_}
@@ -12,7 +12,7 @@ use Rattle.trees.specs.Bits.{Bits, number}
 use Rattle.trees.specs.Tree.{Tree, off, on, eval, Fine, isOn}
 use Rattle.trees.proofs.Tests.{or-l, or-r, eqb-same, false-true, not-true}
 use Rattle.trees.proofs.TreeLaws.{canon, fine-off, fine-on}
-use Rattle.meaning.specs.Qtl.{Argument, variable, constant, Fact, Formula, Assignment, bind, Matches, Holds, free, freeArguments}
+use Rattle.meaning.specs.Qtl.{Argument, variable, constant, Fact, Formula, Assignment, bind, Matches, Some, SameFacts, Matching, Holds, free, freeArguments}
 use Rattle.meaning.specs.Qtl
 use Rattle.meaning.specs.Numbering.{Lists, Shows}
 use Rattle.meaning.proofs.ValuesLaws.{value-of}
@@ -31,6 +31,11 @@ matches-alike (variable w ∷ gs) (x ∷ xs) a b h p =
     (sym (h w (or-l (eqb w w) (freeArguments gs w) (eqb-same w))) ∙ p .0, matches-alike gs xs a b (λ v e. h v (or-r (eqb w v) (freeArguments gs v) e)) (p .1))
 matches-alike (constant c ∷ gs) (x ∷ xs) a b h p = (p .0, matches-alike gs xs a b h (p .1))
 
+some-alike : (q : ℕ) (gs : List Argument) (es : List Fact) (a b : Assignment) → Alike (freeArguments gs) a b → Some (Matching a q gs) es → Some (Matching b q gs) es
+some-alike q gs [] a b h p = p
+some-alike q gs (e ∷ es) a b h (inl p) = inl (p .0, matches-alike gs (e .values) a b h (p .1))
+some-alike q gs (e ∷ es) a b h (inr p) = inr (some-alike q gs es a b h p)
+
 bind-alike : (f : Formula) (x y : ℕ) (a b : Assignment) → Alike (free (Qtl.exists x f)) a b → Alike (free f) (bind a x y) (bind b x y)
 unfolding free
 bind-alike f x y a b h v e = elim (ℕ-discrete v x) [
@@ -38,15 +43,35 @@ bind-alike f x y a b h v e = elim (ℕ-discrete v x) [
   | no p ↦ bind-other a x y v p ∙ (h v (rw (ne-eqb x v (λ q. p (sym q))) e) ∙ sym (bind-other b x y v p))
 ]
 
--- facts alike up to a position
-abbrev pub AlikeTo : ℕ → (ℕ → Fact) → (ℕ → Fact) → Type 0
-AlikeTo i σ τ = (j : ℕ) → 0 < j → j ≤ i → σ j ≡ τ j
+-- what some fact of a list has, some fact of the same facts has
+some-fact : (P : Fact → Type 0) (es : List Fact) → Some P es → (f : Fact) × Some (λ e. e ≡ f) es × P f
+some-fact P [] p = absurd p
+some-fact P (e ∷ es) (inl p) = (e, inl refl, p)
+some-fact P (e ∷ es) (inr p) = let f = some-fact P es p in (f .0, inr (f .1), f .2)
+
+fact-some : (P : Fact → Type 0) (es : List Fact) (f : Fact) → Some (λ e. e ≡ f) es → P f → Some P es
+fact-some P [] f i p = i
+fact-some P (e ∷ es) f (inl q) p = inl (rw q p)
+fact-some P (e ∷ es) f (inr i) p = inr (fact-some P es f i p)
+
+some-same : (P : Fact → Type 0) (es fs : List Fact) → SameFacts es fs → Some P es → Some P fs
+some-same P es fs t p = let f = some-fact P es p in fact-some P fs (f .0) (t (f .0) .0 (f .1)) (f .2)
+
+-- the same facts up to a position
+abbrev pub AlikeTo : ℕ → (ℕ → List Fact) → (ℕ → List Fact) → Type 0
+AlikeTo i σ τ = (j : ℕ) → 0 < j → j ≤ i → SameFacts (σ j) (τ j)
+
+pub same-refl : (es fs : List Fact) → es ≡ fs → SameFacts es fs
+same-refl es fs e f = rw e (λ p. p, λ p. p)
+
+pub same-turn : (es fs : List Fact) → SameFacts es fs → SameFacts fs es
+same-turn es fs t f = (t f .1, t f .0)
 
 abbrev Reads : Formula → Type 0
-Reads f = (σ τ : ℕ → Fact) (i : ℕ) (a b : Assignment) → AlikeTo i σ τ → Alike (free f) a b → Holds σ f i a → Holds τ f i b
+Reads f = (σ τ : ℕ → List Fact) (i : ℕ) (a b : Assignment) → AlikeTo i σ τ → Alike (free f) a b → Holds σ f i a → Holds τ f i b
 
-turn : (i : ℕ) (σ τ : ℕ → Fact) → AlikeTo i σ τ → AlikeTo i τ σ
-turn i σ τ t j p q = sym (t j p q)
+turn : (i : ℕ) (σ τ : ℕ → List Fact) → AlikeTo i σ τ → AlikeTo i τ σ
+turn i σ τ t j p q = same-turn (σ j) (τ j) (t j p q)
 
 since-reads : (f g : Formula) → Reads f → Reads g → Reads (Qtl.since f g)
 unfolding free
@@ -62,8 +87,7 @@ holds-reads Qtl.truth σ τ zero a b t h p = p
 holds-reads Qtl.truth σ τ (suc i) a b t h p = p
 holds-reads (Qtl.atom q gs) σ τ zero a b t h p = p
 holds-reads (Qtl.atom q gs) σ τ (suc i) a b t h p =
-    let z : ((σ (suc i)) .predicate ≡ q) × Matches b gs ((σ (suc i)) .values) = (p .0, matches-alike gs ((σ (suc i)) .values) a b h (p .1)) in
-    rw (t (suc i) (omega arith) (omega arith)) at z
+    some-same (Matching b q gs) (σ (suc i)) (τ (suc i)) (t (suc i) (omega arith) (omega arith)) (some-alike q gs (σ (suc i)) a b h p)
 holds-reads (Qtl.both f g) σ τ zero a b t h p = p
 holds-reads (Qtl.both f g) σ τ (suc i) a b t h p =
     (holds-reads f σ τ (suc i) a b t (λ v e. h v (or-l (free f v) (free g v) e)) (p .0), holds-reads g σ τ (suc i) a b t (λ v e. h v (or-r (free f v) (free g v) e)) (p .1))
@@ -81,7 +105,7 @@ pub some-assignment : (k : ℕ) (L : Lists) (s : Bits) → (a : Assignment) × S
 some-assignment k L s = (λ v. value-of (L v) (number s (v * k) k) .0, λ v h. value-of (L v) (number s (v * k) k) .1)
 
 -- the diagram of a sentence is yes exactly if it holds
-pub sentence : (k : ℕ) (L : Lists) (t : Tree) (σ : ℕ → Fact) (f : Formula) (i : ℕ) → ((v : ℕ) → free f v ≡ false) → Fine 0 (4 * k) t
+pub sentence : (k : ℕ) (L : Lists) (t : Tree) (σ : ℕ → List Fact) (f : Formula) (i : ℕ) → ((v : ℕ) → free f v ≡ false) → Fine 0 (4 * k) t
     → Sim k L (eval t) (λ a. Holds σ f i a) → (a : Assignment) → (isOn t ≡ true) ↔ Holds σ f i a
 unfolding eval isOn
 sentence k L t σ f i c fine s a = go (eval t dark) refl
@@ -90,7 +114,7 @@ sentence k L t σ f i c fine s a = go (eval t dark) refl
     dark l = false
 
     any : (a b : Assignment) → Holds σ f i a → Holds σ f i b
-    any a b p = holds-reads f σ σ i a b (λ j q r. refl) (λ v e. absurd (false-true (c v) e)) p
+    any a b p = holds-reads f σ σ i a b (λ j q r. same-refl (σ j) (σ j) refl) (λ v e. absurd (false-true (c v) e)) p
 
     A : Bits → Assignment
     A e = some-assignment k L e .0

@@ -5,9 +5,10 @@ use mathlib.Core.Bool.{Bool, true, false, _||_}
 use mathlib.Core.List.{List, [], _∷_, _++_, map}
 use lib.Dec.{eqb}
 use Rattle.meaning.specs.declared.Event.{Event}
+use Rattle.meaning.specs.declared.Fact.{Fact as Given}
 use Rattle.meaning.specs.Qtl.{Argument, variable, constant, Fact}
 use Rattle.meaning.specs.Rows.{Row, truth, atom, both, neg, since, previous, exists}
-use Rattle.meaning.specs.Outcome.{factOf, Machine, shows}
+use Rattle.meaning.specs.Outcome.{factOf, given, factsOf, Each, Machine, shows}
 
 -- whether a value is in a list
 unfoldable pub among : ℕ → List ℕ → Bool
@@ -15,9 +16,13 @@ among x [] = false
 among x (y ∷ ys) = eqb x y || among x ys
 
 -- the values that the events use
+unfoldable pub usedIn : List Fact → List ℕ
+usedIn [] = []
+usedIn (f ∷ fs) = f .values ++ usedIn fs
+
 unfoldable pub used : List Event → List ℕ
 used [] = []
-used (e ∷ es) = factOf e .values ++ used es
+used (e ∷ es) = usedIn (factsOf e) ++ used es
 
 -- the rule's constants
 unfoldable pub constantsIn : List Argument → List ℕ
@@ -41,16 +46,23 @@ pub record Disguise (rule : List Row) (es : List Event) (π : ℕ → ℕ) : Typ
   pub keeps : (c : ℕ) → among c (constants rule) ≡ true → π c ≡ c
   pub else : (x c : ℕ) → among x (used es) ≡ true → among c (constants rule) ≡ true → π x ≡ c → x ≡ c
 
--- an event with all its values disguised, and a fact
+-- a fact, disguised, and an event: "Demand 3 renames all facts alike."
+unfoldable pub disguisedGiven : (ℕ → ℕ) → Given → Given
+disguisedGiven π f = record { predicate = f .predicate; count = f .count; values = map (λ v. record { 0 = π (v .0) }) (f .values) }
+
 unfoldable pub disguised : (ℕ → ℕ) → Event → Event
-disguised π e = record { predicate = e .predicate; count = e .count; values = map (λ v. record { 0 = π (v .0) }) (e .values) }
+disguised π e = record { count = e .count; facts = map (disguisedGiven π) (e .facts) }
 
 unfoldable pub disguisedFact : (ℕ → ℕ) → Fact → Fact
 disguisedFact π f = record { predicate = f .predicate; values = map π (f .values) }
 
--- f is e in disguise: "Values past an event's count are ignored", so f may have any there
+-- g is the fact f in disguise: "Values past an event's count are ignored", so g may have any there
+abbrev pub HiddenFact : (ℕ → ℕ) → Given → Given → Type 0
+HiddenFact π f g = (factOf g ≡ disguisedFact π (factOf f)) × (g .count ≡ f .count)
+
+-- f is e in disguise, fact by fact; facts past the count are ignored too
 abbrev pub Disguised : (ℕ → ℕ) → Event → Event → Type 0
-Disguised π e f = (factOf f ≡ disguisedFact π (factOf e)) × (f .count ≡ e .count)
+Disguised π e f = (f .count ≡ e .count) × Each (HiddenFact π) (given e) (given f)
 
 -- a log in disguise, event by event
 unfoldable pub DisguisedLog : (ℕ → ℕ) → List Event → List Event → Type 0

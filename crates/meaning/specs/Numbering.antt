@@ -53,7 +53,7 @@ askArguments L (g ∷ gs) [] = L
 askArguments L (variable v ∷ gs) (y ∷ ys) = askArguments (ask L v y) gs ys
 askArguments L (constant c ∷ gs) (y ∷ ys) = askArguments L gs ys
 
--- "Each atom that matches the event (predicate, constants, and equal values where a variable repeats)"
+-- "Each atom that matches the event [the fact] (predicate, constants, and equal values where a variable repeats)"
 unfoldable pub askRow : Fact → Lists → Row → Lists
 askRow e L truth = L
 askRow e L (atom p gs) = cond (eqb (e .predicate) p && fits gs (e .values)) (askArguments L gs (e .values)) L
@@ -63,10 +63,15 @@ askRow e L (since l r) = L
 askRow e L (previous r) = L
 askRow e L (exists x r) = L
 
--- "For an event, walk the rows in order."
+-- "For an event, walk the rows in order", of one fact
 unfoldable pub askRows : Fact → Lists → List Row → Lists
 askRows e L [] = L
 askRows e L (r ∷ rs) = askRows e (askRow e L r) rs
+
+-- "Numbers are asked fact by fact, rows in order within each."
+unfoldable pub askFacts : List Fact → Lists → List Row → Lists
+askFacts [] L rs = L
+askFacts (e ∷ es) L rs = askFacts es (askRows e L rs) rs
 
 -- no place of the list has the value
 abbrev pub Unseen : List ℕ → ℕ → Type 0

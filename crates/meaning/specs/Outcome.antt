@@ -9,11 +9,12 @@ use lib.ListN.{length, getD, take, drop, replicate}
 use Rattle.trees.specs.Tree.{off, isOn}
 use Rattle.meaning.specs.declared.State.{State}
 use Rattle.meaning.specs.declared.Event.{Event}
+use Rattle.meaning.specs.declared.Fact.{Fact as Given}
 use Rattle.meaning.specs.declared.Answer.{Answer}
 use Rattle.meaning.specs.declared.Answer.the-variants.{Started, Verdict, Refused}
 use Rattle.meaning.specs.Qtl.{Fact}
 use Rattle.meaning.specs.Rows.{Row, truth, atom, both, neg, since, previous, exists, rowCount, ruleOf, firstBelow, Found, right, fault, checkRows}
-use Rattle.meaning.specs.Numbering.{askRows}
+use Rattle.meaning.specs.Numbering.{askFacts}
 use Rattle.meaning.specs.Step.{Shown, step, roomOf}
 use Rattle.meaning.specs.Tables.{most, read, keptTable, layState, layNodes, layValues, wellFormed}
 
@@ -40,16 +41,33 @@ workSize C = 16 * C + 1024
 unfoldable pub cleared : ℕ → List ℕ → List ℕ
 cleared C work = replicate (workSize C) 0 ++ drop (workSize C) work
 
--- the fact of an event: "Values past an event's count are ignored."
-unfoldable pub factOf : Event → Fact
-factOf e = record { predicate = e .predicate; values = map (λ v. v .0) (take (e .count) (e .values)) }
+-- a fact that is handed in: "Values past an event's count are ignored."
+unfoldable pub factOf : Given → Fact
+factOf f = record { predicate = f .predicate; values = map (λ v. v .0) (take (f .count) (f .values)) }
 
--- f is e but for what is ignored: the same fact, and the same count
+-- "an event becomes a list of 0 to 8 facts"
+unfoldable pub given : Event → List Given
+given e = take (e .count) (e .facts)
+
+unfoldable pub factsOf : Event → List Fact
+factsOf e = map factOf (given e)
+
+-- the two lists are as long as each other, and R holds of each two facts at one place
+abbrev pub Each : (Given → Given → Type 0) → List Given → List Given → Type 0
+Each R [] [] = Unit {0}
+Each R [] (g ∷ gs) = ⊥
+Each R (f ∷ fs) [] = ⊥
+Each R (f ∷ fs) (g ∷ gs) = R f g × Each R fs gs
+
+-- g is f but for what is ignored: the same fact, and the same count; and so for all facts of an event
+abbrev pub SameGiven : Given → Given → Type 0
+SameGiven f g = (factOf g ≡ factOf f) × (g .count ≡ f .count)
+
 abbrev pub SameEvent : Event → Event → Type 0
-SameEvent e f = (factOf f ≡ factOf e) × (f .count ≡ e .count)
+SameEvent e f = (f .count ≡ e .count) × Each SameGiven (given e) (given f)
 
--- refusal 5 is given where this does not hold: "event count over 3, or not the rule's count for its predicate"
-unfoldable pub agrees : Event → Row → Bool
+-- refusal 5 of one fact is given where this does not hold: "event count over 3, or not the rule's count for its predicate"
+unfoldable pub agrees : Given → Row → Bool
 agrees e truth = true
 agrees e (atom p gs) = not (eqb (e .predicate) p) || eqb (length gs) (e .count)
 agrees e (both l r) = true
@@ -58,16 +76,24 @@ agrees e (since l r) = true
 agrees e (previous r) = true
 agrees e (exists x r) = true
 
-unfoldable pub allAgree : Event → List Row → Bool
+unfoldable pub allAgree : Given → List Row → Bool
 allAgree e [] = true
 allAgree e (r ∷ rs) = agrees e r && allAgree e rs
 
+unfoldable pub factRight : List Row → Given → Bool
+factRight rule f = leb (f .count) 3 && allAgree f rule
+
+unfoldable pub allRight : List Row → List Given → Bool
+allRight rule [] = true
+allRight rule (f ∷ fs) = factRight rule f && allRight rule fs
+
+-- "more than 8 facts gives 5; 5 also covers any fact in the list"
 unfoldable pub countRight : List Row → Event → Bool
-countRight rule e = leb (e .count) 3 && allAgree e rule
+countRight rule e = leb (e .count) 8 && allRight rule (given e)
 
 -- "a variable asks more numbers than it has left": the lowest such variable, or 4
-unfoldable pub shortest : ℕ → List Row → Shown → Fact → ℕ
-shortest k rule s e = firstBelow 4 (λ v. ltb (most k) (length (askRows e (s .lists) rule v)))
+unfoldable pub shortest : ℕ → List Row → Shown → List Fact → ℕ
+shortest k rule s es = firstBelow 4 (λ v. ltb (most k) (length (askFacts es (s .lists) rule v)))
 
 -- what is done with a call: it is taken, or refused with a number and a place
 pub data Decision : Type 0 where
@@ -144,17 +170,17 @@ decideEvent rows m e =
     let rule = ruleOf rows in
     let C = capacity (m .nodes) in
     let before = shows rows m in
-    let v = shortest k rule before (factOf e) in
+    let v = shortest k rule before (factsOf e) in
     judgeEvent
     (judgeStart (kRight k) (checkRows rows) (nodesRight (m .nodes) && (valuesRight k (m .values) && leb (workSize C) (length (m .work)))))
     (wellFormed k C rule (m .state) (m .nodes) (m .values))
     (countRight rule e) (ltb v 4) v
-    (leb (roomOf k rule (before .trees) (step k rule before (factOf e) .trees)) C)
+    (leb (roomOf k rule before (factsOf e) (step k rule before (factsOf e))) C)
 
 -- "A verdict returns yes or no, kept nodes and room."
-unfoldable pub verdictOf : ℕ → List Row → Shown → Shown → Answer
-verdictOf k rule before after =
-    Verdict (isOn (getD (after .trees) (length rule - 1) off)) (length (keptTable after)) (roomOf k rule (before .trees) (after .trees))
+unfoldable pub verdictOf : ℕ → List Row → Shown → List Fact → Shown → Answer
+verdictOf k rule before es after =
+    Verdict (isOn (getD (after .trees) (length rule - 1) off)) (length (keptTable after)) (roomOf k rule before es after)
 
 pub record EventOutcome : Type 0 where
   pub answer : Answer
@@ -167,9 +193,9 @@ settleEvent taken rows m e =
     let k = m .state .k in
     let C = capacity (m .nodes) in
     let before = shows rows m in
-    let after = step k (ruleOf rows) before (factOf e) in
+    let after = step k (ruleOf rows) before (factsOf e) in
     record {
-      answer = verdictOf k (ruleOf rows) before after;
+      answer = verdictOf k (ruleOf rows) before (factsOf e) after;
       left = record { state = layState k after; nodes = layNodes C after; values = layValues k (after .lists); work = cleared C (m .work) };
     }
 settleEvent (refused n p) rows m e = record {
@@ -189,17 +215,17 @@ unfoldable pub answers : List ℕ → Machine → List Event → List Answer
 answers rows m [] = []
 answers rows m (e ∷ es) = eventOutcome rows m e .answer ∷ answers rows (eventOutcome rows m e .left) es
 
-unfoldable pub withTaken : Decision → Event → List Fact → List Fact
-withTaken taken e fs = factOf e ∷ fs
+unfoldable pub withTaken : Decision → Event → List (List Fact) → List (List Fact)
+withTaken taken e fs = factsOf e ∷ fs
 withTaken (refused n p) e fs = fs
 
-unfoldable pub takenOf : List ℕ → Machine → List Event → List Fact
+unfoldable pub takenOf : List ℕ → Machine → List Event → List (List Fact)
 takenOf rows m [] = []
 takenOf rows m (e ∷ es) = withTaken (decideEvent rows m e) e (takenOf rows (eventOutcome rows m e .left) es)
 
--- the facts as the meaning counts them, from 1 on
-unfoldable pub log : List Fact → ℕ → Fact
-log fs i = getD fs (i - 1) (record { predicate = 0; values = [] })
+-- the events' facts as the meaning counts them, from 1 on
+unfoldable pub log : List (List Fact) → ℕ → List Fact
+log fs i = getD fs (i - 1) []
 
 -- the machine that a start leaves, with a work slice
 unfoldable pub machineOf : StartOutcome → List ℕ → Machine

@@ -2,7 +2,7 @@
 use Prim.Native.Nat.{ℕ, zero, suc, _+_, _-_, _*_, _/_, _%_, _≤_, _<_}
 use mathlib.Core.Path.{_≡_}
 use mathlib.Core.Bool.{Bool, true, false}
-use mathlib.Core.List.{List, []}
+use mathlib.Core.List.{List, [], _∷_}
 use mathlib.Core.Logic.{_≢_, _⊎_}
 use lib.ListN.{length, getD}
 use Rattle.trees.specs.Tree.{Tree, off, on, node}
@@ -11,12 +11,13 @@ use Rattle.trees.specs.Kept.{diagrams}
 use Rattle.trees.specs.Room.{Room}
 use Rattle.meaning.specs.declared.State.{State}
 use Rattle.meaning.specs.declared.Event.{Event}
+use Rattle.meaning.specs.declared.Fact.{Fact as Given}
 use Rattle.meaning.specs.Qtl.{Argument, free}
 use Rattle.meaning.specs.Rows.{Row, truth, atom, rowFault, rowCount, ruleOf, formulaAt}
-use Rattle.meaning.specs.Numbering.{askRows}
+use Rattle.meaning.specs.Numbering.{askFacts}
 use Rattle.meaning.specs.Step.{step, counted}
 use Rattle.meaning.specs.Tables.{most, part, listOf, freeLevel}
-use Rattle.meaning.specs.Outcome.{capacity, workSize, factOf, Machine, shows}
+use Rattle.meaning.specs.Outcome.{capacity, workSize, given, factsOf, Machine, shows}
 
 -- 1: "k not in 1..10"
 abbrev pub BadK : ℕ → Type 0
@@ -97,24 +98,32 @@ pub data IllFormed (k C : ℕ) (rule : List Row) (s : State) (nodes values : Lis
   value-twice : (v i j : ℕ) → v < 4 → i < length (listOf k s values v) → j < i → getD (listOf k s values v) i 0 ≡ getD (listOf k s values v) j 0
       → IllFormed k C rule s nodes values
 
--- 5: "event count over 3, or not the rule's count for its predicate"
-pub record OtherCount (rows : List ℕ) (e : Event) : Type 0 where
+-- 5: "event count over 3, or not the rule's count for its predicate", of one fact
+pub record OtherCount (rows : List ℕ) (f : Given) : Type 0 where
   pub place : ℕ
   pub inside : place < rowCount rows
   pub arguments : List Argument
-  pub row-is : getD (ruleOf rows) place truth ≡ atom (e .predicate) arguments
-  pub differs : length arguments ≢ e .count
+  pub row-is : getD (ruleOf rows) place truth ≡ atom (f .predicate) arguments
+  pub differs : length arguments ≢ f .count
+
+abbrev pub BadFact : List ℕ → Given → Type 0
+BadFact rows f = (3 < f .count) ⊎ OtherCount rows f
+
+-- "5 also covers any fact in the list"
+abbrev pub SomeBad : List ℕ → List Given → Type 0
+SomeBad rows [] = ⊥
+SomeBad rows (f ∷ fs) = BadFact rows f ⊎ SomeBad rows fs
 
 -- 6: "a variable asks more numbers than it has left": v is the "lowest such variable"
 pub record Short (rows : List ℕ) (m : Machine) (e : Event) (v : ℕ) : Type 0 where
   pub bound : v < 4
-  pub over : most (m .state .k) < length (askRows (factOf e) (shows rows m .lists) (ruleOf rows) v)
-  pub lowest : (w : ℕ) → w < v → length (askRows (factOf e) (shows rows m .lists) (ruleOf rows) w) ≤ most (m .state .k)
+  pub over : most (m .state .k) < length (askFacts (factsOf e) (shows rows m .lists) (ruleOf rows) v)
+  pub lowest : (w : ℕ) → w < v → length (askFacts (factsOf e) (shows rows m .lists) (ruleOf rows) w) ≤ most (m .state .k)
 
 -- 7: "room over C", by the room of `Room`
 pub record NoRoom (rows : List ℕ) (m : Machine) (e : Event) : Type 0 where
   pub room : ℕ
-  pub is : Room (4 * m .state .k) (counted (m .state .k) (ruleOf rows) (shows rows m .trees) (step (m .state .k) (ruleOf rows) (shows rows m) (factOf e) .trees)) room
+  pub is : Room (4 * m .state .k) (counted (m .state .k) (ruleOf rows) (shows rows m) (factsOf e) (step (m .state .k) (ruleOf rows) (shows rows m) (factsOf e))) room
   pub over : capacity (m .nodes) < room
 
 -- the sentence of refusal number n at place p, for start; and for event
@@ -132,7 +141,7 @@ Sentence rows m e (suc (suc zero)) p = BadRows rows p
 Sentence rows m e (suc (suc (suc zero))) p = (p ≡ 0) × (BadNodes (m .nodes) ⊎ (BadValues (m .state .k) (m .values) ⊎ BadWork (m .nodes) (m .work)))
 Sentence rows m e (suc (suc (suc (suc zero)))) p =
     (p ≡ 0) × IllFormed (m .state .k) (capacity (m .nodes)) (ruleOf rows) (m .state) (m .nodes) (m .values)
-Sentence rows m e (suc (suc (suc (suc (suc zero))))) p = (p ≡ 0) × ((3 < e .count) ⊎ OtherCount rows e)
+Sentence rows m e (suc (suc (suc (suc (suc zero))))) p = (p ≡ 0) × ((8 < e .count) ⊎ SomeBad rows (given e))
 Sentence rows m e (suc (suc (suc (suc (suc (suc zero)))))) p = Short rows m e p
 Sentence rows m e (suc (suc (suc (suc (suc (suc (suc zero))))))) p = (p ≡ 0) × NoRoom rows m e
 Sentence rows m e (suc (suc (suc (suc (suc (suc (suc (suc n)))))))) p = ⊥

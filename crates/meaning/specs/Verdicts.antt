@@ -13,7 +13,7 @@ use Rattle.meaning.specs.Qtl.{Fact, Assignment, Holds}
 use Rattle.meaning.specs.Rows.{ruleOf, formulaAt}
 use Rattle.meaning.specs.Step.{OneStep, counted}
 use Rattle.meaning.specs.Tables.{keptTable, wellFormed}
-use Rattle.meaning.specs.Outcome.{capacity, cleared, factOf, Machine, shows, log}
+use Rattle.meaning.specs.Outcome.{capacity, cleared, factsOf, Machine, shows, log}
 
 -- an event got m, answered y with n kept nodes and room r, and left m′
 module _ (rows : List ℕ) (m : Machine) (e : Event) (y : Bool) (n r : ℕ) (m′ : Machine) where
@@ -23,12 +23,12 @@ module _ (rows : List ℕ) (m : Machine) (e : Event) (y : Bool) (n r : ℕ) (m�
     pub kept : n ≡ m′ .state .kept
     pub nodes-kept : n ≡ length (keptTable (shows rows m′))
     -- "The room is the number of different functions so got that are not constant."
-    pub room : Room (4 * m .state .k) (counted (m .state .k) (ruleOf rows) (shows rows m .trees) (shows rows m′ .trees)) r
+    pub room : Room (4 * m .state .k) (counted (m .state .k) (ruleOf rows) (shows rows m) (factsOf e) (shows rows m′)) r
 
   -- "Promise for any well-formed state, from a fresh start or not: the functions shown by the diagrams go to those that one step
   -- of the meaning gives, read over numbers."
   pub record Stepped : Type 0 where
-    pub step : OneStep (m .state .k) (ruleOf rows) (shows rows m) (factOf e) (shows rows m′)
+    pub step : OneStep (m .state .k) (ruleOf rows) (shows rows m) (factsOf e) (shows rows m′)
     -- the new state is well formed, with the same k and C
     pub formed : wellFormed (m .state .k) (capacity (m .nodes)) (ruleOf rows) (m′ .state) (m′ .nodes) (m′ .values) ≡ true
     pub k-stays : m′ .state .k ≡ m .state .k
@@ -40,6 +40,6 @@ module _ (rows : List ℕ) (m : Machine) (e : Event) (y : Bool) (n r : ℕ) (m�
     pub work : m′ .work ≡ cleared (capacity (m .nodes)) (m .work)
 
   -- "after every event taken, the verdict [is] what QTL says": fs are the facts of the events taken before this one
-  pub record Answered (fs : List Fact) : Type 0 where
-    pub verdict : (a : Assignment) → (y ≡ true) ↔ Holds (log (fs ++ factOf e ∷ [])) (formulaAt (ruleOf rows) (length (ruleOf rows) - 1)) (suc (length fs)) a
+  pub record Answered (fs : List (List Fact)) : Type 0 where
+    pub verdict : (a : Assignment) → (y ≡ true) ↔ Holds (log (fs ++ factsOf e ∷ [])) (formulaAt (ruleOf rows) (length (ruleOf rows) - 1)) (suc (length fs)) a
     pub counts : Counts

@@ -11,7 +11,7 @@ use Rattle.meaning.specs.declared.Answer.the-variants.{Refused}
 use Rattle.meaning.specs.Rows.{ruleOf, right, fault, checkRows}
 use Rattle.meaning.specs.Step.{step, roomOf}
 use Rattle.meaning.specs.Tables.{wellFormed}
-use Rattle.meaning.specs.Outcome.{kRight, capacity, nodesRight, valuesRight, workSize, cleared, factOf, countRight, shortest, Decision, taken, refused, judgeStart, judgeEvent, decideEvent, Machine, shows, EventOutcome, settleEvent, eventOutcome}
+use Rattle.meaning.specs.Outcome.{kRight, capacity, nodesRight, valuesRight, workSize, cleared, factsOf, countRight, shortest, Decision, taken, refused, judgeStart, judgeEvent, decideEvent, Machine, shows, EventOutcome, settleEvent, eventOutcome}
 
 module _ (rows : List ℕ) (m : Machine) (e : Event) where
   -- the tests of an event, by name
@@ -22,10 +22,10 @@ module _ (rows : List ℕ) (m : Machine) (e : Event) where
   formed = wellFormed (m .state .k) (capacity (m .nodes)) (ruleOf rows) (m .state) (m .nodes) (m .values)
 
   abbrev pub short : ℕ
-  short = shortest (m .state .k) (ruleOf rows) (shows rows m) (factOf e)
+  short = shortest (m .state .k) (ruleOf rows) (shows rows m) (factsOf e)
 
   abbrev pub fitting : Bool
-  fitting = leb (roomOf (m .state .k) (ruleOf rows) (shows rows m .trees) (step (m .state .k) (ruleOf rows) (shows rows m) (factOf e) .trees)) (capacity (m .nodes))
+  fitting = leb (roomOf (m .state .k) (ruleOf rows) (shows rows m) (factsOf e) (step (m .state .k) (ruleOf rows) (shows rows m) (factsOf e))) (capacity (m .nodes))
 
   pub decides-1 : kRight (m .state .k) ≡ false → decideEvent rows m e ≡ refused 1 0
   unfolding decideEvent judgeStart judgeEvent

@@ -11,6 +11,7 @@ use Rattle.trees.specs.Tree.{Tree, off, on, node, isOn}
 use Rattle.trees.specs.Table.{find, refOf}
 use Rattle.meaning.specs.declared.State.{State}
 use Rattle.meaning.specs.declared.Answer.the-variants.{Verdict}
+use Rattle.meaning.specs.Qtl.{Fact}
 use Rattle.meaning.specs.Rows.{Row}
 use Rattle.meaning.specs.Numbering.{Lists}
 use Rattle.meaning.specs.Step.{Shown, roomOf}
@@ -51,8 +52,8 @@ map-at f (t ∷ ts) zero h = refl
 map-at f (t ∷ ts) (suc i) h = map-at f ts i (omega arith)
 
 -- the verdict is read off the last row's reference
-pub verdict-is : (k n : ℕ) (rule : List Row) (before after : Shown) → length rule ≡ n → length (after .trees) ≡ n → 0 < n
-    → verdictOf k rule before after ≡ Verdict (eqb (getD (layState k after .refs) (n - 1) 0) 1) (length (keptTable after)) (roomOf k rule (before .trees) (after .trees))
+pub verdict-is : (k n : ℕ) (rule : List Row) (before : Shown) (es : List Fact) (after : Shown) → length rule ≡ n → length (after .trees) ≡ n → 0 < n
+    → verdictOf k rule before es after ≡ Verdict (eqb (getD (layState k after .refs) (n - 1) 0) 1) (length (keptTable after)) (roomOf k rule before es after)
 unfolding verdictOf layState padded
-verdict-is k n rule before after r t pos =
+verdict-is k n rule before es after r t pos =
     rw (r, List·getD-append (map (refOf (keptTable after)) (after .trees)) _ 0 (n - 1) (rw length-map (omega arith)), map-at (refOf (keptTable after)) (after .trees) (n - 1) (omega arith), yes-ref (keptTable after) (getD (after .trees) (n - 1) off))

@@ -12,33 +12,32 @@ use Rattle.trees.proofs.Tests.{and-true, and-true-l, and-true-r}
 use Rattle.trees.proofs.KeptLaws.{of-kept}
 use Rattle.meaning.specs.declared.Event.{Event}
 use Rattle.meaning.specs.Rows.{Row, truth, ruleOf, rowCount, firstBelow, right, checkRows}
-use Rattle.meaning.specs.Numbering.{askRows}
+use Rattle.meaning.specs.Numbering.{askFacts}
 use Rattle.meaning.specs.Step.{Shown, step, roomOf}
 use Rattle.meaning.specs.Tables.{most, read, keptTable, freeLevel, wellFormed}
-use Rattle.meaning.specs.Outcome.{kRight, capacity, nodesRight, valuesRight, workSize, factOf, shortest, Machine, Arrays, shows}
+use Rattle.meaning.specs.Outcome.{kRight, capacity, nodesRight, valuesRight, workSize, factsOf, shortest, Machine, Arrays, shows}
 use Rattle.meaning.proofs.RowsLaws.{checked, rows-length, first-none}
 use Rattle.meaning.proofs.ProperLaws.{Proper, kept-is}
 use Rattle.meaning.proofs.Simulation.{Enough}
 use Rattle.meaning.proofs.RunLaws.{positive, few}
 use Rattle.meaning.proofs.AnyState.{laid-formed}
 use Rattle.rule.specs.Checking.{Free}
-use Rattle.diagram.specs.declared.Instruction.{Instruction}
 use Rattle.diagram.specs.declared.Instruction.the-variants.{Yes}
 use Rattle.keeping.specs.Checks.{freeBy}
-use Rattle.diagram.specs.Steps.{fits, judge, judgeFormed, stepOutcome, formedOutcome}
-use Rattle.instructions.specs.Plan.{instructionOf}
+use Rattle.diagram.specs.Steps.{Task, does, fits, judge, judgeFormed, stepOutcome, formedOutcome}
+use Rattle.instructions.specs.Plan.{taskOf}
 use Rattle.instructions.specs.Worked.{workedOutcome}
 use Rattle.instructions.proofs.OutcomeLaws.{plan-work}
 use Rattle.monitor.proofs.FormedLaws.{kept-by-masks}
 use Rattle.monitor.proofs.DecisionLaws.{lengths, formed, short, fitting}
 
 -- no variable is short
-pub enough-left : (rows : List ℕ) (m : Machine) (e : Event) → ltb (short rows m e) 4 ≡ false → Enough (m .state .k) (askRows (factOf e) (shows rows m .lists) (ruleOf rows))
+pub enough-left : (rows : List ℕ) (m : Machine) (e : Event) → ltb (short rows m e) 4 ≡ false → Enough (m .state .k) (askFacts (factsOf e) (shows rows m .lists) (ruleOf rows))
 unfolding shortest
-enough-left rows m e g v h = unfold most in ltb-false (most (m .state .k)) (length (askRows (factOf e) (shows rows m .lists) (ruleOf rows) v)) (first-none 4 f v less)
+enough-left rows m e g v h = unfold most in ltb-false (most (m .state .k)) (length (askFacts (factsOf e) (shows rows m .lists) (ruleOf rows) v)) (first-none 4 f v less)
   where
     f : ℕ → Bool
-    f w = ltb (most (m .state .k)) (length (askRows (factOf e) (shows rows m .lists) (ruleOf rows) w))
+    f w = ltb (most (m .state .k)) (length (askFacts (factsOf e) (shows rows m .lists) (ruleOf rows) w))
 
     less : v < firstBelow 4 f
     less = let t = ltb-false (firstBelow 4 f) 4 g in omega arith
@@ -84,17 +83,17 @@ module _ (rows : List ℕ) (m : Machine) (e : Event) (kr : kRight (m .state .k) 
   formed-told = rw (fit, kept-by-masks rows cr masks free (m .state .k) (length (m .nodes) / 3) (m .state .refs) (m .state .kept) (m .nodes))
 
   -- a step on diagrams that are not well kept
-  pub step-bad : (plan : List Instruction) → wellKept (freeLevel (m .state .k) (ruleOf rows)) (capacity (m .nodes)) (length (ruleOf rows)) (m .state .refs) (m .state .kept) (m .nodes) ≡ false
+  pub step-bad : (plan : List Task) → wellKept (freeLevel (m .state .k) (ruleOf rows)) (capacity (m .nodes)) (length (ruleOf rows)) (m .state .refs) (m .state .kept) (m .nodes) ≡ false
       → stepOutcome (m .state .k) (length (ruleOf rows)) plan masks (m .state .refs) (m .state .kept) (m .nodes) (m .work)
       ≡ judge true false (m .state .refs) (m .nodes) (m .work) (stepOutcome (m .state .k) (length (ruleOf rows)) plan masks (m .state .refs) (m .state .kept) (m .nodes) (m .work))
   unfolding stepOutcome capacity
   step-bad plan h = rw (fit, kept-by-masks rows cr masks free (m .state .k) (length (m .nodes) / 3) (m .state .refs) (m .state .kept) (m .nodes), h)
 
   -- a step on a well-formed state, where no variable is short
-  module _ (arrays : Arrays m) (wf : formed rows m e ≡ true) (left : ltb (short rows m e) 4 ≡ false) (plan : List Instruction)
-      (planned : (i : ℕ) → i < length (ruleOf rows) → getD plan i Yes ≡ instructionOf (askRows (factOf e) (shows rows m .lists) (ruleOf rows)) (factOf e) (getD (ruleOf rows) i truth)) where
+  module _ (arrays : Arrays m) (wf : formed rows m e ≡ true) (left : ltb (short rows m e) 4 ≡ false) (plan : List Task)
+      (planned : (i : ℕ) → i < length (ruleOf rows) → getD plan i (does Yes) ≡ taskOf (askFacts (factsOf e) (shows rows m .lists) (ruleOf rows)) (factsOf e) (getD (ruleOf rows) i truth)) where
     pub step-works : stepOutcome (m .state .k) (length (ruleOf rows)) plan masks (m .state .refs) (m .state .kept) (m .nodes) (m .work)
-        ≡ workedOutcome (fitting rows m e) (m .state .k) (capacity (m .nodes)) (ruleOf rows) (shows rows m) (step (m .state .k) (ruleOf rows) (shows rows m) (factOf e)) (m .state .refs) (m .nodes) (m .work)
+        ≡ workedOutcome (fitting rows m e) (m .state .k) (capacity (m .nodes)) (ruleOf rows) (shows rows m) (factsOf e) (step (m .state .k) (ruleOf rows) (shows rows m) (factsOf e)) (m .state .refs) (m .nodes) (m .work)
     unfolding stepOutcome capacity
     step-works =
         let C : ℕ = length (m .nodes) / 3 in
@@ -103,5 +102,5 @@ module _ (rows : List ℕ) (m : Machine) (e : Event) (kr : kRight (m .state .k) 
         let kept : wellKept (freeLevel (m .state .k) (ruleOf rows)) C (length (ruleOf rows)) (m .state .refs) (m .state .kept) (m .nodes) ≡ true =
         of-kept (freeLevel (m .state .k) (ruleOf rows)) C (length (ruleOf rows)) (m .state .refs) (m .state .kept) (m .nodes) w in
         rw (fit, kept-by-masks rows cr masks free (m .state .k) C (m .state .refs) (m .state .kept) (m .nodes), kept)
-        (plan-work (m .state .k) C (positive rows (m .state .k) C kr cr) (ruleOf rows) (checked rows cr .rows) (shows rows m) (factOf e) (p .fine) (p .distinct) (enough-left rows m e left) plan planned
+        (plan-work (m .state .k) C (positive rows (m .state .k) C kr cr) (ruleOf rows) (checked rows cr .rows) (shows rows m) (factsOf e) (p .fine) (p .distinct) (enough-left rows m e left) plan planned
         (m .state .refs) (m .nodes) (m .work) (m .state .kept) (few rows (m .state .k) C kr cr) whole refl (trees-are rows m) (rw (trees-are rows m) (w .order)))

@@ -6,8 +6,8 @@ use mathlib.Core.List.{List, []}
 use mathlib.Core.Logic.{⊎-elim}
 use native.Mathlib.Omega.{arith}
 use lib.Dec.{eqb, ltb, leb}
-use lib.ListN.{length, getD, length-map, List·getD-map}
-use lib.Seq.{ext-getD}
+use lib.ListN.{length, getD, take, length-map, List·getD-map}
+use lib.Seq.{ext-getD, length-take-le}
 use borrow.Author.Tests.{eqb-true, leb-true, le-ltb}
 use Rattle.trees.specs.Kept.{allBelow, wellKept}
 use Rattle.trees.proofs.Tests.{bool, and-true-l, and-true-r}
@@ -16,27 +16,25 @@ use Rattle.meaning.specs.declared.State.{State}
 use Rattle.meaning.specs.declared.Event.{Event}
 use Rattle.meaning.specs.declared.Turn.{Turn}
 use Rattle.meaning.specs.Rows.{truth, rowAt, rowCount, ruleOf, firstBelow}
-use Rattle.meaning.specs.Numbering.{Lists, place, listed, askRows}
+use Rattle.meaning.specs.Numbering.{Lists, place, askFacts}
 use Rattle.meaning.specs.Step.{Shown, step, roomOf}
 use Rattle.meaning.specs.Tables.{most, read, listOf, listRight, keptTable, layState, layNodes, layValues, freeLevel}
-use Rattle.meaning.specs.Outcome.{capacity, nodesRight, valuesRight, cleared, workSize, factOf, allAgree, countRight, taken, refused, judgeEvent, decideEvent, Machine, shows, EventOutcome, settleEvent, eventOutcome, verdictOf}
+use Rattle.meaning.specs.Outcome.{capacity, nodesRight, valuesRight, cleared, workSize, factOf, given, factsOf, allRight, countRight, taken, refused, judgeEvent, decideEvent, Machine, shows, EventOutcome, settleEvent, eventOutcome, verdictOf}
 use Rattle.meaning.proofs.StepLaws.{trees-length}
 use Rattle.meaning.proofs.RunLaws.{few, Laid}
 use Rattle.meaning.proofs.AnyState.{laid-formed}
 use Rattle.numbers.specs.declared.Asked.{Asked}
-use Rattle.numbers.specs.Asking.{withFresh, withCounts, numberIn, Asks, Askable}
-use Rattle.numbers.proofs.PlaceLaws.{listed-of}
-use Rattle.numbers.proofs.AskedLaws.{lists-of}
+use Rattle.numbers.specs.Asking.{withFresh, withCounts, bare, factAt, Asks, Askable}
+use Rattle.numbers.proofs.AskedLaws.{lists-of, numbers-right}
 use Rattle.lists.specs.Writing.{Writable}
 use Rattle.lists.proofs.WrittenLaws.{shortest-is, writable, written-is}
-use Rattle.diagram.specs.declared.Instruction.{Instruction}
 use Rattle.diagram.specs.declared.Instruction.the-variants.{Yes}
 use Rattle.diagram.specs.declared.Told.{Told}
 use Rattle.diagram.specs.declared.Told.the-variants.{Unfit, Bad, Full, Done}
 use Rattle.diagram.specs.Steps
-use Rattle.diagram.specs.Steps.{judge, formedOutcome, stepOutcome, Leaves}
+use Rattle.diagram.specs.Steps.{Task, does, judge, formedOutcome, stepOutcome, Leaves}
 use Rattle.diagram.specs.Counts.{Visited, Visits}
-use Rattle.instructions.specs.Plan.{instructionOf, planOf}
+use Rattle.instructions.specs.Plan.{taskOf, planOf}
 use Rattle.instructions.specs.Planned.{planned}
 use Rattle.instructions.specs.Worked.{workedOutcome}
 use Rattle.instructions.proofs.ReadLaws.{NumbersRight}
@@ -56,15 +54,15 @@ pub lists-are : (rows : List ℕ) (m : Machine) → shows rows m .lists ≡ list
 unfolding shows read
 lists-are rows m = lists-of (m .state .k) (m .state) (m .values)
 
--- a number is the value's place
-number-place : (xs : List ℕ) (y : ℕ) → (numberIn xs y ≡ 4294967295 → ⊥) → numberIn xs y ≡ place xs y
-unfolding numberIn
-number-place xs y h = rw (listed-of xs y h) refl
-
--- an event that agrees has few values
-pub few-values : (rows : List ℕ) (e : Event) → countRight (ruleOf rows) e ≡ true → e .count ≤ 3
+-- an event that agrees has few facts
+pub few-facts : (rows : List ℕ) (e : Event) → countRight (ruleOf rows) e ≡ true → e .count ≤ 8
 unfolding countRight
-few-values rows e h = leb-true (e .count) 3 (and-true-l (leb (e .count) 3) (allAgree e (ruleOf rows)) h)
+few-facts rows e h = leb-true (e .count) 8 (and-true-l (leb (e .count) 8) (allRight (ruleOf rows) (given e)) h)
+
+-- its facts are as many as its count says
+facts-count : (e : Event) → e .count ≤ length (e .facts) → length (factsOf e) ≡ e .count
+unfolding factsOf given
+facts-count e l = length-map (take (e .count) (e .facts)) factOf ∙ length-take-le (e .count) (e .facts) l
 
 -- where the lists are right, an event can ask
 module _ (rows masks : List ℕ) (m : Machine) (e : Event) (l : Listed rows masks m) where
@@ -82,15 +80,15 @@ module _ (rows masks : List ℕ) (m : Machine) (e : Event) (l : Listed rows mask
       (all-at 4 (listRight (m .state .k) (m .state) (m .values)) (and-true-r (eqb (m .state .rows) (length (ruleOf rows))) (allBelow 4 (listRight (m .state .k) (m .state) (m .values))) (l .lists)) v h))
 
   pub askable : countRight (ruleOf rows) e ≡ true → Askable (m .state .k) (m .state .counts) (m .values) rows e
-  askable c = record { bits = k-small (m .state .k) (l .k-right); counts = counts-few; parts = values-length; checked = l .rule-right; few = few-values rows e c }
+  askable c = record { bits = k-small (m .state .k) (l .k-right); counts = counts-few; parts = values-length; checked = l .rule-right; agreed = c }
 
   -- the variable that is short, if one is
   module _ (a : Asked) (t : Asks (m .state .k) (m .state .counts) (m .values) rows e a) where
     short-is : firstBelow 4 (λ v. ltb (most (m .state .k)) (getD (a .counts) v 0)) ≡ short rows m e
     short-is = shortest-is (m .state .k) (m .state .counts) (m .values) rows e a t (shows rows m) (lists-are rows m)
 
-    pub asking : countRight (ruleOf rows) e ≡ true → (v : ℕ) → v ≡ firstBelow 4 (λ w. ltb (most (m .state .k)) (getD (a .counts) w 0)) → 4 ≤ v → Asking rows masks m e a
-    asking c v q h = record { listed = l; count-right = c; enough = le-ltb _ _ (subst (λ (n : ℕ). 4 ≤ n) (q ∙ short-is) h); asks = t }
+    pub asking : countRight (ruleOf rows) e ≡ true → (v : ℕ) → v ≡ firstBelow 4 (λ w. ltb (most (m .state .k)) (getD (a .counts) w 0)) → 4 ≤ v → length (e .facts) ≡ 8 → Asking rows masks m e a
+    asking c v q h eight = record { facts = eight; listed = l; count-right = c; enough = le-ltb _ _ (subst (λ (n : ℕ). 4 ≤ n) (q ∙ short-is) h); asks = t }
 
     -- refusal 6
     pub refuses-6 : countRight (ruleOf rows) e ≡ true → (v : ℕ) → v ≡ firstBelow 4 (λ w. ltb (most (m .state .k)) (getD (a .counts) w 0)) → v < 4
@@ -108,17 +106,18 @@ module _ (rows masks : List ℕ) (m : Machine) (e : Event) (l : Listed rows mask
 
 module _ (rows masks : List ℕ) (m : Machine) (e : Event) (a : Asked) (s : Asking rows masks m e a) where
   abbrev after : Shown
-  after = step (m .state .k) (ruleOf rows) (shows rows m) (factOf e)
+  after = step (m .state .k) (ruleOf rows) (shows rows m) (factsOf e)
 
   abbrev C : ℕ
   C = capacity (m .nodes)
 
-  numbers-right : (i : ℕ) → i < rowCount rows → NumbersRight (factOf e) (askRows (factOf e) (shows rows m .lists) (ruleOf rows)) (rowAt rows i) (a .numbers)
-  numbers-right i li v j lv q =
-      let g = s .asks .asked v j lv (i, li, q) in
-      let n : getD (a .numbers) (3 * v + j) 0 ≡ numberIn (askRows (factOf e) (shows rows m .lists) (ruleOf rows) v) (getD (factOf e .values) j 0) =
-      s .asks .tally .numbers v j lv (g .0) (g .1) ∙ ap (λ (L : Lists). numberIn (askRows (factOf e) L (ruleOf rows) v) (getD (factOf e .values) j 0)) (sym (lists-are rows m)) in
-      n ∙ number-place (askRows (factOf e) (shows rows m .lists) (ruleOf rows) v) (getD (factOf e .values) j 0) (λ z. g .1 (n ∙ z))
+  right-numbers : (i f : ℕ) → i < rowCount rows → f < e .count → NumbersRight (factAt e f) (askFacts (factsOf e) (shows rows m .lists) (ruleOf rows)) (rowAt rows i) (a .given) f
+  right-numbers i f li lf v j lv q =
+      numbers-right (m .state .k) (m .state .counts) (m .values) rows e a (s .asks) f i v j lf li lv q
+      ∙ ap (λ (L : Lists). place (askFacts (factsOf e) L (ruleOf rows) v) (getD (factAt e f .values) j 0)) (sym (lists-are rows m))
+
+  count-facts : length (factsOf e) ≡ e .count
+  count-facts = facts-count e (omega (arith, few-facts rows e (s .count-right), s .facts))
 
   same-rows : m .state .rows ≡ length (ruleOf rows)
   same-rows = rows-are rows m e masks (s .listed)
@@ -134,11 +133,11 @@ module _ (rows masks : List ℕ) (m : Machine) (e : Event) (a : Asked) (s : Aski
   pub data Ended (x : Told) (rs ns ws : List ℕ) : Type 0 where
     bad : formed rows m e ≡ false → x ≡ Bad → rs ≡ m .state .refs → ns ≡ m .nodes → ws ≡ cleared C (m .work) → Ended x rs ns ws
     full : formed rows m e ≡ true → fitting rows m e ≡ false → x ≡ Full → rs ≡ m .state .refs → ns ≡ m .nodes → ws ≡ cleared C (m .work) → Ended x rs ns ws
-    done : formed rows m e ≡ true → fitting rows m e ≡ true → x ≡ Done (length (keptTable after)) (roomOf (m .state .k) (ruleOf rows) (shows rows m .trees) (after .trees))
+    done : formed rows m e ≡ true → fitting rows m e ≡ true → x ≡ Done (length (keptTable after)) (roomOf (m .state .k) (ruleOf rows) (shows rows m) (factsOf e) after)
         → rs ≡ layState (m .state .k) after .refs → ns ≡ layNodes C after → ws ≡ cleared C (m .work) → Ended x rs ns ws
 
-  abbrev plan : List Instruction
-  plan = planned rows e (a .numbers)
+  abbrev plan : List Task
+  plan = planned rows e (a .given)
 
   count-is : length (ruleOf rows) ≡ rowCount rows
   unfolding rowCount
@@ -146,13 +145,13 @@ module _ (rows masks : List ℕ) (m : Machine) (e : Event) (a : Asked) (s : Aski
 
   -- it is the event's
   plan-is : plan ≡ eventPlan rows m e
-  unfolding eventPlan planOf planned instructionOf
+  unfolding eventPlan planOf planned taskOf
   plan-is =
-      ext-getD Yes _ _ (planned-length rows e (a .numbers) (rowCount rows) ∙ sym (length-map (ruleOf rows) (instructionOf (askRows (factOf e) (shows rows m .lists) (ruleOf rows)) (factOf e)) ∙ count-is))
+      ext-getD (does Yes) _ _ (planned-length rows e (a .given) (rowCount rows) ∙ sym (length-map (ruleOf rows) (taskOf (askFacts (factsOf e) (shows rows m .lists) (ruleOf rows)) (factsOf e)) ∙ count-is))
       (λ i h.
-      let l : i < length (ruleOf rows) = omega (arith, planned-length rows e (a .numbers) (rowCount rows), count-is) in
-      planned-is rows e (a .numbers) (shows rows m .lists) numbers-right i l
-      ∙ sym (List·getD-map (instructionOf (askRows (factOf e) (shows rows m .lists) (ruleOf rows)) (factOf e)) (ruleOf rows) i truth))
+      let l : i < length (ruleOf rows) = omega (arith, planned-length rows e (a .given) (rowCount rows), count-is) in
+      planned-is rows e (a .given) (shows rows m .lists) count-facts right-numbers i l
+      ∙ sym (List·getD-map (taskOf (askFacts (factsOf e) (shows rows m .lists) (ruleOf rows)) (factsOf e)) (ruleOf rows) i truth))
 
   module _ (x : Told) (rs ns ws : List ℕ)
       (left : Leaves (stepOutcome (m .state .k) (rowCount rows) plan masks (m .state .refs) (m .state .kept) (m .nodes) (m .work)) x rs ns ws) where
@@ -169,11 +168,11 @@ module _ (rows masks : List ℕ) (m : Machine) (e : Event) (a : Asked) (s : Aski
         let o = ends-as _ (step-bad rows m e (l .k-right) (l .rule-right) (l .lengths) masks (l .free) plan k) in
         bad (formed-kept rows m e masks l ∙ k) (o .told) (o .refs) (o .nodes) (clear-same (length (m .nodes) / 3) (m .work) ws (o .work))
 
-    works : kept rows m e ≡ true → Leaves (workedOutcome (fitting rows m e) (m .state .k) C (ruleOf rows) (shows rows m) after (m .state .refs) (m .nodes) (m .work)) x rs ns ws
+    works : kept rows m e ≡ true → Leaves (workedOutcome (fitting rows m e) (m .state .k) C (ruleOf rows) (shows rows m) (factsOf e) after (m .state .refs) (m .nodes) (m .work)) x rs ns ws
     works k =
         let l = s .listed in
         ends-as _ (step-works rows m e (l .k-right) (l .rule-right) (l .lengths) masks (l .free) (l .counts, l .refs) (formed-kept rows m e masks l ∙ k) (s .enough) plan
-        (planned-is rows e (a .numbers) (shows rows m .lists) numbers-right))
+        (planned-is rows e (a .given) (shows rows m .lists) count-facts right-numbers))
 
     ends-full : kept rows m e ≡ true → fitting rows m e ≡ false → Ended x rs ns ws
     unfolding workedOutcome
@@ -232,7 +231,7 @@ module _ (rows masks : List ℕ) (m : Machine) (e : Event) (a : Asked) (s : Aski
         pub well : formed rows m e ≡ true
         pub fits : fitting rows m e ≡ true
         pub kept-is : n ≡ length (keptTable after)
-        pub room-is : r ≡ roomOf (m .state .k) (ruleOf rows) (shows rows m .trees) (after .trees)
+        pub room-is : r ≡ roomOf (m .state .k) (ruleOf rows) (shows rows m) (factsOf e) after
         pub refs-are : rs ≡ layState (m .state .k) after .refs
         pub nodes-are : ns ≡ layNodes C after
         pub work-is : ws ≡ cleared C (m .work)
@@ -244,7 +243,7 @@ module _ (rows masks : List ℕ) (m : Machine) (e : Event) (a : Asked) (s : Aski
           go (bad f q i u w) = let z : Done n r ≡ Bad = sym d ∙ q in let y : _≡_ {A = ℕ} 0 1 = cc in absurd (omega arith)
           go (full f g q i u w) = let z : Done n r ≡ Full = sym d ∙ q in let y : _≡_ {A = ℕ} 0 1 = cc in absurd (omega arith)
           go (done f g q p u w) =
-              let z : Done n r ≡ Done (length (keptTable after)) (roomOf (m .state .k) (ruleOf rows) (shows rows m .trees) (after .trees)) = sym d ∙ q in
+              let z : Done n r ≡ Done (length (keptTable after)) (roomOf (m .state .k) (ruleOf rows) (shows rows m) (factsOf e) after) = sym d ∙ q in
               record { well = f; fits = g; kept-is = cc; room-is = cc; refs-are = p; nodes-are = u; work-is = w }
 
       laid : Laid rows (m .state .k) C (s .listed .k-right) (s .listed .rule-right) m (shows rows m)
@@ -253,19 +252,19 @@ module _ (rows masks : List ℕ) (m : Machine) (e : Event) (a : Asked) (s : Aski
       trees-count : length (after .trees) ≡ length (ruleOf rows)
       unfolding step
       trees-count =
-          trees-length (m .state .k) (askRows (factOf e) (shows rows m .lists) (ruleOf rows)) (factOf e) (shows rows m .trees) (laid .proper .fine) (ruleOf rows) []
+          trees-length (m .state .k) (askFacts (factsOf e) (shows rows m .lists) (ruleOf rows)) (factsOf e) (shows rows m .trees) (laid .proper .fine) (ruleOf rows) []
           ∙ (let z : 0 + length (ruleOf rows) ≡ length (ruleOf rows) = omega arith in z)
 
-      lists-after : after .lists ≡ askRows (factOf e) (listOf (m .state .k) (withCounts (m .state .counts)) (m .values)) (ruleOf rows)
+      lists-after : after .lists ≡ askFacts (factsOf e) (listOf (m .state .k) (withCounts (m .state .counts)) (m .values)) (ruleOf rows)
       unfolding step
-      lists-after = ap (λ (L : Lists). askRows (factOf e) L (ruleOf rows)) (lists-are rows m)
+      lists-after = ap (λ (L : Lists). askFacts (factsOf e) L (ruleOf rows)) (lists-are rows m)
 
       room-left : (v : ℕ) → v < 4 → getD (a .counts) v 0 ≤ most (m .state .k)
       unfolding most
       room-left v h =
           let z = enough-left rows m e (s .enough) v h in
-          let q : length (askRows (factOf e) (shows rows m .lists) (ruleOf rows) v) ≡ getD (a .counts) v 0 =
-          ap (λ (L : Lists). length (askRows (factOf e) L (ruleOf rows) v)) (lists-are rows m) ∙ s .asks .tally .counts v h in
+          let q : length (askFacts (factsOf e) (shows rows m .lists) (ruleOf rows) v) ≡ getD (a .counts) v 0 =
+          ap (λ (L : Lists). length (askFacts (factsOf e) L (ruleOf rows) v)) (lists-are rows m) ∙ s .asks .listing .counted v h in
           subst (λ (y : ℕ). y ≤ 2 ^ (m .state .k) - 1) q z
 
       -- the fresh values can be written
@@ -275,7 +274,7 @@ module _ (rows masks : List ℕ) (m : Machine) (e : Event) (a : Asked) (s : Aski
           (ap (layValues (m .state .k)) (sym (lists-are rows m)) ∙ sym (laid .values-are)) room-left
 
       taken-outcome : eventOutcome rows m e ≡ record {
-        answer = verdictOf (m .state .k) (ruleOf rows) (shows rows m) after;
+        answer = verdictOf (m .state .k) (ruleOf rows) (shows rows m) (factsOf e) after;
         left = record { state = layState (m .state .k) after; nodes = layNodes C after; values = layValues (m .state .k) (after .lists); work = cleared C (m .work) };
       }
       unfolding eventOutcome settleEvent
@@ -284,15 +283,15 @@ module _ (rows masks : List ℕ) (m : Machine) (e : Event) (a : Asked) (s : Aski
       -- what is given back and left is the outcome of an event that is taken
       pub takes : length (a .counts) ≡ 4 → (t : Turn) (vs : List ℕ)
           → t ≡ takenTurn (m .state) (a .counts) (rs) n r (eqb (getD (rs) (m .state .rows - 1) 0) 1)
-          → vs ≡ layValues (m .state .k) (withFresh (m .state .counts) a (listOf (m .state .k) (withCounts (m .state .counts)) (m .values))) → Happens rows m e t ns vs ws
+          → vs ≡ layValues (m .state .k) (withFresh (m .state .counts) (a .counts) (bare (a .fresh)) (listOf (m .state .k) (withCounts (m .state .counts)) (m .values))) → Happens rows m e t ns vs ws
       unfolding takenTurn
       takes four t vs h v =
           rw h
           (ends rows m e _ taken-outcome _ ns vs ws
           (rw (finished .refs-are, finished .kept-is, finished .room-is)
-          (sym (verdict-is (m .state .k) (m .state .rows) (ruleOf rows) (shows rows m) after (sym same-rows) (trees-count ∙ sym same-rows) (rows-few .0))))
+          (sym (verdict-is (m .state .k) (m .state .rows) (ruleOf rows) (shows rows m) (factsOf e) after (sym same-rows) (trees-count ∙ sym same-rows) (rows-few .0))))
           (rw (finished .refs-are, finished .kept-is)
-          (sym (state-is (m .state .k) (m .state .rows) after (a .counts) (trees-count ∙ sym same-rows) four (λ w q. ap (λ (L : Lists). length (L w)) lists-after ∙ s .asks .tally .counts w q))))
+          (sym (state-is (m .state .k) (m .state .rows) after (a .counts) (trees-count ∙ sym same-rows) four (λ w q. ap (λ (L : Lists). length (L w)) lists-after ∙ s .asks .listing .counted w q))))
           (finished .nodes-are)
           (v ∙ written-is (m .state .k) (m .state .counts) (m .values) rows e a (s .asks) ∙ ap (layValues (m .state .k)) (sym lists-after))
           (finished .work-is))

@@ -10,7 +10,7 @@ use Rattle.meaning.specs.declared.State.{State}
 use Rattle.meaning.specs.declared.Event.{Event}
 use Rattle.meaning.specs.Rows.{ruleOf, right, checkRows}
 use Rattle.meaning.specs.Tables.{listRight}
-use Rattle.meaning.specs.Outcome.{kRight, capacity, nodesRight, valuesRight, workSize, factOf, countRight, shortest, Machine, shows}
+use Rattle.meaning.specs.Outcome.{kRight, capacity, nodesRight, valuesRight, workSize, factsOf, countRight, shortest, Machine, shows}
 use Rattle.rule.specs.Checking.{Free}
 use Rattle.numbers.specs.declared.Asked.{Asked}
 use Rattle.numbers.specs.Asking.{Asks}
@@ -49,5 +49,7 @@ pub record Listed (rows masks : List ℕ) (m : Machine) : Type 0 where
 pub record Asking (rows masks : List ℕ) (m : Machine) (e : Event) (a : Asked) : Type 0 where
   pub listed : Listed rows masks m
   pub count-right : countRight (ruleOf rows) e ≡ true
-  pub enough : ltb (shortest (m .state .k) (ruleOf rows) (shows rows m) (factOf e)) 4 ≡ false
+  pub enough : ltb (shortest (m .state .k) (ruleOf rows) (shows rows m) (factsOf e)) 4 ≡ false
   pub asks : Asks (m .state .k) (m .state .counts) (m .values) rows e a
+  -- an event has an array of eight facts
+  pub facts : length (e .facts) ≡ 8

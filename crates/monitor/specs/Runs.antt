@@ -7,7 +7,7 @@ use Rattle.meaning.specs.declared.Event.{Event}
 use Rattle.meaning.specs.declared.Answer.{Answer}
 use Rattle.meaning.specs.declared.Answer.the-variants.{Started, Verdict, Refused}
 use Rattle.meaning.specs.Qtl.{Fact}
-use Rattle.meaning.specs.Outcome.{factOf, Machine}
+use Rattle.meaning.specs.Outcome.{factsOf, Machine}
 use Rattle.monitor.specs.Calls.{IsVerdict, Starts, Happens}
 
 -- a start that is taken left m; the work slice is none of its business
@@ -26,11 +26,11 @@ Calls rows m (e ∷ es) [] o = ⊥
 Calls rows m (e ∷ es) (a ∷ xs) o = (n : Machine) × Call rows m e a n × Calls rows n es xs o
 
 -- the facts of the events taken: those that were answered by a verdict
-unfoldable pub takenIn : List Event → List Answer → List Fact
+unfoldable pub takenIn : List Event → List Answer → List (List Fact)
 takenIn [] xs = []
 takenIn (e ∷ es) [] = []
 takenIn (e ∷ es) (Started ∷ xs) = takenIn es xs
-takenIn (e ∷ es) (Verdict y n r ∷ xs) = factOf e ∷ takenIn es xs
+takenIn (e ∷ es) (Verdict y n r ∷ xs) = factsOf e ∷ takenIn es xs
 takenIn (e ∷ es) (Refused n p ∷ xs) = takenIn es xs
 
 -- every answer is a verdict: every event was taken

@@ -9,16 +9,15 @@ use Rattle.meaning.specs.declared.Event.{Event}
 use Rattle.meaning.specs.declared.Answer.{Answer}
 use Rattle.meaning.specs.declared.Answer.the-variants.{Started, Verdict, Refused}
 use Rattle.meaning.specs.Rows.{ruleOf}
-use Rattle.meaning.specs.Numbering.{askRows}
-use Rattle.meaning.specs.Outcome.{factOf, Machine, shows}
-use Rattle.diagram.specs.declared.Instruction.{Instruction}
-use Rattle.diagram.specs.Steps.{newTrees, workTable}
+use Rattle.meaning.specs.Numbering.{askFacts}
+use Rattle.meaning.specs.Outcome.{factsOf, Machine, shows}
+use Rattle.diagram.specs.Steps.{Task, newTrees, workTable}
 use Rattle.diagram.specs.Counts.{complementVisits, sweepVisits, Visited}
 use Rattle.instructions.specs.Plan.{planOf}
 
 -- what the rows ask of the diagrams in this event
-unfoldable pub eventPlan : List ℕ → Machine → Event → List Instruction
-eventPlan rows m e = planOf (askRows (factOf e) (shows rows m .lists) (ruleOf rows)) (factOf e) (ruleOf rows)
+unfoldable pub eventPlan : List ℕ → Machine → Event → List Task
+eventPlan rows m e = planOf (askFacts (factsOf e) (shows rows m .lists) (ruleOf rows)) (factsOf e) (ruleOf rows)
 
 -- the visits of the complements that an event tells with its answer
 unfoldable pub complementsTold : List ℕ → Machine → Event → Answer → ℕ

@@ -92,12 +92,12 @@ fn work_on(
     ensures { λ t. ⌜ Happens (now (rows .entry)) (machine (whole figures (now (refs .entry))) (now (nodes .entry)) (now (values .entry)) (now (work .entry))) event (turnOf t (now (refs .exit))) (now (nodes .exit)) (now (values .exit)) (now (work .exit)) ⌝ }
     ensures { λ t. ⌜ Looks (now (rows .entry)) (machine (whole figures (now (refs .entry))) (now (nodes .entry)) (now (values .entry)) (now (work .entry))) event (t .answer) (t .complements) (t .swept) ⌝ }
 {
-    let given = asked.numbers;
+    let given = asked.given;
     let stepped = stepping::step(
         figures.k,
         rows,
         event,
-        given,
+        &given,
         free,
         refs,
         figures.kept,
@@ -141,7 +141,7 @@ pub fn judged(
     ensures { λ t. ⌜ Happens (now (rows .entry)) (machine (whole figures (now (refs .entry))) (now (nodes .entry)) (now (values .entry)) (now (work .entry))) event (turnOf t (now (refs .exit))) (now (nodes .exit)) (now (values .exit)) (now (work .exit)) ⌝ }
     ensures { λ t. ⌜ Looks (now (rows .entry)) (machine (whole figures (now (refs .entry))) (now (nodes .entry)) (now (values .entry)) (now (work .entry))) event (t .answer) (t .complements) (t .swept) ⌝ }
 {
-    if !rule::agrees(rows, event.predicate, event.count) {
+    if !rule::agrees(rows, event) {
         return refused_formed(figures, refs, free, nodes, work, 5, 0);
     }
     let counts = figures.counts;

@@ -1,5 +1,5 @@
--- Laws of matching: what the decoded arguments of a row say of an event's values, place by place. Assumes nothing.
-use Prim.Native.Nat.{ℕ, zero, suc, min, _-_, _≤_, _<_}
+-- Laws of matching: what the decoded arguments of a row say of a fact's values, place by place. Assumes nothing.
+use Prim.Native.Nat.{ℕ, zero, suc, min, _-_}
 use mathlib.Core.Path.{_≡_, refl, ap, ap₂, sym, _∙_}
 use mathlib.Core.Bool.{Bool, true, false, _&&_}
 use mathlib.Core.List.{List, [], _∷_, map}
@@ -7,7 +7,7 @@ use native.Mathlib.Omega.{arith}
 use lib.Dec.{eqb}
 use lib.ListN.{length, getD, take, length-map, length-take}
 use borrow.Author.Tests.{eq-eqb, ne-eqb}
-use Rattle.meaning.specs.declared.Event.{Event}
+use Rattle.meaning.specs.declared.Fact.{Fact as Handed}
 use Rattle.meaning.specs.declared.Value.{Value}
 use Rattle.meaning.specs.Qtl
 use Rattle.meaning.specs.Qtl.{variable, constant}
@@ -166,7 +166,7 @@ pub no-atom : (e : Qtl.Fact) (r s : Rows.Row) → r ≡ s → matchesRow e s ≡
 no-atom e r s p q = sym (ap (matchesRow e) p ∙ q)
 
 -- the row is an atom: of another predicate, of another count, or one whose arguments decide
-module _ (e : Event) (row : Row) (p q : ℕ) (a b c : Argument) (is : row ≡ Atom p q a b c) where
+module _ (e : Handed) (row : Row) (p q : ℕ) (a b c : Argument) (is : row ≡ Atom p q a b c) where
   pub match-predicate : (e .predicate ≡ p → ⊥) → false ≡ matchesRow (factOf e) (rowOf row)
   unfolding matchesRow rowOf factOf
   match-predicate h = rw (is, ne-eqb (e .predicate) p h)

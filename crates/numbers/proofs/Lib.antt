@@ -5,5 +5,8 @@ pub mod PlaceLaws
 pub mod PartLaws
 pub mod TallyLaws
 pub mod WalkLaws
+pub mod SheetLaws
 pub mod StartLaws
+pub mod CopyLaws
+pub mod FactsLaws
 pub mod AskedLaws

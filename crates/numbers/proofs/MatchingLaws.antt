@@ -1,4 +1,4 @@
--- Laws of matching: an event's values and a row's arguments place by place. Assumes nothing.
+-- Laws of matching: a fact's values and a row's arguments place by place. Assumes nothing.
 use Prim.Native.Nat.{ℕ, zero, suc, _+_, _*_, _≤_, _<_}
 use mathlib.Core.Path.{_≡_, refl, ap, sym, _∙_}
 use mathlib.Core.Bool.{Bool, true, false, _&&_}
@@ -9,25 +9,24 @@ use lib.ListN.{length, getD, take, length-map, List·getD-map}
 use lib.Seq.{getD-take, length-take-le}
 use borrow.Author.Tests.{eq-eqb, ne-eqb, leb-true}
 use Rattle.trees.proofs.Tests.{and-true-l, and-true-r}
-use Rattle.meaning.specs.declared.Event.{Event}
+use Rattle.meaning.specs.declared.Fact.{Fact as Handed}
 use Rattle.meaning.specs.declared.Value.{Value}
 use Rattle.meaning.specs.Qtl.{Argument, variable, constant, Fact}
 use Rattle.meaning.specs.Rows.{atom, field, fieldRight, useOf, uses, rowRight, argumentAt, ofKind, rowAt}
-use Rattle.meaning.specs.Numbering.{fits}
 use Rattle.meaning.specs.Outcome.{factOf}
 use Rattle.numbers.specs.Matching.{matchesRow, argumentsOf, Sized}
 use Rattle.numbers.proofs.FitLaws.{and-none, fits-length}
 
 -- an array of three values, as the arguments of a function have it
-pub sized-of : {X : Type 0} (f : Value → X) (e : Event) → e .count ≤ 3 → length (map f (e .values)) ≡ 3 → Sized e
+pub sized-of : {X : Type 0} (f : Value → X) (e : Handed) → e .count ≤ 3 → length (map f (e .values)) ≡ 3 → Sized e
 sized-of f e few three = record { few = few; three = sym (length-map (e .values) f) ∙ three }
 
--- the values of an event
-pub values-length : (e : Event) → Sized e → length (factOf e .values) ≡ e .count
+-- the values of a fact
+pub values-length : (e : Handed) → Sized e → length (factOf e .values) ≡ e .count
 unfolding factOf
 values-length e s = length-map (take (e .count) (e .values)) (λ v. v .0) ∙ length-take-le (e .count) (e .values) (let f = s .few in let t = s .three in omega arith)
 
-pub value-is : (e : Event) (j : ℕ) → j < e .count → getD (factOf e .values) j 0 ≡ getD (e .values) j (record { 0 = 0 }) .0
+pub value-is : (e : Handed) (j : ℕ) → j < e .count → getD (factOf e .values) j 0 ≡ getD (e .values) j (record { 0 = 0 }) .0
 unfolding factOf
 value-is e j h = List·getD-map (λ v. v .0) (take (e .count) (e .values)) j (record { 0 = 0 }) ∙ ap (λ v. v .0) (getD-take (e .count) (e .values) j (record { 0 = 0 }) h)
 
@@ -91,7 +90,7 @@ count-le raw i h k =
     of-count i (field raw i 0) (field raw i 2) (kind-is raw i ∙ k) (and-true-r p q (and-true-l (p && q) _ (and-true-r (ltb 0 (field raw i 0) && leb (field raw i 0) 7) _ h)))
 
 -- the row at place i is no atom, or one of another count
-module _ (raw : List ℕ) (i : ℕ) (e : Event) where
+module _ (raw : List ℕ) (i : ℕ) (e : Handed) where
   pub match-kind : (getD raw (9 * i) 0 ≡ 2 → ⊥) → false ≡ matchesRow (factOf e) (rowAt raw i)
   unfolding rowAt
   match-kind h = sym (other-kind (factOf e) (field raw i 0) (field raw i 1) (field raw i 2) _ (λ z. h (sym (kind-is raw i) ∙ z)))

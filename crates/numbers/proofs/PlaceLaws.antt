@@ -12,7 +12,7 @@ use lib.Seq.{getD-append-seam, getD-append-add}
 use borrow.Author.Tests.{ltb-false, lt-ltb, le-ltb, eq-eqb, ne-eqb}
 use Rattle.trees.proofs.Tests.{EqCase, equal, other, eq-case, eqb-same, lt-or-ge, LtCase, below, lt-case}
 use Rattle.meaning.specs.Numbering.{Lists, place, listed, noted, ask, Unseen}
-use Rattle.meaning.proofs.ValuesLaws.{Placed, here, nowhere, placed}
+use Rattle.meaning.proofs.ValuesLaws.{Grows, Placed, here, nowhere, placed}
 use Rattle.numbers.specs.Asking.{numberIn}
 
 -- the first place of a value is its place
@@ -103,6 +103,21 @@ number-snoc xs y z h = go (eqb z y) (eq-case z y) (place xs z) refl (placed xs z
     go false (other q) n e (nowhere r u) =
         listed-never (xs ++ y ∷ []) z (λ k s g. ⊎-elim (λ i. u k i (sym (old k i) ∙ g)) (λ i. q (sym g ∙ new k (omega (arith, long)))) (lt-or-ge k (length xs)))
         ∙ sym (listed-never xs z u)
+
+-- a number is the value's place
+pub number-place : (xs : List ℕ) (y : ℕ) → (numberIn xs y ≡ 4294967295 → ⊥) → numberIn xs y ≡ place xs y
+unfolding numberIn
+number-place xs y h = rw (listed-of xs y h)
+
+-- a number stays what it is while the list grows
+pub number-grows : (xs ys : List ℕ) (y : ℕ) → Grows xs ys → (numberIn xs y ≡ 4294967295 → ⊥) → numberIn ys y ≡ numberIn xs y
+number-grows xs ys y g h = go (place xs y) refl (placed xs y)
+  where
+    go : (n : ℕ) → place xs y ≡ n → Placed xs y n → numberIn ys y ≡ numberIn xs y
+    go n e (here q f) =
+        listed-first ys y n (omega (arith, g .longer)) (g .keeps n q ∙ f) (λ k r z. place-least xs y k (omega arith) (sym (g .keeps k (omega arith)) ∙ z))
+        ∙ sym (listed-first xs y n q f (λ k r z. place-least xs y k (omega arith) z))
+    go n e (nowhere q u) = absurd (h (listed-never xs y u))
 
 -- the number of a value in a list with another behind it
 module _ (xs zs : List ℕ) (y : ℕ) where

@@ -1,27 +1,24 @@
--- Laws of where the walk starts and ends: checked rows, what is written down before anything is asked, and what is promised. Assumes nothing.
+-- Laws of where a fact's walk starts: checked rows, the lists in their parts, and what is written down before anything is asked. Assumes nothing.
 use Prim.Native.Nat.{ℕ, _+_, _-_, _*_, _/_, _^_, _≤_, _<_}
-use mathlib.Core.Path.{_≡_, refl, sym, fun-ext}
+use mathlib.Core.Path.{_≡_, refl, sym, _∙_, fun-ext}
 use mathlib.Core.Bool.{Bool, true, false, cond, not, _&&_}
-use mathlib.Core.List.{List, append-nil}
+use mathlib.Core.List.{List}
 use mathlib.Core.Logic.{⊎-elim}
 use native.Mathlib.Omega.{arith}
 use lib.Dec.{eqb}
 use lib.Pow.{pow-mono}
-use lib.ListN.{length, getD, drop, replicate, getD-replicate, List·getD-eq-default}
+use lib.ListN.{length, getD, drop, getD-replicate, List·getD-eq-default}
 use lib.Seq.{take-take, length-take-le}
 use borrow.Author.Tests.{ltb-false}
+use Rattle.making.specs.declared.Number.{Number}
 use Rattle.trees.specs.Kept.{allBelow}
 use Rattle.trees.proofs.Tests.{lt-or-ge, and-true-l}
-use Rattle.meaning.specs.declared.Event.{Event}
-use Rattle.meaning.specs.Rows.{rowRight, disagree, rowFault, rowCount, ruleOf, firstBelow, right, judgeRows, checkRows}
+use Rattle.meaning.specs.Rows.{rowRight, disagree, rowFault, rowCount, firstBelow, right, judgeRows, checkRows}
 use Rattle.meaning.specs.Tables.{most, part, listOf}
-use Rattle.meaning.specs.Outcome.{factOf}
 use Rattle.meaning.proofs.RowsLaws.{first-none}
 use Rattle.meaning.proofs.PartsLaws.{part-length}
-use Rattle.numbers.specs.declared.Asked.{Asked}
-use Rattle.numbers.specs.Matching.{Sized}
-use Rattle.numbers.specs.Asking.{withCounts, withFresh, Given, Tally, Asks, Askable, vacant, vacancies, Steady, partOf}
-use Rattle.numbers.proofs.WalkLaws.{Rows, asks-in}
+use Rattle.numbers.specs.Asking.{withCounts, sheet, nothingGiven, Given, vacant, vacancies, Steady, partOf}
+use Rattle.numbers.proofs.SheetLaws.{plain-at}
 
 -- 2^k − 1 for the largest k
 pub most-le : (k : ℕ) → k ≤ 10 → most k ≤ 1023
@@ -58,54 +55,30 @@ pub list-length : (k : ℕ) (counts values : List ℕ) (v : ℕ) → v < 4 → l
 unfolding listOf
 list-length k counts values v h e q = length-take-le (getD counts v 0) (part k values v) (rw (part-length k values v h e) q)
 
--- before anything is asked
-abbrev pub asksNothing : List ℕ → Asked
-asksNothing counts = record { counts = counts; fresh = replicate 12 0; numbers = replicate 12 4294967295 }
+-- before a fact asks anything: no number is given, and three places of each variable are vacant
+pub nothing-given : (counts fresh : List ℕ) (v j : ℕ) → v < 4 → j < 3 → Given (sheet counts fresh nothingGiven) v j → ⊥
+nothing-given counts fresh v j h k g =
+    g (plain-at nothingGiven (3 * v + j) ∙ rw (getD-replicate {A = Number} 12 (3 * v + j) (record { 0 = 4294967295 }) (record { 0 = 0 }) (omega arith)))
 
-nothing-given : (counts : List ℕ) (v j : ℕ) → v < 4 → j < 3 → Given (asksNothing counts) v j → ⊥
-nothing-given counts v j h k g = g (getD-replicate 12 (3 * v + j) 4294967295 0 (omega arith))
-
-pub steady-start : (counts : List ℕ) → length counts ≡ 4 → ((v : ℕ) → v < 4 → getD counts v 0 ≤ 1023) → Steady counts (asksNothing counts)
-unfolding vacancies vacant
-steady-start counts four few = record {
-  four = four;
-  twelve = refl;
-  dozen = refl;
-  first = few;
-  grown = λ v h. omega arith;
-  room = λ v h. omega (arith, vacant-le (getD (replicate 12 4294967295) (3 * v + 0) 0), vacant-le (getD (replicate 12 4294967295) (3 * v + 1) 0), vacant-le (getD (replicate 12 4294967295) (3 * v + 2) 0));
-}
+pub vacant-le : (n : ℕ) → vacant n ≤ 1
+unfolding vacant
+vacant-le n = go (eqb n 4294967295)
   where
-    vacant-le : (n : ℕ) → vacant n ≤ 1
-    vacant-le n = go (eqb n 4294967295)
-      where
-        go : (t : Bool) → cond t 1 0 ≤ 1
-        go true = omega arith
-        go false = omega arith
+    go : (t : Bool) → cond t 1 0 ≤ 1
+    go true = omega arith
+    go false = omega arith
 
-tally-start : (k : ℕ) (counts values ys : List ℕ) → length values ≡ 4 * most k → ((v : ℕ) → v < 4 → getD counts v 0 ≤ most k)
-    → Tally counts (listOf k (withCounts counts) values) (listOf k (withCounts counts) values) ys (asksNothing counts)
-unfolding withFresh
-tally-start k counts values ys e few = record {
-  start = λ v h. list-length k counts values v h e (few v h);
-  counts = λ v h. list-length k counts values v h e (few v h);
-  lists = λ v h. let z : getD counts v 0 - getD counts v 0 ≡ 0 = omega arith in rw z (sym (append-nil (listOf k (withCounts counts) values v)));
-  few = λ v h. omega arith;
-  unused = λ v j h q r. getD-replicate 12 (3 * v + j) 0 0 (omega arith);
-  numbers = λ v j h q g. absurd (nothing-given counts v j h q g);
-}
+pub vacancies-le : (ns : List ℕ) (v : ℕ) → vacancies ns v ≤ 3
+unfolding vacancies
+vacancies-le ns v = omega (arith, vacant-le (getD ns (3 * v + 0) 0), vacant-le (getD ns (3 * v + 1) 0), vacant-le (getD ns (3 * v + 2) 0))
 
--- what the walk over all rows leaves is what is promised
-pub asks-all : (k : ℕ) (counts values raw : List ℕ) (e : Event) (a : Asked) → Sized e → length counts ≡ 4 → Askable k counts values raw e
-    → Rows counts (partOf (most k) counts values) raw e (rowCount raw) (asksNothing counts) a → Asks k counts values raw e a
-unfolding ruleOf rowCount
-asks-all k counts values raw e a s four p q = record {
-  tally =
-      let z = lists-parts k counts values four (p .counts) in
-      rw z (q .lists (partOf (most k) counts values) (rw z at (tally-start k counts values (factOf e .values) (p .parts) (p .counts))));
-  asked = λ v j h x.
-      let l = asks-in raw (x .0) e s (row-right raw (x .0) (p .checked) (x .1)) v j (x .2) .1 in
-      let f = s .few in
-      (omega arith, q .asked v j h (omega arith) x);
-  only = λ v j h k g. ⊎-elim (λ x. absurd (nothing-given counts v j h k x)) (λ x. x) (q .only v j h k g);
+pub steady-start : (before counts fresh : List ℕ) → length counts ≡ 4 → length fresh ≡ 96 → ((v : ℕ) → v < 4 → getD before v 0 ≤ 1023)
+    → ((v : ℕ) → v < 4 → getD before v 0 ≤ getD counts v 0) → ((v : ℕ) → v < 4 → getD counts v 0 ≤ getD before v 0 + 21) → Steady before (sheet counts fresh nothingGiven)
+steady-start before counts fresh four places first grown few = record {
+  four = four;
+  places = places;
+  dozen = refl;
+  first = first;
+  grown = grown;
+  room = λ v h. omega (arith, few v h, vacancies-le (sheet counts fresh nothingGiven .numbers) v);
 }

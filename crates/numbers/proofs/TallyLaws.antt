@@ -11,8 +11,7 @@ use lib.Seq.{getD-set-same, getD-set-other, drop-set-lt, drop-set-add, take-set-
 use borrow.Author.Tests.{eq-eqb, ne-eqb}
 use Rattle.trees.proofs.Tests.{EqCase, equal, other, eq-case, lt-or-ge}
 use Rattle.meaning.specs.Numbering.{Lists, listed, ask}
-use Rattle.numbers.specs.declared.Asked.{Asked}
-use Rattle.numbers.specs.Asking.{numberIn, withFresh, Given, Tally, vacant, vacancies, Steady, Carried, Pair}
+use Rattle.numbers.specs.Asking.{numberIn, withFresh, Sheet, Given, Tally, vacant, vacancies, Steady, Carried, Pair}
 use Rattle.numbers.proofs.PlaceLaws.{listed-of, unlisted-of, number-snoc, ask-listed, ask-here, ask-other}
 
 -- two numbers are equal or not
@@ -89,18 +88,18 @@ part-kept xs m n i x h = ⊎-elim
     h
 
 -- what is written down where the variable v asks a number for the value at place j: the number that it has, or a new one
-abbrev pub afterKnown : Asked → ℕ → ℕ → ℕ → Asked
+abbrev pub afterKnown : Sheet → ℕ → ℕ → ℕ → Sheet
 afterKnown a v j n = record { counts = a .counts; fresh = a .fresh; numbers = set (a .numbers) (3 * v + j) n }
 
-abbrev pub afterNew : List ℕ → Asked → ℕ → ℕ → ℕ → Asked
+abbrev pub afterNew : List ℕ → Sheet → ℕ → ℕ → ℕ → Sheet
 afterNew before a v j y = record {
   counts = set (a .counts) v (getD (a .counts) v 0 + 1);
-  fresh = set (a .fresh) (3 * v + (getD (a .counts) v 0 - getD before v 0)) y;
+  fresh = set (a .fresh) (24 * v + (getD (a .counts) v 0 - getD before v 0)) y;
   numbers = set (a .numbers) (3 * v + j) (getD (a .counts) v 0);
 }
 
--- the event has the value y at place j, and no number of v's for it is written down
-module _ (before : List ℕ) (L : Lists) (ys : List ℕ) (a : Asked) (v j y : ℕ) (st : Steady before a) (hv : v < 4) (hj : j < 3)
+-- the fact has the value y at place j, and no number of v's for it is written down
+module _ (before : List ℕ) (L : Lists) (ys : List ℕ) (a : Sheet) (v j y : ℕ) (st : Steady before a) (hv : v < 4) (hj : j < 3)
     (none : getD (a .numbers) (3 * v + j) 0 ≡ 4294967295) (is : y ≡ getD ys j 0) where
   inside-numbers : 3 * v + j < length (a .numbers)
   inside-numbers = omega (arith, st .dozen)
@@ -116,13 +115,13 @@ module _ (before : List ℕ) (L : Lists) (ys : List ℕ) (a : Asked) (v j y : �
       (same-pair v j w i)
 
   -- the value has a number already
-  module _ (n : ℕ) (real : n ≡ 4294967295 → ⊥) (found : n ≡ numberIn (withFresh before a L v) y) where
+  module _ (n : ℕ) (real : n ≡ 4294967295 → ⊥) (found : n ≡ numberIn (withFresh before (a .counts) (a .fresh) L v) y) where
     pub note-known : Carried before L ys (λ M. ask M v (getD ys j 0)) (Pair v j) a (afterKnown a v j n)
     unfolding withFresh
     note-known = record {
       steady = record {
         four = st .four;
-        twelve = st .twelve;
+        places = st .places;
         dozen = length-set (a .numbers) (3 * v + j) n ∙ st .dozen;
         first = st .first;
         grown = st .grown;
@@ -131,24 +130,28 @@ module _ (before : List ℕ) (L : Lists) (ys : List ℕ) (a : Asked) (v j y : �
             (λ e. rw (as-many (a .numbers) v j n hj inside-numbers none real w e) (st .room w h))
             (same-or-not w v);
       };
+      fewer = λ w h. ⊎-elim
+          (λ e. let z : w ≡ v = e in rw z (omega (arith, one-less (a .numbers) v j n hj inside-numbers none real)))
+          (λ e. rw (as-many (a .numbers) v j n hj inside-numbers none real w e) (omega arith))
+          (same-or-not w v);
       lists = λ M t.
-          let e : n ≡ numberIn (M v) y = found ∙ ap (λ (xs : List ℕ). numberIn xs y) (sym (t .lists v hv)) in
+          let e : n ≡ numberIn (M v) y = found ∙ ap (λ (xs : List ℕ). numberIn xs y) (sym (t .listing .lists v hv)) in
           let z : ask M v (getD ys j 0) ≡ M = ask-listed M v (getD ys j 0) (listed-of (M v) (getD ys j 0) (λ q. real (e ∙ (rw is q)))) in
-          rw z (record { start = t .start; counts = t .counts; lists = t .lists; few = t .few; unused = t .unused; numbers = numbers-more n M M real e (t .numbers) });
+          rw z (record { listing = t .listing; numbers = numbers-more n M M real e (t .numbers) });
       kept = λ w i h k. some-kept (a .numbers) v j n hj inside-numbers none real w i k;
       asked = λ w i h k. some-new (a .numbers) v j n hj inside-numbers none real w i;
       only = λ w i h k. some-only (a .numbers) v j n hj inside-numbers none real w i k;
     }
 
   -- it has none
-  module _ (missing : numberIn (withFresh before a L v) y ≡ 4294967295) where
+  module _ (missing : numberIn (withFresh before (a .counts) (a .fresh) L v) y ≡ 4294967295) where
     real : getD (a .counts) v 0 ≡ 4294967295 → ⊥
     real e = let r = st .room v hv in let f = st .first v hv in omega arith
 
-    short : getD (a .counts) v 0 < getD before v 0 + 3
+    short : getD (a .counts) v 0 < getD before v 0 + 24
     short = let r = st .room v hv in omega (arith, one-less (a .numbers) v j (getD (a .counts) v 0) hj inside-numbers none real)
 
-    pub inside : 3 * v + (getD (a .counts) v 0 - getD before v 0) < 12
+    pub inside : 24 * v + (getD (a .counts) v 0 - getD before v 0) < 96
     inside = omega (arith, short)
 
     now-count : getD (set (a .counts) v (getD (a .counts) v 0 + 1)) v 0 ≡ getD (a .counts) v 0 + 1
@@ -160,7 +163,7 @@ module _ (before : List ℕ) (L : Lists) (ys : List ℕ) (a : Asked) (v j y : �
     new-steady : Steady before (afterNew before a v j y)
     new-steady = record {
       four = length-set (a .counts) v _ ∙ st .four;
-      twelve = length-set (a .fresh) _ _ ∙ st .twelve;
+      places = length-set (a .fresh) _ _ ∙ st .places;
       dozen = length-set (a .numbers) _ _ ∙ st .dozen;
       first = st .first;
       grown = λ w h. ⊎-elim
@@ -176,46 +179,40 @@ module _ (before : List ℕ) (L : Lists) (ys : List ℕ) (a : Asked) (v j y : �
     -- the lists before and after
     module _ (M : Lists) (t : Tally before L M ys a) where
       new : listed (M v) y ≡ false
-      new = unlisted-of (M v) y (omega (arith, t .counts v hv, st .room v hv, st .first v hv)) (ap (λ (xs : List ℕ). numberIn xs y) (t .lists v hv) ∙ missing)
+      new = unlisted-of (M v) y (omega (arith, t .listing .counted v hv, st .room v hv, st .first v hv)) (ap (λ (xs : List ℕ). numberIn xs y) (t .listing .lists v hv) ∙ missing)
 
       new-counts : (w : ℕ) → w < 4 → length (ask M v y w) ≡ getD (set (a .counts) v (getD (a .counts) v 0 + 1)) w 0
       new-counts w h = ⊎-elim
-          (λ e. let z : w ≡ v = e in rw (z, ask-here M v y new, now-count, length-append) (omega (arith, t .counts v hv)))
-          (λ e. rw (ask-other M v w y e, other-count w e) (t .counts w h))
+          (λ e. let z : w ≡ v = e in rw (z, ask-here M v y new, now-count, length-append) (omega (arith, t .listing .counted v hv)))
+          (λ e. rw (ask-other M v w y e, other-count w e) (t .listing .counted w h))
           (same-or-not w v)
 
-      new-lists : (w : ℕ) → w < 4 → ask M v y w ≡ withFresh before (afterNew before a v j y) L w
+      new-lists : (w : ℕ) → w < 4 → ask M v y w ≡ withFresh before (afterNew before a v j y .counts) (afterNew before a v j y .fresh) L w
       unfolding withFresh
       new-lists w h = ⊎-elim
           (λ e.
           let z : w ≡ v = e in
           let g : getD (a .counts) v 0 + 1 - getD before v 0 ≡ suc (getD (a .counts) v 0 - getD before v 0) = omega (arith, st .grown v hv) in
-          let room : getD (a .counts) v 0 - getD before v 0 < length (drop (3 * v) (a .fresh)) = rw (length-drop, st .twelve) (omega (arith, short)) in
-          rw (z, ask-here M v y new, now-count, g, drop-set-add (3 * v) (a .fresh) (getD (a .counts) v 0 - getD before v 0) y, take-suc-set (drop (3 * v) (a .fresh)) (getD (a .counts) v 0 - getD before v 0) y room, t .lists v hv)
-          (append-assoc (L v) (take (getD (a .counts) v 0 - getD before v 0) (drop (3 * v) (a .fresh))) (y ∷ [])))
+          let room : getD (a .counts) v 0 - getD before v 0 < length (drop (24 * v) (a .fresh)) = rw (length-drop, st .places) (omega (arith, short)) in
+          rw (z, ask-here M v y new, now-count, g, drop-set-add (24 * v) (a .fresh) (getD (a .counts) v 0 - getD before v 0) y, take-suc-set (drop (24 * v) (a .fresh)) (getD (a .counts) v 0 - getD before v 0) y room, t .listing .lists v hv)
+          (append-assoc (L v) (take (getD (a .counts) v 0 - getD before v 0) (drop (24 * v) (a .fresh))) (y ∷ [])))
           (λ e.
           let q = st .room w h in
-          let away : (3 * v + (getD (a .counts) v 0 - getD before v 0) < 3 * w) ⊎ (3 * w + (getD (a .counts) w 0 - getD before w 0) ≤ 3 * v + (getD (a .counts) v 0 - getD before v 0)) =
+          let away : (24 * v + (getD (a .counts) v 0 - getD before v 0) < 24 * w) ⊎ (24 * w + (getD (a .counts) w 0 - getD before w 0) ≤ 24 * v + (getD (a .counts) v 0 - getD before v 0)) =
           ⊎-elim (λ r. inr (omega (arith, short))) (λ r. inl (omega (arith, short, e))) (lt-or-ge w v) in
-          rw (ask-other M v w y e, other-count w e, part-kept (a .fresh) (3 * w) (getD (a .counts) w 0 - getD before w 0) (3 * v + (getD (a .counts) v 0 - getD before v 0)) y away) (t .lists w h))
+          rw (ask-other M v w y e, other-count w e, part-kept (a .fresh) (24 * w) (getD (a .counts) w 0 - getD before w 0) (24 * v + (getD (a .counts) v 0 - getD before v 0)) y away) (t .listing .lists w h))
           (same-or-not w v)
 
-      new-few : (w : ℕ) → w < 4 → getD (set (a .counts) v (getD (a .counts) v 0 + 1)) w 0 ≤ getD before w 0 + 3
-      new-few w h = ⊎-elim
-          (λ e. let z : w ≡ v = e in rw (z, now-count) (omega (arith, short)))
-          (λ e. rw (other-count w e) (t .few w h))
-          (same-or-not w v)
-
-      new-unused : (w i : ℕ) → w < 4 → i < 3 → getD (set (a .counts) v (getD (a .counts) v 0 + 1)) w 0 ≤ getD before w 0 + i
-          → getD (set (a .fresh) (3 * v + (getD (a .counts) v 0 - getD before v 0)) y) (3 * w + i) 0 ≡ 0
+      new-unused : (w i : ℕ) → w < 4 → i < 24 → getD (set (a .counts) v (getD (a .counts) v 0 + 1)) w 0 ≤ getD before w 0 + i
+          → getD (set (a .fresh) (24 * v + (getD (a .counts) v 0 - getD before v 0)) y) (24 * w + i) 0 ≡ 0
       new-unused w i h k q = ⊎-elim
           (λ e.
           let z : w ≡ v = e in
           let more : getD (a .counts) v 0 + 1 ≤ getD before v 0 + i = rw (z, now-count) at q in
-          rw (z, getD-set-other (a .fresh) (3 * v + (getD (a .counts) v 0 - getD before v 0)) (3 * v + i) y 0 (λ f. omega (arith, st .grown v hv))) (t .unused v i hv k (omega arith)))
+          rw (z, getD-set-other (a .fresh) (24 * v + (getD (a .counts) v 0 - getD before v 0)) (24 * v + i) y 0 (λ f. omega (arith, st .grown v hv))) (t .listing .unused v i hv k (omega arith)))
           (λ e.
-          rw (getD-set-other (a .fresh) (3 * v + (getD (a .counts) v 0 - getD before v 0)) (3 * w + i) y 0 (λ f. omega (arith, short, e)))
-          (t .unused w i h k (rw (other-count w e) at q)))
+          rw (getD-set-other (a .fresh) (24 * v + (getD (a .counts) v 0 - getD before v 0)) (24 * w + i) y 0 (λ f. omega (arith, short, e)))
+          (t .listing .unused w i h k (rw (other-count w e) at q)))
           (same-or-not w v)
 
       -- the numbers given before are those of other values
@@ -224,20 +221,27 @@ module _ (before : List ℕ) (L : Lists) (ys : List ℕ) (a : Asked) (v j y : �
           (λ e.
           let z : w ≡ v = e in
           let o : getD (a .numbers) (3 * v + i) 0 ≡ numberIn (M v) (getD ys i 0) = rw z at (t .numbers w i h k g) in
-          let apart : getD ys i 0 ≡ y → ⊥ = λ f. g (rw z (o ∙ (ap (numberIn (M v)) f ∙ (ap (λ (xs : List ℕ). numberIn xs y) (t .lists v hv) ∙ missing)))) in
+          let apart : getD ys i 0 ≡ y → ⊥ = λ f. g (rw z (o ∙ (ap (numberIn (M v)) f ∙ (ap (λ (xs : List ℕ). numberIn xs y) (t .listing .lists v hv) ∙ missing)))) in
           rw (z, ask-here M v y new, number-snoc (M v) y (getD ys i 0) new, ne-eqb (getD ys i 0) y apart) o)
           (λ e. rw (ask-other M v w y e) (t .numbers w i h k g))
           (same-or-not w v)
 
       own : getD (a .counts) v 0 ≡ numberIn (ask M v y v) y
-      own = rw (ask-here M v y new, number-snoc (M v) y y new, eq-eqb y y refl) (sym (t .counts v hv))
+      own = rw (ask-here M v y new, number-snoc (M v) y y new, eq-eqb y y refl) (sym (t .listing .counted v hv))
 
       new-tally : Tally before L (ask M v y) ys (afterNew before a v j y)
-      new-tally = record { start = t .start; counts = new-counts; lists = new-lists; few = new-few; unused = new-unused; numbers = numbers-more (getD (a .counts) v 0) M (ask M v y) real own still }
+      new-tally = record {
+        listing = record { start = t .listing .start; counted = new-counts; lists = new-lists; unused = new-unused };
+        numbers = numbers-more (getD (a .counts) v 0) M (ask M v y) real own still;
+      }
 
     pub note-new : Carried before L ys (λ M. ask M v (getD ys j 0)) (Pair v j) a (afterNew before a v j y)
     note-new = record {
       steady = new-steady;
+      fewer = λ w h. ⊎-elim
+          (λ e. let z : w ≡ v = e in rw (z, now-count) (omega (arith, one-less (a .numbers) v j (getD (a .counts) v 0) hj inside-numbers none real)))
+          (λ e. rw (other-count w e, as-many (a .numbers) v j (getD (a .counts) v 0) hj inside-numbers none real w e) (omega arith))
+          (same-or-not w v);
       lists = λ M t. rw (← is) (new-tally M t);
       kept = λ w i h k. some-kept (a .numbers) v j (getD (a .counts) v 0) hj inside-numbers none real w i k;
       asked = λ w i h k. some-new (a .numbers) v j (getD (a .counts) v 0) hj inside-numbers none real w i;
@@ -245,10 +249,11 @@ module _ (before : List ℕ) (L : Lists) (ys : List ℕ) (a : Asked) (v j y : �
     }
 
 -- a value whose number is written down asks nothing
-pub note-old : (before : List ℕ) (L : Lists) (ys : List ℕ) (a : Asked) (v j : ℕ) → Steady before a → v < 4 → j < 3 → Given a v j
+pub note-old : (before : List ℕ) (L : Lists) (ys : List ℕ) (a : Sheet) (v j : ℕ) → Steady before a → v < 4 → j < 3 → Given a v j
     → Carried before L ys (λ M. ask M v (getD ys j 0)) (Pair v j) a a
 note-old before L ys a v j st hv hj some = record {
   steady = st;
+  fewer = λ w h. omega arith;
   lists = λ M t. rw (ask-listed M v (getD ys j 0) (listed-of (M v) (getD ys j 0) (λ e. some (t .numbers v j hv hj some ∙ e)))) t;
   kept = λ w i h k g. g;
   asked = λ w i h k p. let y : w ≡ v = p .0 in let z : i ≡ j = p .1 in rw (y, z) some;

@@ -9,24 +9,24 @@ use native.Mathlib.Omega.{arith}
 use lib.ListN.{length, getD, take, List·getD-eq-default}
 use lib.Seq.{take-suc, take-all, length-take-le}
 use Rattle.trees.proofs.Tests.{lt-or-ge, false-true}
-use Rattle.meaning.specs.declared.Event.{Event}
+use Rattle.meaning.specs.declared.Fact.{Fact as Handed}
 use Rattle.meaning.specs.Qtl.{Argument, variable, constant, Fact}
 use Rattle.meaning.specs.Rows.{Row, truth, atom, both, neg, since, previous, exists, rowRight, argumentAt, rowAt, rowsUpTo}
 use Rattle.meaning.specs.Numbering.{Lists, ask, askArguments, askRow, askRows}
 use Rattle.meaning.specs.Outcome.{factOf}
 use Rattle.meaning.proofs.RowsLaws.{ArgumentOk, ArgumentsOk, row-ok}
-use Rattle.numbers.specs.declared.Asked.{Asked}
 use Rattle.numbers.specs.Matching.{matchesRow, argumentsIn, argumentsOf, Sized, Readable}
-use Rattle.numbers.specs.Asking.{AsksFor, AskedBy, Steady, Carried, Pair, AtPlace, AtPlaces, askOne, Asking, NextMatch}
+use Rattle.numbers.specs.Asking.{Sheet, AsksFor, AskedBy, Steady, Carried, Pair, AtPlace, AtPlaces, askOne, Asking, NextMatch}
 use Rattle.numbers.proofs.MatchingLaws.{values-length, arguments-length, argument-is, is-variable, is-constant, atom-is, match-kind, match-count}
 use Rattle.numbers.proofs.TallyLaws.{same-or-not}
 
 -- from the counts `before` and the lists L on
 module _ (before : List ℕ) (L : Lists) where
   -- nothing is asked
-  carried-none : (ys : List ℕ) (f : Lists → Lists) (P : ℕ → ℕ → Type 0) (a : Asked) → ((M : Lists) → f M ≡ M) → ((v j : ℕ) → P v j → ⊥) → Steady before a → Carried before L ys f P a a
+  carried-none : (ys : List ℕ) (f : Lists → Lists) (P : ℕ → ℕ → Type 0) (a : Sheet) → ((M : Lists) → f M ≡ M) → ((v j : ℕ) → P v j → ⊥) → Steady before a → Carried before L ys f P a a
   carried-none ys f P a e none st = record {
     steady = st;
+    fewer = λ v h. omega arith;
     lists = λ M t. rw (e M) t;
     kept = λ v j h k g. g;
     asked = λ v j h k p. absurd (none v j p);
@@ -34,10 +34,11 @@ module _ (before : List ℕ) (L : Lists) where
   }
 
   -- one step after another: what either asks is asked
-  carried-then : (ys : List ℕ) (f g h : Lists → Lists) (P Q R : ℕ → ℕ → Type 0) (a b r : Asked) → ((M : Lists) → h M ≡ g (f M))
+  carried-then : (ys : List ℕ) (f g h : Lists → Lists) (P Q R : ℕ → ℕ → Type 0) (a b r : Sheet) → ((M : Lists) → h M ≡ g (f M))
       → ((v j : ℕ) → R v j → P v j ⊎ Q v j) → ((v j : ℕ) → P v j ⊎ Q v j → R v j) → Carried before L ys f P a b → Carried before L ys g Q b r → Carried before L ys h R a r
   carried-then ys f g h P Q R a b r e into from p q = record {
     steady = q .steady;
+    fewer = λ v h. omega (arith, p .fewer v h, q .fewer v h);
     lists = λ M t. rw (e M) (q .lists (f M) (p .lists M t));
     kept = λ v j h k z. q .kept v j h k (p .kept v j h k z);
     asked = λ v j h k z. ⊎-elim (λ x. q .kept v j h k (p .asked v j h k x)) (λ x. q .asked v j h k x) (into v j z);
@@ -48,10 +49,11 @@ module _ (before : List ℕ) (L : Lists) where
   }
 
   -- the same step and the same pairs, said in other words
-  carried-as : (ys : List ℕ) (f g : Lists → Lists) (P Q : ℕ → ℕ → Type 0) (a r : Asked) → ((M : Lists) → g M ≡ f M) → ((v j : ℕ) → Q v j → P v j) → ((v j : ℕ) → P v j → Q v j)
+  carried-as : (ys : List ℕ) (f g : Lists → Lists) (P Q : ℕ → ℕ → Type 0) (a r : Sheet) → ((M : Lists) → g M ≡ f M) → ((v j : ℕ) → Q v j → P v j) → ((v j : ℕ) → P v j → Q v j)
       → Carried before L ys f P a r → Carried before L ys g Q a r
   carried-as ys f g P Q a r e into from p = record {
     steady = p .steady;
+    fewer = p .fewer;
     lists = λ M t. rw (e M) (p .lists M t);
     kept = p .kept;
     asked = λ v j h k z. p .asked v j h k (into v j z);
@@ -67,13 +69,13 @@ one-name g v w e f = cc
 
 -- the argument at place j of row i, where it is a constant and where it is a variable
 module _ (before : List ℕ) (L : Lists) (ys raw : List ℕ) (i j y : ℕ) where
-  pub one-constant : (a : Asked) → Steady before a → (getD raw (9 * i + (3 + 2 * j)) 0 ≡ 0 → ⊥) → Carried before L ys (askOne (argumentAt raw i j) y) (AtPlace raw i j) a a
+  pub one-constant : (a : Sheet) → Steady before a → (getD raw (9 * i + (3 + 2 * j)) 0 ≡ 0 → ⊥) → Carried before L ys (askOne (argumentAt raw i j) y) (AtPlace raw i j) a a
   unfolding askOne
   one-constant a st h =
       carried-none before L ys (askOne (argumentAt raw i j) y) (AtPlace raw i j) a (λ M. rw (is-constant raw i j h))
       (λ v k p. not-both (argumentAt raw i j) v (getD raw (9 * i + (4 + 2 * j)) 0) (p .0) (is-constant raw i j h)) st
 
-  pub one-variable : (a r : Asked) → getD raw (9 * i + (3 + 2 * j)) 0 ≡ 0 → Carried before L ys (λ M. ask M (getD raw (9 * i + (4 + 2 * j)) 0) y) (Pair (getD raw (9 * i + (4 + 2 * j)) 0) j) a r
+  pub one-variable : (a r : Sheet) → getD raw (9 * i + (3 + 2 * j)) 0 ≡ 0 → Carried before L ys (λ M. ask M (getD raw (9 * i + (4 + 2 * j)) 0) y) (Pair (getD raw (9 * i + (4 + 2 * j)) 0) j) a r
       → Carried before L ys (askOne (argumentAt raw i j) y) (AtPlace raw i j) a r
   unfolding askOne
   one-variable a r h p =
@@ -92,13 +94,13 @@ ask-snoc (h ∷ gs) [] g y M e = absurd (omega arith)
 ask-snoc (variable v ∷ gs) (z ∷ zs) g y M e = ask-snoc gs zs g y (ask M v z) (omega arith)
 ask-snoc (constant c ∷ gs) (z ∷ zs) g y M e = ask-snoc gs zs g y M (omega arith)
 
-pub arguments-none : (before : List ℕ) (L : Lists) (ys raw : List ℕ) (i : ℕ) (gs : List Argument) (a : Asked) → Steady before a
+pub arguments-none : (before : List ℕ) (L : Lists) (ys raw : List ℕ) (i : ℕ) (gs : List Argument) (a : Sheet) → Steady before a
     → Carried before L ys (λ M. askArguments M (take 0 gs) (take 0 ys)) (AtPlaces raw i 0) a a
 unfolding askArguments
 arguments-none before L ys raw i gs a st = carried-none before L ys (λ M. askArguments M (take 0 gs) (take 0 ys)) (AtPlaces raw i 0) a (λ M. refl) (λ v k p. let h = p .1 in omega arith) st
 
-module _ (before : List ℕ) (L : Lists) (raw : List ℕ) (i : ℕ) (e : Event) (r : Readable raw i e) where
-  pub arguments-more : (j : ℕ) (a b c : Asked) → j < e .count
+module _ (before : List ℕ) (L : Lists) (raw : List ℕ) (i : ℕ) (e : Handed) (r : Readable raw i e) where
+  pub arguments-more : (j : ℕ) (a b c : Sheet) → j < e .count
       → Carried before L (factOf e .values) (λ M. askArguments M (take j (argumentsOf raw i (e .count))) (take j (factOf e .values))) (AtPlaces raw i j) a b
       → Carried before L (factOf e .values) (askOne (argumentAt raw i j) (getD (factOf e .values) j 0)) (AtPlace raw i j) b c
       → Carried before L (factOf e .values) (λ M. askArguments M (take (j + 1) (argumentsOf raw i (e .count))) (take (j + 1) (factOf e .values))) (AtPlaces raw i (j + 1)) a c
@@ -122,7 +124,7 @@ module _ (before : List ℕ) (L : Lists) (raw : List ℕ) (i : ℕ) (e : Event) 
           (λ l. let z : k ≡ j = l .1 in (rw z (l .0), omega arith))
           x
 
-  pub arguments-all : (j : ℕ) (a b : Asked) → j ≡ e .count
+  pub arguments-all : (j : ℕ) (a b : Sheet) → j ≡ e .count
       → Carried before L (factOf e .values) (λ M. askArguments M (take j (argumentsOf raw i (e .count))) (take j (factOf e .values))) (AtPlaces raw i j) a b
       → Carried before L (factOf e .values) (λ M. askArguments M (argumentsOf raw i (e .count)) (factOf e .values)) (AtPlaces raw i (e .count)) a b
   arguments-all j a b h p =
@@ -132,8 +134,8 @@ module _ (before : List ℕ) (L : Lists) (raw : List ℕ) (i : ℕ) (e : Event) 
       (λ M. rw (take-all j gs (omega (arith, arguments-length raw i (e .count) (r .sized .few))), take-all j ys (omega (arith, values-length e (r .sized)))))
       (λ v k q. let l = q .1 in (q .0, omega arith)) (λ v k q. let l = q .1 in (q .0, omega arith)) p
 
--- a row that matches is an atom of the event's count
-matched : (raw : List ℕ) (i : ℕ) (e : Event) → Sized e → rowRight raw i ≡ true → matchesRow (factOf e) (rowAt raw i) ≡ true
+-- a row that matches is an atom of the fact's count
+matched : (raw : List ℕ) (i : ℕ) (e : Handed) → Sized e → rowRight raw i ≡ true → matchesRow (factOf e) (rowAt raw i) ≡ true
     → (getD raw (9 * i) 0 ≡ 2) × (getD raw (9 * i + 2) 0 ≡ e .count)
 matched raw i e s right h = ⊎-elim
     (λ k. (k, ⊎-elim (λ q. q) (λ q. absurd (false-true (sym (match-count raw i e k right s q)) h)) (same-or-not (getD raw (9 * i + 2) 0) (e .count))))
@@ -145,7 +147,7 @@ ok-at [] j o h = absurd (omega arith)
 ok-at (g ∷ gs) zero o h = o .0
 ok-at (g ∷ gs) (suc j) o h = ok-at gs j (o .1) (omega arith)
 
-pub asking-of : (raw : List ℕ) (i : ℕ) (e : Event) → Readable raw i e → rowRight raw i ≡ true → matchesRow (factOf e) (rowAt raw i) ≡ true → Asking raw i e
+pub asking-of : (raw : List ℕ) (i : ℕ) (e : Handed) → Readable raw i e → rowRight raw i ≡ true → matchesRow (factOf e) (rowAt raw i) ≡ true → Asking raw i e
 asking-of raw i e r right h = record { readable = r; variables = vars }
   where
     two : getD raw (9 * i) 0 ≡ 2
@@ -184,7 +186,7 @@ names-in raw i n v j few e = ⊎-elim
     (λ h. let d : length (argumentsOf raw i n) ≤ j = rw (arguments-length raw i n few) h in absurd (not-both (getD (argumentsOf raw i n) j (constant 0)) v 0 e (List·getD-eq-default (argumentsOf raw i n) (constant 0) d)))
     (lt-or-ge j n)
 
-module _ (raw : List ℕ) (i : ℕ) (e : Event) (s : Sized e) (right : rowRight raw i ≡ true) where
+module _ (raw : List ℕ) (i : ℕ) (e : Handed) (s : Sized e) (right : rowRight raw i ≡ true) where
   row-is : matchesRow (factOf e) (rowAt raw i) ≡ true → rowAt raw i ≡ atom (getD raw (9 * i + 1) 0) (argumentsOf raw i (e .count))
   row-is h = let m = matched raw i e s right h in atom-is raw i (m .0) ∙ ap (λ n. atom (getD raw (9 * i + 1) 0) (argumentsOf raw i n)) (m .1)
 
@@ -196,7 +198,7 @@ module _ (raw : List ℕ) (i : ℕ) (e : Event) (s : Sized e) (right : rowRight 
   unfolding argumentsIn
   asks-of h v j q = record { matches = h; names = rw (row-is h) (argument-is raw i (e .count) j (q .1) (s .few) ∙ q .0) }
 
-  row-matched : (before : List ℕ) (L : Lists) (a b : Asked) → matchesRow (factOf e) (rowAt raw i) ≡ true
+  row-matched : (before : List ℕ) (L : Lists) (a b : Sheet) → matchesRow (factOf e) (rowAt raw i) ≡ true
       → Carried before L (factOf e .values) (λ M. askArguments M (argumentsOf raw i (e .count)) (factOf e .values)) (AtPlaces raw i (e .count)) a b
       → Carried before L (factOf e .values) (λ M. askRow (factOf e) M (rowAt raw i)) (AsksFor (factOf e) (rowAt raw i)) a b
   row-matched before L a b h p =
@@ -213,15 +215,15 @@ askRows-snoc e [] r M = refl
 askRows-snoc e (q ∷ rs) r M = askRows-snoc e rs r (askRow e M q)
 
 -- the walk over the first i rows
-module _ (before : List ℕ) (L : Lists) (raw : List ℕ) (e : Event) where
-  abbrev pub Rows : ℕ → Asked → Asked → Type 0
+module _ (before : List ℕ) (L : Lists) (raw : List ℕ) (e : Handed) where
+  abbrev pub Rows : ℕ → Sheet → Sheet → Type 0
   Rows i a b = Carried before L (factOf e .values) (λ M. askRows (factOf e) M (rowsUpTo raw i)) (AskedBy (factOf e) raw i) a b
 
-  pub rows-none : (a : Asked) → Steady before a → Rows 0 a a
+  pub rows-none : (a : Sheet) → Steady before a → Rows 0 a a
   unfolding askRows rowsUpTo
   rows-none a st = carried-none before L (factOf e .values) (λ M. askRows (factOf e) M (rowsUpTo raw 0)) (AskedBy (factOf e) raw 0) a (λ M. refl) (λ v j p. let h = p .1 in omega arith) st
 
-  rows-more : (i : ℕ) (a b c : Asked) → Rows i a b → Carried before L (factOf e .values) (λ M. askRow (factOf e) M (rowAt raw i)) (AsksFor (factOf e) (rowAt raw i)) b c → Rows (i + 1) a c
+  rows-more : (i : ℕ) (a b c : Sheet) → Rows i a b → Carried before L (factOf e .values) (λ M. askRow (factOf e) M (rowAt raw i)) (AsksFor (factOf e) (rowAt raw i)) b c → Rows (i + 1) a c
   unfolding rowsUpTo
   rows-more i a b c p q =
       carried-then before L (factOf e .values) (λ M. askRows (factOf e) M (rowsUpTo raw i)) (λ M. askRow (factOf e) M (rowAt raw i)) (λ M. askRows (factOf e) M (rowsUpTo raw (i + 1)))
@@ -238,7 +240,7 @@ module _ (before : List ℕ) (L : Lists) (raw : List ℕ) (e : Event) where
       from v j x = ⊎-elim (λ l. let w = l .1 in (l .0, omega arith, l .2)) (λ l. (i, omega arith, l)) x
 
   -- rows that do not match are passed over
-  rows-skip : (from d : ℕ) (a b : Asked) → ((i : ℕ) → from ≤ i → i < from + d → matchesRow (factOf e) (rowAt raw i) ≡ false) → Rows from a b → Rows (from + d) a b
+  rows-skip : (from d : ℕ) (a b : Sheet) → ((i : ℕ) → from ≤ i → i < from + d → matchesRow (factOf e) (rowAt raw i) ≡ false) → Rows from a b → Rows (from + d) a b
   rows-skip from zero a b none p = let z : from + 0 ≡ from = omega arith in rw z p
   rows-skip from (suc d) a b none p =
       let z : from + suc d ≡ from + d + 1 = omega arith in
@@ -249,12 +251,12 @@ module _ (before : List ℕ) (L : Lists) (raw : List ℕ) (e : Event) where
       (carried-none before L (factOf e .values) (λ M. askRow (factOf e) M (rowAt raw (from + d))) (AsksFor (factOf e) (rowAt raw (from + d))) b
       (λ M. ask-unmatched (factOf e) M (rowAt raw (from + d)) n) (λ v j x. false-true n (x .matches)) (q .steady)))
 
-  pub rows-to : (from r : ℕ) (a b : Asked) → NextMatch raw e from r → Rows from a b → Rows r a b
+  pub rows-to : (from r : ℕ) (a b : Sheet) → NextMatch raw e from r → Rows from a b → Rows r a b
   rows-to from r a b n p =
       let z : from + (r - from) ≡ r = omega (arith, n .later) in
       rw z at (rows-skip from (r - from) a b (λ i h k. n .skipped i h (omega arith)) p)
 
   -- a row that matches, and then the next one
-  pub rows-next : (i r : ℕ) (a b c : Asked) → Sized e → rowRight raw i ≡ true → matchesRow (factOf e) (rowAt raw i) ≡ true → NextMatch raw e (i + 1) r → Rows i a b
+  pub rows-next : (i r : ℕ) (a b c : Sheet) → Sized e → rowRight raw i ≡ true → matchesRow (factOf e) (rowAt raw i) ≡ true → NextMatch raw e (i + 1) r → Rows i a b
       → Carried before L (factOf e .values) (λ M. askArguments M (argumentsOf raw i (e .count)) (factOf e .values)) (AtPlaces raw i (e .count)) b c → Rows r a c
   rows-next i r a b c s right m n p q = rows-to (i + 1) r a c n (rows-more i a b c p (row-matched raw i e s right before L b c m q))

@@ -1,16 +1,16 @@
--- When a row is an atom that matches an event, and the parts of that. Assumes nothing: these are definitions.
-use Prim.Native.Nat.{ℕ, suc, _/_, _≤_, _<_}
+-- When a row is an atom that matches a fact, and the parts of that. Assumes nothing: these are definitions.
+use Prim.Native.Nat.{ℕ, _/_, _≤_, _<_}
 use mathlib.Core.Path.{_≡_}
 use mathlib.Core.Bool.{Bool, true, false, not, _&&_, _||_}
 use mathlib.Core.List.{List, [], _∷_}
 use lib.Dec.{eqb}
-use lib.ListN.{length, getD, take, drop}
-use Rattle.meaning.specs.declared.Event.{Event}
+use lib.ListN.{length, take}
+use Rattle.meaning.specs.declared.Fact.{Fact as Handed}
 use Rattle.meaning.specs.Qtl.{Argument, variable, constant, Fact}
 use Rattle.meaning.specs.Rows.{Row, truth, atom, both, neg, since, previous, exists, argumentAt}
 use Rattle.meaning.specs.Numbering.{repeats, fits}
 
--- "Each atom that matches the event (predicate, constants, and equal values where a variable repeats)"
+-- "Each atom that matches the event [the fact] (predicate, constants, and equal values where a variable repeats)"
 unfoldable pub matchesRow : Fact → Row → Bool
 matchesRow e truth = false
 matchesRow e (atom p gs) = eqb (e .predicate) p && fits gs (e .values)
@@ -44,12 +44,12 @@ unfoldable pub fitsFirst : Argument → ℕ → List Argument → List ℕ → B
 fitsFirst (variable v) y gs ys = repeats v y gs ys
 fitsFirst (constant c) y gs ys = eqb c y
 
--- an event has an array of three values, of which at most three count
-pub record Sized (e : Event) : Type 0 where
+-- a fact has an array of three values, of which at most three count
+pub record Sized (e : Handed) : Type 0 where
   pub few : e .count ≤ 3
   pub three : length (e .values) ≡ 3
 
--- the row at place i is one of the slice's, and the event is sized
-pub record Readable (raw : List ℕ) (i : ℕ) (e : Event) : Type 0 where
+-- the row at place i is one of the slice's, and the fact is sized
+pub record Readable (raw : List ℕ) (i : ℕ) (e : Handed) : Type 0 where
   pub inside : i < length raw / 9
   pub sized : Sized e

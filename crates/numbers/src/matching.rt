@@ -1,6 +1,6 @@
-// Which rows are atoms that match an event: predicate, constants, and equal values where a variable repeats.
+// Which rows are atoms that match a fact: predicate, constants, and equal values where a variable repeats.
 // What each function promises is in specs/Matching.antt.
-use meaning::Event;
+use meaning::Fact;
 use meaning::Value;
 use rule::Argument;
 use rule::Row;
@@ -78,27 +78,27 @@ fn all_fit(n: u32, a: Argument, y: Value, b: Argument, z: Value, c: Argument, w:
     first_fits(c, w, 0, c, w, c, w)
 }
 
-// An atom has at most three arguments, and an event three values.
+// An atom has at most three arguments, and a fact three values.
 fn few(n: u32) -> u32
     ensures { λ r. ⌜ r ≡ min n 3 ⌝ }
 {
     if n < 3 { n } else { 3 }
 }
 
-// The row is an atom that matches the event.
-pub fn matches(row: Row, event: Event) -> bool
-    ensures { λ r. ⌜ r ≡ matchesRow (factOf event) (rowOf row) ⌝ }
+// The row is an atom that matches the fact.
+pub fn matches(row: Row, fact: Fact) -> bool
+    ensures { λ r. ⌜ r ≡ matchesRow (factOf fact) (rowOf row) ⌝ }
 {
     match row {
         Row::True => false,
         Row::Atom(p, q, a, b, c) => {
-            if event.predicate != p {
+            if fact.predicate != p {
                 return false;
             }
-            if few(event.count) != few(q) {
+            if few(fact.count) != few(q) {
                 return false;
             }
-            let vs = event.values;
+            let vs = fact.values;
             all_fit(few(q), a, vs[0], b, vs[1], c, vs[2])
         }
         Row::And(_, _) => false,

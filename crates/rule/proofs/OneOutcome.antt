@@ -2,7 +2,7 @@
 use Prim.Native.Nat.{ℕ, _%_, _<_}
 use mathlib.Core.Path.{_≡_, refl, sym, _∙_}
 use mathlib.Core.Bool.{Bool}
-use mathlib.Core.List.{List, []}
+use mathlib.Core.List.{List}
 use mathlib.Core.Logic.{⊎-elim}
 use native.Mathlib.Omega.{arith}
 use lib.ListN.{length, getD}
@@ -53,7 +53,5 @@ pub one-row : (raw : List ℕ) (i : ℕ) (r s : Row) → Decodes raw i r → Dec
 one-row raw i r s a b = a .whole ∙ sym (b .whole)
 
 -- `agrees`
-pub one-answer : (raw : List ℕ) (predicate count : ℕ) (a b : Bool) → Agrees raw predicate count a → Agrees raw predicate count b → a ≡ b
-one-answer raw p n a b f g =
-    let e : Event = record { predicate = p; count = n; values = [] } in
-    f .each e refl refl ∙ sym (g .each e refl refl)
+pub one-answer : (raw : List ℕ) (e : Event) (a b : Bool) → Agrees raw e a → Agrees raw e b → a ≡ b
+one-answer raw e a b f g = f ∙ sym g

@@ -1,4 +1,4 @@
--- What the check of a rule and the question about an event's count promise, for all input. Assumes nothing: these are definitions.
+-- What the check of a rule and the question about an event's counts promise, for all input. Assumes nothing: these are definitions.
 use Prim.Native.Nat.{ℕ, min, _+_, _*_, _≤_, _<_}
 use mathlib.Core.Path.{_≡_}
 use mathlib.Core.Bool.{Bool, not, _&&_}
@@ -7,9 +7,10 @@ use lib.Dec.{eqb, ltb}
 use lib.ListN.{length, getD, replicate}
 use Rattle.trees.specs.Kept.{allBelow}
 use Rattle.meaning.specs.declared.Event.{Event}
+use Rattle.meaning.specs.declared.Fact.{Fact as Given}
 use Rattle.meaning.specs.Qtl.{free}
 use Rattle.meaning.specs.Rows.{field, pairRight, disagree, rowCount, ruleOf, formulaAt, Found, right, fault, checkRows}
-use Rattle.meaning.specs.Outcome.{countRight}
+use Rattle.meaning.specs.Outcome.{factRight, countRight}
 use Rattle.rule.specs.declared.Checked.{Checked}
 use Rattle.rule.specs.declared.Checked.the-variants.{Right, Fault}
 use Rattle.rule.specs.declared.Rule.{Rule}
@@ -57,6 +58,10 @@ pub record Checks (raw : List ℕ) (r : Rule) : Type 0 where
   pub size : length (r .free) ≡ 64
   pub masks : MasksFor (checkRows raw) raw (r .free)
 
--- the answer for an event of this predicate and count
-pub record Agrees (raw : List ℕ) (predicate count : ℕ) (r : Bool) : Type 0 where
-  pub each : (e : Event) → e .predicate ≡ predicate → e .count ≡ count → r ≡ countRight (ruleOf raw) e
+-- the answer for a fact of this predicate and count
+pub record FactAgrees (raw : List ℕ) (predicate count : ℕ) (r : Bool) : Type 0 where
+  pub each : (f : Given) → f .predicate ≡ predicate → f .count ≡ count → r ≡ factRight (ruleOf raw) f
+
+-- the answer for an event
+abbrev pub Agrees : List ℕ → Event → Bool → Type 0
+Agrees raw e r = r ≡ countRight (ruleOf raw) e

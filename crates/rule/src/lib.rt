@@ -1,15 +1,16 @@
-// A rule as rows of nine numbers: decoded, checked once for all (refusal 2), and asked about an event's count (refusal 5).
+// A rule as rows of nine numbers: decoded, checked once for all (refusal 2), and asked about the counts of an event (refusal 5).
 // What a row says and when it is right is defined in the crate `meaning`.
 mod masks;
 mod right;
 
+use meaning::Event;
 use meaning::Value;
 ghost use mathlib.Core.Path.{_≡_};
 ghost use Prim.Native.Nat.{_+_, _*_, _<_, _≤_};
 ghost use lib.ListN.{length};
 ghost use Rattle.meaning.specs.Rows.{field};
 ghost use Rattle.rule.specs.Decoded.{argumentRead, Decodes};
-ghost use Rattle.rule.specs.Checking.{refusedAt, Checks, Agrees};
+ghost use Rattle.rule.specs.Checking.{refusedAt, Checks, FactAgrees, Agrees};
 
 // An argument of an atom.
 pub enum Argument {
@@ -130,9 +131,9 @@ pub fn check(rows: &[u32]) -> Rule
     }
 }
 
-// An event of this predicate and count agrees with every atom of the rule: refusal 5 is given where it does not.
-pub fn agrees(rows: &[u32], predicate: u32, count: u32) -> bool
-    ensures { λ r. ⌜ Agrees (now (rows .entry)) predicate count r ⌝ }
+// A fact of this predicate and count agrees with every atom of the rule.
+fn fact_agrees(rows: &[u32], predicate: u32, count: u32) -> bool
+    ensures { λ r. ⌜ FactAgrees (now (rows .entry)) predicate count r ⌝ }
 {
     if 3 < count {
         return false;
@@ -141,6 +142,26 @@ pub fn agrees(rows: &[u32], predicate: u32, count: u32) -> bool
     let mut i: usize = 0;
     while i < n {
         if right::other_count(rows, i, predicate, count) {
+            return false;
+        }
+        i += 1;
+    }
+    true
+}
+
+// The event has at most eight facts, and each agrees: refusal 5 is given where it is not so. Facts past the count are not looked at.
+pub fn agrees(rows: &[u32], event: Event) -> bool
+    ensures { λ r. ⌜ Agrees (now (rows .entry)) event r ⌝ }
+{
+    if 8 < event.count {
+        return false;
+    }
+    let facts = event.facts;
+    let n = event.count as usize;
+    let mut i: usize = 0;
+    while i < n {
+        let fact = facts[i];
+        if !fact_agrees(rows, fact.predicate, fact.count) {
             return false;
         }
         i += 1;

@@ -5,6 +5,7 @@ use answers::Told;
 use lines::Line;
 use meaning::Answer;
 use meaning::Event;
+use meaning::Fact;
 use meaning::State;
 use meaning::Value;
 ghost use mathlib.Core.Path.{_≡_};
@@ -317,14 +318,18 @@ fn happen(
     }
 }
 
-// The event of a line. The fourth value only makes the count 4, which is refused.
+// The event of a line: one fact. The fourth value only makes the count 4, which is refused.
 fn event_of(predicate: u32, count: u32, a: u32, b: u32, c: u32) -> Event
     ensures { λ r. ⌜ r ≡ eventOf predicate count a b c ⌝ }
 {
-    Event {
+    let fact = Fact {
         predicate,
         count,
         values: [Value(a), Value(b), Value(c)],
+    };
+    Event {
+        count: 1,
+        facts: [fact; 8],
     }
 }
 

@@ -7,14 +7,13 @@ use native.Mathlib.Omega.{arith}
 use lib.Dec.{leb}
 use lib.ListN.{length}
 use Rattle.trees.specs.Kept.{wellKept}
-use Rattle.diagram.specs.declared.Instruction.{Instruction}
 use Rattle.diagram.specs.declared.Told.{Told}
 use Rattle.diagram.specs.declared.Told.the-variants.{Unfit, Bad}
 use Rattle.diagram.specs.declared.Formed.the-variants as formed
 use Rattle.trees.proofs.KeptLaws.{not-false}
 use Rattle.nodes.specs.Nodes.{Rest, Zeroed, Decides}
 use Rattle.keeping.specs.Checks.{freeBy, Sized}
-use Rattle.diagram.specs.Steps.{workTable, cleared, workOutcome, stepOutcome, Leaves, formedOutcome, Tells}
+use Rattle.diagram.specs.Steps.{Task, workTable, cleared, workOutcome, stepOutcome, Leaves, formedOutcome, Tells}
 use Rattle.diagram.specs.Works.{Fits}
 use Rattle.stepping.proofs.FitLaws.{fits-of, fits-is}
 use Rattle.stepping.proofs.ClearLaws.{cleared-is, cleared-same, rest-more}
@@ -33,7 +32,7 @@ module _ (k count : ℕ) (allowed refs : List ℕ) (kept : ℕ) (ns w : List ℕ
   pub cleared-after : Fits k count (length ns) (length w) → {w₁ w₂ : List ℕ} → Rest (15 * (length ns / 3)) w w₁ → length w₁ ≡ length w → Zeroed 0 (16 * (length ns / 3) + 1024) w₁ w₂ → w₂ ≡ cleared (length ns / 3) w
   cleared-after f r e y = cleared-is (length ns / 3) w (f .room) (rest-more r (omega arith)) e y
 
-  module _ (plan : List Instruction) where
+  module _ (plan : List Task) where
     -- unfit numbers or lengths
     pub unfit-leaves : (b : Bool) → Decides (Fits k count (length ns) (length w)) b → not b ≡ true
         → Leaves (stepOutcome k count plan allowed refs kept ns w) Unfit refs ns w

@@ -16,10 +16,12 @@ use Rattle.trees.proofs.FunctionLaws.{fine-of, eval-of}
 use Rattle.trees.proofs.RoomLaws.{room-trees, room-same}
 use Rattle.making.specs.declared.Place.{Place}
 use Rattle.making.specs.declared.Place.the-variants.{Any, Is}
+use Rattle.diagram.specs.declared.Turn.{Turn}
+use Rattle.diagram.specs.declared.Turn.the-variants.{Miss, Hit}
 use Rattle.diagram.specs.declared.Instruction.{Instruction}
-use Rattle.diagram.specs.declared.Instruction.the-variants.{Yes, No, Cube, And, Not, Since, Old, Drop}
+use Rattle.diagram.specs.declared.Instruction.the-variants.{Yes, And, Not, Since, Old, Drop}
 use Rattle.making.specs.Cubes.{placeSays, cubeSays}
-use Rattle.diagram.specs.Steps.{says, instructionSays, dropStages, stagesOf, withRow, newTrees, stages}
+use Rattle.diagram.specs.Steps.{Task, facts, does, says, turnSays, turnsSay, turnStages, instructionSays, taskSays, dropStages, stagesOf, taskStages, withRow, newTrees, stages}
 use Rattle.stepping.proofs.PlanLaws.{adds-append}
 
 -- a variable's number asks the variable's levels
@@ -61,13 +63,26 @@ unfolding dropStages
 each-drop hi base zero g a = tt
 each-drop hi base (suc n) g a = let b = asks-drop 0 hi (base + n) g a in (b, each-drop hi base n (drop (base + n) g) b)
 
+-- turns ask them too
+asks-turn : (k : ℕ) (t : Turn) → Asks 0 (4 * k) (turnSays k t)
+asks-turn k Miss = record { only = λ s t e. refl }
+asks-turn k (Hit x y z u) = asks-cube k (x ∷ y ∷ z ∷ u ∷ [])
+
+asks-turns : (k : ℕ) (ts : List Turn) → Asks 0 (4 * k) (turnsSay k ts)
+unfolding turnsSay
+asks-turns k [] = record { only = λ s t e. refl }
+asks-turns k (t ∷ ts) = let a = asks-turn k t in let b = asks-turns k ts in record { only = λ s u e. ap₂ _||_ (a .only s u e) (b .only s u e) }
+
+each-turn : (k : ℕ) (done ts : List Turn) → Each (4 * k) (turnStages k done ts)
+unfolding turnStages
+each-turn k done [] = tt
+each-turn k done (t ∷ ts) = (asks-turns k (done ++ t ∷ []), each-turn k (done ++ t ∷ []) ts)
+
 module _ (k : ℕ) (old now : ℕ → Function) (i : ℕ) (a : (r : ℕ) → Asks 0 (4 * k) (old r)) (b : (r : ℕ) → Asks 0 (4 * k) (now r)) where
   -- a row's new function
   asks-row : (x : Instruction) → Asks 0 (4 * k) (instructionSays k old now i x)
   unfolding instructionSays
   asks-row Yes = record { only = λ s t e. refl }
-  asks-row No = record { only = λ s t e. refl }
-  asks-row (Cube x y z u) = asks-cube k (x ∷ y ∷ z ∷ u ∷ [])
   asks-row (And p q) = asks-and (4 * k) (now p) (now q) (b p) (b q)
   asks-row (Not p) = record { only = λ s t e. ap not (b p .only s t e) }
   asks-row (Since l r) = record { only = λ s t e. ap₂ _||_ (b r .only s t e) (ap₂ _&&_ (b l .only s t e) (a i .only s t e)) }
@@ -78,13 +93,16 @@ module _ (k : ℕ) (old now : ℕ → Function) (i : ℕ) (a : (r : ℕ) → Ask
   each-row : (x : Instruction) → Each (4 * k) (stagesOf k old now i x)
   unfolding stagesOf
   each-row Yes = (asks-row Yes, tt)
-  each-row No = (asks-row No, tt)
-  each-row (Cube x y z u) = (asks-row (Cube x y z u), tt)
   each-row (And p q) = (asks-row (And p q), tt)
   each-row (Not p) = (asks-row (Not p), tt)
   each-row (Since l r) = (asks-row (Since l r), tt)
   each-row (Old p) = (asks-row (Old p), tt)
   each-row (Drop v p) = each-drop (4 * k) (v * k) k (now p) (b p)
+
+  each-task : (x : Task) → Each (4 * k) (taskStages k old now i x)
+  unfolding taskStages
+  each-task (facts ts) = each-turn k [] ts
+  each-task (does x) = each-row x
 
 -- the diagrams are reduced and ordered, past their end too
 abbrev AllFine : ℕ → List Tree → Type 0
@@ -97,7 +115,7 @@ fine-snoc hi [] d f g (suc a) = fine-off 0 hi
 fine-snoc hi (x ∷ ds) d f g zero = f 0
 fine-snoc hi (x ∷ ds) d f g (suc a) = fine-snoc hi ds d (λ b. f (suc b)) g a
 
-module _ (k : ℕ) (plan : List Instruction) (old : List Tree) (f : AllFine (4 * k) old) where
+module _ (k : ℕ) (plan : List Task) (old : List Tree) (f : AllFine (4 * k) old) where
   -- the new diagrams
   fine-new : (i : ℕ) → AllFine (4 * k) (newTrees k plan old i)
   unfolding newTrees withRow
@@ -114,7 +132,7 @@ module _ (k : ℕ) (plan : List Instruction) (old : List Tree) (f : AllFine (4 *
   each-stage zero = tt
   each-stage (suc i) =
       each-append (4 * k) (stages k plan old i) _ (each-stage i)
-      (each-row k (says old) (says (newTrees k plan old i)) i (asks-says old f) (asks-says (newTrees k plan old i) (fine-new i)) (getD plan i Yes))
+      (each-task k (says old) (says (newTrees k plan old i)) i (asks-says old f) (asks-says (newTrees k plan old i) (fine-new i)) (getD plan i (does Yes)))
 
 -- the diagrams of functions say what the functions say
 trees-say : (hi : ℕ) (old : List Tree) (gs : List Function) → Each hi gs → (i : ℕ) → i < length (map eval (old ++ map (treeOf hi) gs))
@@ -140,7 +158,7 @@ trees-fine hi (d ∷ old) gs f zero = f 0
 trees-fine hi (d ∷ old) gs f (suc a) = trees-fine hi old gs (λ b. f (suc b)) a
 
 -- the room of all functions counted is the length of the working table
-pub room-counted : (k : ℕ) (plan : List Instruction) (old : List Tree) (n : ℕ) → AllFine (4 * k) old
+pub room-counted : (k : ℕ) (plan : List Task) (old : List Tree) (n : ℕ) → AllFine (4 * k) old
     → Room (4 * k) (map eval old ++ stages k plan old n) (length (addTrees (addTrees [] old) (map (treeOf (4 * k)) (stages k plan old n))))
 room-counted k plan old n f =
     let gs = stages k plan old n in

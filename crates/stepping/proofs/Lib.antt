@@ -8,3 +8,4 @@ pub mod OutcomeLaws
 pub mod CaseLaws
 pub mod CountLaws
 pub mod Outcomes
+pub mod AtomLaws

@@ -15,7 +15,6 @@ use Rattle.trees.specs.Kept.{diagrams, WellKept}
 use Rattle.trees.proofs.Tests.{lt-or-ge}
 use Rattle.trees.proofs.ReadLaws.{length-trees, ref-is}
 use Rattle.trees.proofs.CanonicalLaws.{zeros-past}
-use Rattle.diagram.specs.declared.Instruction.{Instruction}
 use Rattle.stepping.specs.declared.Stepped.{Stepped}
 use Rattle.diagram.specs.declared.Told.the-variants.{Full, Done}
 use Rattle.nodes.specs.Nodes.{Table, Zeroed, Rows, canonical}
@@ -23,7 +22,7 @@ use Rattle.walks.specs.Walks.{Within}
 use Rattle.sweeping.specs.Sweeps.{Awaits, References, Renewal}
 use Rattle.sweeping.proofs.Visited.{renew-visits}
 use Rattle.keeping.specs.Checks.{freeBy, Right}
-use Rattle.diagram.specs.Steps.{newTrees, stages, workTable, cleared, layout, workOutcome, Leaves}
+use Rattle.diagram.specs.Steps.{Task, newTrees, stages, workTable, cleared, layout, workOutcome, Leaves}
 use Rattle.diagram.specs.Counts.{holding, complementVisits, sweepVisits, Visited}
 use Rattle.visits.specs.Visits.{sweeps}
 use Rattle.diagram.specs.Works.{Fits, Ready, Short, Through}
@@ -51,7 +50,7 @@ ready k allowed C count refs kept ns pos few wide size small w =
     leads a = ⊎-elim (λ h. within-all ns kept (4 * k) (getD refs a 0) (rows .inside a h) (rows .fine a h)) (λ h. rw (w .none a h) (within-no ns kept (4 * k))) (lt-or-ge a count)
 
 -- the work's outcome does not ask what stands in front of the work slice
-pub outcome-same : (b : Bool) (k count : ℕ) (plan : List Instruction) (refs : List ℕ) (kept : ℕ) (ns w w₁ : List ℕ) → cleared (length ns / 3) w₁ ≡ cleared (length ns / 3) w
+pub outcome-same : (b : Bool) (k count : ℕ) (plan : List Task) (refs : List ℕ) (kept : ℕ) (ns w w₁ : List ℕ) → cleared (length ns / 3) w₁ ≡ cleared (length ns / 3) w
     → workOutcome b k count plan refs kept ns w₁ ≡ workOutcome b k count plan refs kept ns w
 unfolding workOutcome layout
 outcome-same false k count plan refs kept ns w w₁ e = rw e
@@ -66,7 +65,7 @@ swept-same size levels ts ns n rs ds len hold same =
     ∙ ap (λ (m : ℕ). sweeps (holding size ts) levels [] (replicate m 0) rs .visits) (sym len)
     ∙ ap (λ (xs : List ℕ). sweeps (holding size ts) levels [] (replicate (length ts) 0) xs .visits) same
 
-module _ (k count : ℕ) (plan : List Instruction) (refs : List ℕ) (kept : ℕ) (ns w : List ℕ) (f : Fits k count (length ns) (length w)) where
+module _ (k count : ℕ) (plan : List Task) (refs : List ℕ) (kept : ℕ) (ns w : List ℕ) (f : Fits k count (length ns) (length w)) where
   -- no room for all: the tail is wiped, and the nodes are as they were
   pub full-leaves : {ns₁ ns₂ w₂ : List ℕ} → Ready k count refs kept ns → Short (4 * k) ns ns₁ kept (stages k plan (diagrams ns kept refs count) count)
       → Zeroed (3 * kept) (length ns₁) ns₁ ns₂ → w₂ ≡ cleared (length ns / 3) w

@@ -11,13 +11,12 @@ use Rattle.trees.specs.Table.{at}
 use Rattle.trees.specs.Room.{Room}
 use Rattle.trees.specs.Kept.{diagrams, WellKept, wellKept}
 use Rattle.trees.proofs.KeptLaws.{kept-of}
-use Rattle.diagram.specs.declared.Instruction.{Instruction}
 use Rattle.stepping.specs.declared.Stepped.{Stepped}
 use Rattle.diagram.specs.declared.Told.{Told}
 use Rattle.diagram.specs.declared.Told.the-variants.{Unfit, Bad, Full, Done}
 use Rattle.diagram.specs.declared.Formed.{Formed}
 use Rattle.keeping.specs.Checks.{freeBy}
-use Rattle.diagram.specs.Steps.{workTable, counted, Outcome, fits, layout, workOutcome, judge, stepOutcome, Leaves, Checked, Tells}
+use Rattle.diagram.specs.Steps.{Task, workTable, counted, Outcome, fits, layout, workOutcome, judge, stepOutcome, Leaves, Checked, Tells}
 use Rattle.diagram.specs.Counts.{Visits}
 use Rattle.diagram.specs.Works.{Fits}
 use Rattle.diagram.proofs.RemovalLaws.{within-fine}
@@ -31,7 +30,7 @@ stepped-eq : (a b : Stepped) → a .told ≡ b .told → a .complements ≡ b .c
 stepped-eq a b p r s = λ i. record { told = p i; complements = r i; swept = s i }
 
 -- Two outcomes of a step that satisfy its promises are the same.
-pub one-outcome : (k count : ℕ) (plan : List Instruction) (refs : List ℕ) (kept : ℕ) (ns₀ : List ℕ) (o : Outcome) (x y : Stepped) (rs ss ns ms w v : List ℕ) → Leaves o (x .told) rs ns w → Leaves o (y .told) ss ms v
+pub one-outcome : (k count : ℕ) (plan : List Task) (refs : List ℕ) (kept : ℕ) (ns₀ : List ℕ) (o : Outcome) (x y : Stepped) (rs ss ns ms w v : List ℕ) → Leaves o (x .told) rs ns w → Leaves o (y .told) ss ms v
     → Visits k count plan refs kept ns₀ (x .told) (x .complements) (x .swept) → Visits k count plan refs kept ns₀ (y .told) (y .complements) (y .swept) → (x ≡ y) × (rs ≡ ss) × (ns ≡ ms) × (w ≡ v)
 one-outcome k count plan refs kept ns₀ o x y rs ss ns ms w v a b p q =
     let e = a .told ∙ sym (b .told) in
@@ -48,7 +47,7 @@ one-outcome k count plan refs kept ns₀ o x y rs ss ns ms w v a b p q =
 pub one-answer : (o : Checked) (x y : Formed) (w v : List ℕ) → Tells o x w → Tells o y v → (x ≡ y) × (w ≡ v)
 one-answer o x y w v a b = (a .result ∙ sym (b .result), a .work ∙ sym (b .work))
 
-module _ (k count : ℕ) (plan : List Instruction) (allowed refs : List ℕ) (kept : ℕ) (ns w : List ℕ) (wide : length refs ≡ 64) where
+module _ (k count : ℕ) (plan : List Task) (allowed refs : List ℕ) (kept : ℕ) (ns w : List ℕ) (wide : length refs ≡ 64) where
   -- The length of the working table of well kept diagrams is the room of the functions counted.
   pub room-is : Fits k count (length ns) (length w) → WellKept (freeBy k allowed) (length ns / 3) count refs kept ns
       → Room (4 * k) (counted k count plan refs kept ns) (length (workTable k count plan refs kept ns))

@@ -18,12 +18,11 @@ use Rattle.trees.proofs.FunctionLaws.{fine-of}
 use Rattle.trees.proofs.TableLaws.{Goes, goes-refl, goes-trans, goes-at, goes-length, adds-goes}
 use Rattle.trees.proofs.ReadLaws.{length-trees, ref-is}
 use Rattle.trees.proofs.CanonicalLaws.{zeros-at}
-use Rattle.diagram.specs.declared.Instruction.{Instruction}
 use Rattle.diagram.specs.declared.Instruction.the-variants.{Yes}
 use Rattle.walks.specs.Walks.{Within}
 use Rattle.walks.specs.Desks.{Desk}
-use Rattle.diagram.specs.Steps.{says, instructionSays, stagesOf, withRow, newTrees, stages}
-use Rattle.diagram.specs.Works.{Leads, led, Reached, Short, Are, Tolled, Fresh, Through}
+use Rattle.diagram.specs.Steps.{Task, does, says, taskSays, taskStages, withRow, newTrees, stages}
+use Rattle.diagram.specs.Works.{Leads, led, Reached, Short, Are, TolledBy, Fresh, Through}
 use Rattle.making.proofs.WalkLaws.{front-trans}
 use Rattle.walks.proofs.CallLaws.{within-all}
 use Rattle.diagram.proofs.RemovalLaws.{within-fine}
@@ -42,7 +41,7 @@ map-append f [] ys = refl
 map-append f (x ∷ xs) ys = ap (λ (ds : List Tree). f x ∷ ds) (map-append f xs ys)
 
 -- as many diagrams as rows
-pub length-new : (k : ℕ) (plan : List Instruction) (old : List Tree) (i : ℕ) → length (newTrees k plan old i) ≡ i
+pub length-new : (k : ℕ) (plan : List Task) (old : List Tree) (i : ℕ) → length (newTrees k plan old i) ≡ i
 unfolding newTrees withRow
 length-new k plan old zero = refl
 length-new k plan old (suc i) = length-append (newTrees k plan old i) _ ∙ rw (length-new k plan old i) (add-one i)
@@ -56,14 +55,14 @@ old-are ns kept refs count long none a = ⊎-elim
     (λ h. rw (none a h) (sym (List·getD-eq-default (map (at (treesOf ns kept)) (take count refs)) off (rw (length-map, length-take-le count refs long) h))))
     (lt-or-ge a count)
 
-module _ (k : ℕ) (plan : List Instruction) (old : List Tree) where
+module _ (k : ℕ) (plan : List Task) (old : List Tree) where
   -- the table after the functions met in the first i rows
   abbrev pub tableAt : List Tree → ℕ → List Tree
   tableAt ts i = addTrees ts (map (treeOf (4 * k)) (stages k plan old i))
 
   -- one row more
   pub table-suc : (ts : List Tree) (i : ℕ)
-      → tableAt ts (suc i) ≡ addTrees (tableAt ts i) (map (treeOf (4 * k)) (stagesOf k (says old) (says (newTrees k plan old i)) i (getD plan i Yes)))
+      → tableAt ts (suc i) ≡ addTrees (tableAt ts i) (map (treeOf (4 * k)) (taskStages k (says old) (says (newTrees k plan old i)) i (getD plan i (does Yes))))
   unfolding stages
   table-suc ts i = rw (map-append (treeOf (4 * k)) (stages k plan old i)) (adds-append ts _ _)
 
@@ -111,11 +110,11 @@ module _ (k : ℕ) (plan : List Instruction) (old : List Tree) where
           omega (arith, length-trees ns₀ kept, length-trees ns n, ap length (t .trees))
 
       -- the table of one row more
-      met : addTrees (treesOf ns n) (map (treeOf (4 * k)) (stagesOf k (led ns n olds) (led ns n news) i (getD plan i Yes))) ≡ tableAt (treesOf ns₀ kept) (suc i)
+      met : addTrees (treesOf ns n) (map (treeOf (4 * k)) (taskStages k (led ns n olds) (led ns n news) i (getD plan i (does Yes)))) ≡ tableAt (treesOf ns₀ kept) (suc i)
       met = rw (old-says, new-says, t .trees) (sym (table-suc (treesOf ns₀ kept) i))
 
       -- there is no room for the row, so there is none for all
-      pub through-short : {ns′ : List ℕ} (count : ℕ) → i < count → Short (4 * k) ns ns′ n (stagesOf k (led ns n olds) (led ns n news) i (getD plan i Yes))
+      pub through-short : {ns′ : List ℕ} (count : ℕ) → i < count → Short (4 * k) ns ns′ n (taskStages k (led ns n olds) (led ns n news) i (getD plan i (does Yes)))
           → Short (4 * k) ns₀ ns′ kept (stages k plan old count)
       through-short count h s =
           let far = goes-length (table-goes (treesOf ns₀ kept) (suc i) count (omega arith)) in
@@ -127,7 +126,7 @@ module _ (k : ℕ) (plan : List Instruction) (old : List Tree) where
           }
 
       module _ {ns′ : List ℕ} {n′ r : ℕ}
-          (g : Reached (4 * k) ns ns′ n n′ r (stagesOf k (led ns n olds) (led ns n news) i (getD plan i Yes)) (instructionSays k (led ns n olds) (led ns n news) i (getD plan i Yes)))
+          (g : Reached (4 * k) ns ns′ n n′ r (taskStages k (led ns n olds) (led ns n news) i (getD plan i (does Yes))) (taskSays k (led ns n olds) (led ns n news) i (getD plan i (does Yes))))
           (small : i < 64) where
         goes : Goes (treesOf ns n) (treesOf ns′ n′)
         goes = rw (g .trees) (adds-goes _ (treesOf ns n))
@@ -143,7 +142,7 @@ module _ (k : ℕ) (plan : List Instruction) (old : List Tree) where
             within-all ns′ n′ (4 * k) q (omega (arith, length-trees ns n, length-trees ns′ n′)) (rw (stay q b) (within-fine h))
 
         -- the new reference leads to the row's diagram
-        own : at (treesOf ns′ n′) r ≡ treeOf (4 * k) (instructionSays k (says old) (says (newTrees k plan old i)) i (getD plan i Yes))
+        own : at (treesOf ns′ n′) r ≡ treeOf (4 * k) (taskSays k (says old) (says (newTrees k plan old i)) i (getD plan i (does Yes)))
         own = rw (← old-says, ← new-says) (g .ref .is)
 
         -- the diagrams of one row more
@@ -151,23 +150,23 @@ module _ (k : ℕ) (plan : List Instruction) (old : List Tree) where
         unfolding newTrees withRow at
         row-are a = ⊎-elim
             (λ h.
-            rw (getD-set-other news i a r 0 (λ e. omega arith), stay (getD news a 0) (t .new-lead .each a .below), List·getD-append (newTrees k plan old i) (treeOf (4 * k) (instructionSays k (says old) (says (newTrees k plan old i)) i (getD plan i Yes)) ∷ []) off a (omega (arith, length-new k plan old i)))
+            rw (getD-set-other news i a r 0 (λ e. omega arith), stay (getD news a 0) (t .new-lead .each a .below), List·getD-append (newTrees k plan old i) (treeOf (4 * k) (taskSays k (says old) (says (newTrees k plan old i)) i (getD plan i (does Yes))) ∷ []) off a (omega (arith, length-new k plan old i)))
             (t .new-are a))
             (λ h. ⊎-elim (λ e. here (sym e)) past (eq-or-lt-of-le h))
             (lt-or-ge a i)
           where
-            here : a ≡ i → at (treesOf ns′ n′) (getD (set news i r) a 0) ≡ getD (newTrees k plan old i ++ treeOf (4 * k) (instructionSays k (says old) (says (newTrees k plan old i)) i (getD plan i Yes)) ∷ []) a off
+            here : a ≡ i → at (treesOf ns′ n′) (getD (set news i r) a 0) ≡ getD (newTrees k plan old i ++ treeOf (4 * k) (taskSays k (says old) (says (newTrees k plan old i)) i (getD plan i (does Yes))) ∷ []) a off
             here e =
                 let z : a ≡ length (newTrees k plan old i) = e ∙ sym (length-new k plan old i) in
-                rw (e, getD-set-same news i r 0 (omega (arith, t .new-lead .wide)), own) (sym (ap (λ (x : ℕ). getD (newTrees k plan old i ++ treeOf (4 * k) (instructionSays k (says old) (says (newTrees k plan old i)) i (getD plan i Yes)) ∷ []) x off) (sym e ∙ z) ∙ getD-append-seam (newTrees k plan old i) _ [] off))
+                rw (e, getD-set-same news i r 0 (omega (arith, t .new-lead .wide)), own) (sym (ap (λ (x : ℕ). getD (newTrees k plan old i ++ treeOf (4 * k) (taskSays k (says old) (says (newTrees k plan old i)) i (getD plan i (does Yes))) ∷ []) x off) (sym e ∙ z) ∙ getD-append-seam (newTrees k plan old i) _ [] off))
 
-            past : i < a → at (treesOf ns′ n′) (getD (set news i r) a 0) ≡ getD (newTrees k plan old i ++ treeOf (4 * k) (instructionSays k (says old) (says (newTrees k plan old i)) i (getD plan i Yes)) ∷ []) a off
+            past : i < a → at (treesOf ns′ n′) (getD (set news i r) a 0) ≡ getD (newTrees k plan old i ++ treeOf (4 * k) (taskSays k (says old) (says (newTrees k plan old i)) i (getD plan i (does Yes))) ∷ []) a off
             past h =
                 rw (getD-set-other news i a r 0 (λ e. omega arith), t .none a (omega arith))
-                (sym (List·getD-eq-default (newTrees k plan old i ++ _ ∷ []) off (omega (arith, length-append (newTrees k plan old i) (treeOf (4 * k) (instructionSays k (says old) (says (newTrees k plan old i)) i (getD plan i Yes)) ∷ []), length-new k plan old i))))
+                (sym (List·getD-eq-default (newTrees k plan old i ++ _ ∷ []) off (omega (arith, length-append (newTrees k plan old i) (treeOf (4 * k) (taskSays k (says old) (says (newTrees k plan old i)) i (getD plan i (does Yes))) ∷ []), length-new k plan old i))))
 
         -- one row more is worked
-        pub through-more : {w′ : List ℕ} (u : ℕ) → Desk ns′ n′ (4 * k) w′ c slots → Tolled (4 * k) ns ns′ n n′ r news w w′ c u (getD plan i Yes)
+        pub through-more : {w′ : List ℕ} (u : ℕ) → Desk ns′ n′ (4 * k) w′ c slots → TolledBy (4 * k) ns ns′ n n′ r news w w′ c u (getD plan i (does Yes))
             → Through k plan old ns₀ kept ns′ n′ w′ c slots olds (set news i r) (i + 1) (v + u)
         through-more {w′} u d p =
             let m = grows in

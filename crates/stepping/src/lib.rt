@@ -1,6 +1,7 @@
 // One event's work on the diagrams: the check of what is kept, the rows one after the other, and the sweep that makes the nodes the
 // canonical table of the new diagrams. `step` works an event, and `well_formed` only checks the diagrams. Neither assumes anything
 // of the diagrams, the references or the slices.
+mod atoms;
 mod rows;
 
 use crate::rows::worked;
@@ -67,22 +68,22 @@ fn refused(told: Told) -> Stepped
 }
 
 // Works one event: checks the diagrams, works each row, and makes the nodes the canonical table of the new diagrams, to which the
-// references then lead. Where it is refused, nodes and references stay as they are. The caller has checked the rule and the event's
-// count (refusals 2 and 5).
+// references then lead. Where it is refused, nodes and references stay as they are. The caller has checked the rule and the event
+// (refusals 2 and 5).
 pub fn step(
     k: u32,
     rows: &[u32],
     event: Event,
-    given: [u32; 12],
+    given: &[u32; 96],
     free: &[u32; 64],
     refs: &mut [u32; 64],
     kept: u32,
     nodes: &mut [u32],
     work: &mut [u32],
 ) -> Stepped
-    requires { ⌜ (checkRows (now rows) ≡ right) × (event .count ≤ 3) × (length (now refs) ≡ 64) ⌝ }
-    ensures { λ x. ⌜ Leaves (stepOutcome k (rowCount (now (rows .entry))) (planned (now (rows .entry)) event given) (now (free .entry)) (now (refs .entry)) kept (now (nodes .entry)) (now (work .entry))) (x .told) (now (refs .exit)) (now (nodes .exit)) (now (work .exit)) ⌝ }
-    ensures { λ x. ⌜ Visits k (rowCount (now (rows .entry))) (planned (now (rows .entry)) event given) (now (refs .entry)) kept (now (nodes .entry)) (x .told) (x .complements) (x .swept) ⌝ }
+    requires { ⌜ (checkRows (now rows) ≡ right) × (event .count ≤ 8) × (length (now given) ≡ 96) × (length (now refs) ≡ 64) ⌝ }
+    ensures { λ x. ⌜ Leaves (stepOutcome k (rowCount (now (rows .entry))) (planned (now (rows .entry)) event (now (given .entry))) (now (free .entry)) (now (refs .entry)) kept (now (nodes .entry)) (now (work .entry))) (x .told) (now (refs .exit)) (now (nodes .exit)) (now (work .exit)) ⌝ }
+    ensures { λ x. ⌜ Visits k (rowCount (now (rows .entry))) (planned (now (rows .entry)) event (now (given .entry))) (now (refs .entry)) kept (now (nodes .entry)) (x .told) (x .complements) (x .swept) ⌝ }
 {
     let count = (rows.len() / 9) as u32;
     if !fit(k, count, nodes.len(), work.len()) {

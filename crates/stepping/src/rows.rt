@@ -8,20 +8,50 @@ ghost use lib.Dec.{leb};
 ghost use lib.ListN.{length, getD, replicate};
 ghost use Rattle.trees.specs.Kept.{diagrams};
 ghost use Rattle.meaning.specs.Rows.{rowCount, right, checkRows};
+ghost use Rattle.rule.specs.Decoded.{rowOf};
 ghost use Rattle.nodes.specs.Chains.{Chained};
 ghost use Rattle.walks.specs.Desks.{Desk};
 ghost use Rattle.diagram.specs.Steps.{workTable, workOutcome, Leaves};
 ghost use Rattle.diagram.specs.Counts.{Visits};
-ghost use Rattle.diagram.specs.Works.{Fits, Leads, Fresh, Ran, Ready};
-ghost use Rattle.instructions.specs.Planned.{planned};
+ghost use Rattle.diagram.specs.Works.{Fits, Leads, RowDone, Fresh, Ran, Ready};
+ghost use Rattle.instructions.specs.Planned.{asked, planned};
 use crate::Stepped;
+use crate::atoms::atom;
 use crate::refused;
 use diagram::Told;
 use diagram::row::row;
+use diagram::row::uncounted;
 use meaning::Event;
 use nodes::zero;
+use rule::Row;
 use sweeping::renew;
 use walks::Counted;
+
+// The new diagram of row i, whose decoded form is `read`, and the visits where it is a complement.
+fn one_row(
+    nodes: &mut [u32],
+    work: &mut [u32],
+    c: usize,
+    slots: usize,
+    n: u32,
+    k: u32,
+    i: u32,
+    read: Row,
+    event: Event,
+    given: &[u32; 96],
+    olds: &[u32; 64],
+    news: &[u32; 64],
+) -> Counted
+    requires { ⌜ (k ≤ 10) × (event .count ≤ 8) × Desk (now nodes) n (4 * k) (now work) c slots ⌝ }
+    requires { ⌜ Leads (now nodes) n (4 * k) (now olds) × Leads (now nodes) n (4 * k) (now news) × (length (now given) ≡ 96) ⌝ }
+    ensures { λ m. ⌜ RowDone k (now (nodes .entry)) (now (nodes .exit)) n (now (olds .entry)) (now (news .entry)) i (asked (rowOf read) event (now (given .entry))) (now (work .entry)) (now (work .exit)) c slots m ⌝ }
+{
+    if instructions::is_atom(read) {
+        return uncounted(atom(nodes, work, c, slots, n, k, read, event, given));
+    }
+    let x = instructions::instruction(read);
+    row(nodes, work, c, slots, n, k, i, x, olds, news)
+}
 
 // What the work on all rows answers: that there is no room, or the count of nodes and the visits of all complements.
 struct Run {
@@ -40,14 +70,14 @@ fn work_rows(
     k: u32,
     rows: &[u32],
     event: Event,
-    given: [u32; 12],
+    given: &[u32; 96],
     olds: &[u32; 64],
     news: &mut [u32; 64],
 ) -> Run
-    requires { ⌜ (k ≤ 10) × (checkRows (now rows) ≡ right) × (event .count ≤ 3) × Desk (now nodes) kept (4 * k) (now work) c slots ⌝ }
+    requires { ⌜ (k ≤ 10) × (checkRows (now rows) ≡ right) × (event .count ≤ 8) × (length (now given) ≡ 96) × Desk (now nodes) kept (4 * k) (now work) c slots ⌝ }
     requires { ⌜ Leads (now nodes) kept (4 * k) (now olds) × (now news ≡ replicate 64 0) ⌝ }
     requires { ⌜ ((a : ℕ) → rowCount (now rows) ≤ a → getD (now olds) a 0 ≡ 0) × Fresh (now nodes) kept (now work) c ⌝ }
-    ensures { λ x. ⌜ Ran k (planned (now (rows .entry)) event given) (diagrams (now (nodes .entry)) kept (now (olds .entry)) (rowCount (now (rows .entry)))) (now (nodes .entry)) kept (now (nodes .exit)) (now (work .exit)) c slots (now (olds .entry)) (rowCount (now (rows .entry))) (x .full) (x .count) (now (news .exit)) (x .visits) ⌝ }
+    ensures { λ x. ⌜ Ran k (planned (now (rows .entry)) event (now (given .entry))) (diagrams (now (nodes .entry)) kept (now (olds .entry)) (rowCount (now (rows .entry)))) (now (nodes .entry)) kept (now (nodes .exit)) (now (work .exit)) c slots (now (olds .entry)) (rowCount (now (rows .entry))) (x .full) (x .count) (now (news .exit)) (x .visits) ⌝ }
 {
     let count = rows.len() / 9;
     let mut n = kept;
@@ -55,9 +85,20 @@ fn work_rows(
     let mut i: usize = 0;
     while i < count {
         let read = rule::row_at(rows, i);
-        let matched = numbers::matches(read, event);
-        let x = instructions::instruction(read, matched, given);
-        let Counted::At(m, r, v) = row(nodes, work, c, slots, n, k, i as u32, x, olds, news) else {
+        let Counted::At(m, r, v) = one_row(
+            nodes,
+            work,
+            c,
+            slots,
+            n,
+            k,
+            i as u32,
+            read,
+            event,
+            given,
+            olds,
+            news,
+        ) else {
             return Run {
                 full: true,
                 count: 0,
@@ -91,17 +132,17 @@ pub fn worked(
     k: u32,
     rows: &[u32],
     event: Event,
-    given: [u32; 12],
+    given: &[u32; 96],
     refs: &mut [u32; 64],
     kept: u32,
     nodes: &mut [u32],
     work: &mut [u32],
 ) -> Stepped
-    requires { ⌜ (checkRows (now rows) ≡ right) × (event .count ≤ 3) ⌝ }
+    requires { ⌜ (checkRows (now rows) ≡ right) × (event .count ≤ 8) × (length (now given) ≡ 96) ⌝ }
     requires { ⌜ Fits k (rowCount (now rows)) (length (now nodes)) (length (now work)) ⌝ }
     requires { ⌜ Ready k (rowCount (now rows)) (now refs) kept (now nodes) × Chained (now nodes) kept (now work) ⌝ }
-    ensures { λ x. ⌜ Leaves (workOutcome (leb (length (workTable k (rowCount (now (rows .entry))) (planned (now (rows .entry)) event given) (now (refs .entry)) kept (now (nodes .entry)))) (length (now (nodes .entry)) / 3)) k (rowCount (now (rows .entry))) (planned (now (rows .entry)) event given) (now (refs .entry)) kept (now (nodes .entry)) (now (work .entry))) (x .told) (now (refs .exit)) (now (nodes .exit)) (now (work .exit)) ⌝ }
-    ensures { λ x. ⌜ Visits k (rowCount (now (rows .entry))) (planned (now (rows .entry)) event given) (now (refs .entry)) kept (now (nodes .entry)) (x .told) (x .complements) (x .swept) ⌝ }
+    ensures { λ x. ⌜ Leaves (workOutcome (leb (length (workTable k (rowCount (now (rows .entry))) (planned (now (rows .entry)) event (now (given .entry))) (now (refs .entry)) kept (now (nodes .entry)))) (length (now (nodes .entry)) / 3)) k (rowCount (now (rows .entry))) (planned (now (rows .entry)) event (now (given .entry))) (now (refs .entry)) kept (now (nodes .entry)) (now (work .entry))) (x .told) (now (refs .exit)) (now (nodes .exit)) (now (work .exit)) ⌝ }
+    ensures { λ x. ⌜ Visits k (rowCount (now (rows .entry))) (planned (now (rows .entry)) event (now (given .entry))) (now (refs .entry)) kept (now (nodes .entry)) (x .told) (x .complements) (x .swept) ⌝ }
 {
     let c = nodes.len() / 3;
     let slots = slots_for(c, kept);

@@ -16,7 +16,7 @@ use Rattle.meaning.specs.declared.State.{State}
 use Rattle.meaning.specs.Rows.{Row, Found, right, fault, ruleOf, checkRows}
 use Rattle.meaning.specs.Step.{Shown, step}
 use Rattle.meaning.specs.Tables.{most, keptTable, layState, layNodes, layValues}
-use Rattle.meaning.specs.Outcome.{Arrays, kRight, capacity, nodesRight, valuesRight, workSize, cleared, factOf, Decision, taken, refused, judgeStart, judgeEvent, Machine, shows, decideEvent, settleEvent, eventOutcome}
+use Rattle.meaning.specs.Outcome.{Arrays, kRight, capacity, nodesRight, valuesRight, workSize, cleared, factsOf, Decision, taken, refused, judgeStart, judgeEvent, Machine, shows, decideEvent, settleEvent, eventOutcome}
 use Rattle.meaning.proofs.PartsLaws.{padded-length}
 use Rattle.meaning.proofs.ProperLaws.{Proper}
 use Rattle.meaning.proofs.RunLaws.{start-taken, few, laid-on}
@@ -92,7 +92,7 @@ module _ (rows : List ℕ) (m : Machine) (e : Event) where
       let C : ℕ = capacity (m .nodes) in
       let tests = passed rows m e arrays d in
       let was = laid-of rows m e arrays d in
-      let after : Shown = step k (ruleOf rows) (shows rows m) (factOf e) in
+      let after : Shown = step k (ruleOf rows) (shows rows m) (factsOf e) in
       let is = laid-on rows k C (tests .0) (tests .1) m (shows rows m) was e d in
       record {
         arrays = (

@@ -88,9 +88,13 @@ judged e before ended = record { stand = ended; bytes = before }
 unfoldable pub tellEvent : Stand → Event → Reply
 tellEvent st e = judged e (due st .bytes) (due st .stand)
 
--- the event of a line; its fourth value only makes the count 4, which is refused
+-- the event of a line is one fact, which stands at all eight places; its fourth value only makes the count 4, which is refused
 unfoldable pub eventOf : ℕ → ℕ → ℕ → ℕ → ℕ → Event
-eventOf p n a b c = record { predicate = p; count = n; values = record { 0 = a } ∷ record { 0 = b } ∷ record { 0 = c } ∷ [] }
+eventOf p n a b c =
+    record {
+      count = 1;
+      facts = replicate 8 (record { predicate = p; count = n; values = record { 0 = a } ∷ record { 0 = b } ∷ record { 0 = c } ∷ [] });
+    }
 
 -- one line
 unfoldable pub tell : Stand → Line → Reply

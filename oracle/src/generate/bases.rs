@@ -2,6 +2,7 @@
 
 use crate::case::{Begin, Case, DIRT};
 use crate::generate::events::{log, pool};
+use crate::generate::moments::moments;
 use crate::generate::rules::{encode, rule, turned, Wish};
 use crate::generate::states;
 use crate::random::Random;
@@ -61,6 +62,12 @@ fn fill_up(rows: &mut Vec<u32>) {
     }
 }
 
+/// A fresh start, and a log of one fact an event, as the program reads it.
+pub fn fact_by_fact(random: &mut Random) -> Case {
+    let (k, rows) = setting(random);
+    single_facts(random, k, rows)
+}
+
 pub fn from_start(random: &mut Random) -> Case {
     let (k, rows) = setting(random);
     start_of(random, k, rows)
@@ -68,6 +75,11 @@ pub fn from_start(random: &mut Random) -> Case {
 
 /// A fresh start of a rule, and a log.
 pub fn start_of(random: &mut Random, k: u32, rows: Vec<u32>) -> Case {
+    let case = single_facts(random, k, rows);
+    moments(random, case, k)
+}
+
+fn single_facts(random: &mut Random, k: u32, rows: Vec<u32>) -> Case {
     let rule = Rule::read(&rows).expect("made rules are right");
     let large = bits(k, &rows) > Some(12);
     let size = random.between(1, (1 << k.min(3)) + 2);
@@ -104,14 +116,15 @@ pub fn state_of(random: &mut Random, k: u32, rows: Vec<u32>) -> Option<Case> {
     let listed = made.values.iter().take(2 << k);
     pool.extend(listed.filter(|&&value| value != 0).take(8));
     let length = random.between(1, 3);
-    Some(Case {
+    let case = Case {
         begin: Begin::Given(made.state),
         work: vec![DIRT; work_used(&nodes) + random.below(3)],
         nodes,
         values: made.values,
         events: log(random, &rule, &pool, length),
         rows,
-    })
+    };
+    Some(moments(random, case, k))
 }
 
 pub fn either(random: &mut Random) -> Case {

@@ -5,6 +5,7 @@ use crate::event::{Answer, State};
 use crate::generate::bases::{either, from_start, from_state};
 use crate::generate::disguise::{disguise, renaming};
 use crate::generate::disturb::{disturb, CLAUSES};
+use crate::generate::moments;
 use crate::generate::refused::refuse;
 use crate::generate::smear::{smear, smeared, within_reach};
 use crate::monitor::{event, start};
@@ -14,14 +15,15 @@ use crate::trial::Trial;
 pub fn trial(seed: u64, index: u64) -> Trial {
     let mut random = Random::of_case(seed, index);
     let random = &mut random;
-    match index % 10 {
+    match index % 11 {
         0 | 1 => Trial::Alone(from_start(random)),
         2 | 3 => Trial::Alone(from_state(random)),
         4 | 5 => disturbed(random),
         6 => at_room(random),
         7 => Trial::Alone(broken(random)),
         8 => Trial::Alone(smeared(random)),
-        _ => disguised(random),
+        9 => disguised(random),
+        _ => reordered(random),
     }
 }
 
@@ -46,14 +48,14 @@ fn most_room(case: &Case) -> u32 {
         Begin::Start { k } => start(k, &case.rows, &mut case.nodes, &mut case.values).0,
     };
     let mut most = 0;
-    for fact in &case.events {
+    for facts in &case.events {
         let (next, answer) = event(
             state,
             &case.rows,
             &mut case.nodes,
             &mut case.values,
             &mut case.work,
-            fact,
+            facts,
         );
         state = next;
         if let Answer::Verdict { room, .. } = answer {
@@ -105,5 +107,23 @@ fn disguised(random: &mut Random) -> Trial {
         disguised: disguise(random, &plain, &renaming),
         plain,
         renaming,
+    }
+}
+
+/// A log in which some event has several facts, and the same with its facts in another order.
+fn reordered(random: &mut Random) -> Trial {
+    loop {
+        let mut one = from_start(random);
+        if one.events.iter().any(|event| event.facts.len() > 1) {
+            // With no node to spare one order may be taken alone.
+            if random.once_in(2) {
+                let most = most_room(&one.with_count(4096)) as usize;
+                one = one.with_count(most.max(1));
+            }
+            return Trial::Reordered {
+                other: moments::reordered(random, &one),
+                one,
+            };
+        }
     }
 }

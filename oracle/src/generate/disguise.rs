@@ -18,7 +18,8 @@ impl Renaming {
 /// Names for the values of a log. Some are exchanged for one another, some are new.
 pub fn renaming(random: &mut Random, case: &Case) -> Renaming {
     let mut renamed: Vec<(u32, u32)> = Vec::new();
-    let values = case.events.iter().flat_map(|event| event.values);
+    let facts = case.events.iter().flat_map(|event| &event.facts);
+    let values = facts.flat_map(|fact| fact.values);
     let mut used: Vec<u32> = values.filter(|value| !CONSTANTS.contains(value)).collect();
     used.sort_unstable();
     used.dedup();
@@ -37,12 +38,16 @@ pub fn renaming(random: &mut Random, case: &Case) -> Renaming {
     Renaming(renamed)
 }
 
-/// The same case on the renamed log. Values past an event's count change too, by no rule.
+/// The same case on the renamed log, all facts of an event alike. Values past a fact's count change too, by no rule.
 pub fn disguise(random: &mut Random, case: &Case, renaming: &Renaming) -> Case {
     let mut disguised = case.clone();
-    for event in &mut disguised.events {
-        for (place, value) in event.values.iter_mut().enumerate() {
-            *value = if place < event.count as usize {
+    for fact in disguised
+        .events
+        .iter_mut()
+        .flat_map(|event| &mut event.facts)
+    {
+        for (place, value) in fact.values.iter_mut().enumerate() {
+            *value = if place < fact.count as usize {
                 renaming.of(*value)
             } else {
                 random.number()

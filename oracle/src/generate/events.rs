@@ -1,6 +1,6 @@
-//! Events for a rule, from a small pool of values, so that values come again.
+//! Facts for a rule, from a small pool of values, so that values come again.
 
-use crate::event::Event;
+use crate::event::{Event, Fact};
 use crate::generate::rules::{CONSTANTS, PREDICATES};
 use crate::random::Random;
 use crate::rows::Rule;
@@ -21,8 +21,8 @@ pub fn pool(random: &mut Random, size: usize) -> Vec<u32> {
     pool
 }
 
-/// An event that refusal 5 lets through, or seldom one that it does not.
-pub fn event(random: &mut Random, rule: &Rule, pool: &[u32]) -> Event {
+/// A fact that refusal 5 lets through, or seldom one that it does not.
+pub fn fact(random: &mut Random, rule: &Rule, pool: &[u32]) -> Fact {
     let named: Vec<u32> = PREDICATES
         .into_iter()
         .filter(|&predicate| rule.count_of(predicate).is_some())
@@ -38,13 +38,16 @@ pub fn event(random: &mut Random, rule: &Rule, pool: &[u32]) -> Event {
         1 => random.below(5) as u32,
         _ => known.map_or_else(|| random.below(4) as u32, |count| count as u32),
     };
-    Event {
+    Fact {
         predicate,
         count,
         values: [(); 3].map(|()| *random.pick(pool)),
     }
 }
 
+/// So many events of one fact.
 pub fn log(random: &mut Random, rule: &Rule, pool: &[u32], length: usize) -> Vec<Event> {
-    (0..length).map(|_| event(random, rule, pool)).collect()
+    (0..length)
+        .map(|_| Event::one(fact(random, rule, pool)))
+        .collect()
 }

@@ -1,8 +1,8 @@
 //! Inputs of the program, each from a seed and an index: good ones, and ones with something wrong in them.
 
 use crate::case::{Begin, Case};
-use crate::event::Event;
-use crate::generate::bases::from_start;
+use crate::event::{Event, Fact};
+use crate::generate::bases::fact_by_fact;
 use crate::generate::refused::refuse;
 use crate::generate::smear::within_reach;
 use crate::random::Random;
@@ -32,7 +32,7 @@ pub fn input(seed: u64, index: u64) -> Vec<u8> {
 
 fn base(random: &mut Random, index: u64) -> Case {
     loop {
-        let case = from_start(random);
+        let case = fact_by_fact(random);
         let case = if index % 16 == 1 {
             refuse(random, &case)
         } else {
@@ -55,7 +55,8 @@ fn lines(random: &mut Random, case: &Case) -> Vec<Vec<u8>> {
     };
     let mut lines = vec![format!("{k} {count}")];
     lines.extend(case.rows.chunks(FIELDS).map(|row| words("r", row)));
-    lines.extend(case.events.iter().map(event_line));
+    let facts = case.events.iter().flat_map(|Event { facts }| facts);
+    lines.extend(facts.map(event_line));
     lines.into_iter().map(String::into_bytes).collect()
 }
 
@@ -65,12 +66,12 @@ fn words(letter: &str, numbers: &[u32]) -> String {
     words.join(" ")
 }
 
-/// An event of more than three values has a fourth, and now and then a fifth.
-fn event_line(event: &Event) -> String {
-    let [first, second, third] = event.values;
-    let values = [event.predicate, first, second, third, first, second];
-    let count = match event.count {
-        0..=4 => event.count as usize,
+/// A fact of more than three values has a fourth, and now and then a fifth.
+fn event_line(fact: &Fact) -> String {
+    let [first, second, third] = fact.values;
+    let values = [fact.predicate, first, second, third, first, second];
+    let count = match fact.count {
+        0..=4 => fact.count as usize,
         5..=9 => 5,
         _ => 4,
     };

@@ -7,6 +7,7 @@ pub mod disturb;
 pub mod events;
 pub mod inputs;
 pub mod laws;
+pub mod moments;
 pub mod refused;
 pub mod rules;
 pub mod small;

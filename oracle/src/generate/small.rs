@@ -1,7 +1,7 @@
 //! All rules of a few rows over a small alphabet, and all short logs for each of them.
 
 use crate::case::Case;
-use crate::event::Event;
+use crate::event::{Event, Fact};
 use crate::generate::rules::encode;
 use crate::rows::{Argument, Row, Rule};
 
@@ -26,12 +26,21 @@ pub fn alphabets() -> Vec<Alphabet> {
     let (x, y) = (Argument::Variable(0), Argument::Variable(1));
     let one = vec![Row::True, atom(&[x]), atom(&[Argument::Constant(6)])];
     let two = vec![atom(&[x, y]), atom(&[y, x]), atom(&[x, x])];
-    let facts = vec![Event::new(1, &[6]), Event::new(1, &[7]), Event::new(2, &[])];
-    let pairs = vec![
-        Event::new(1, &[1, 1]),
-        Event::new(1, &[1, 2]),
-        Event::new(1, &[6, 1]),
+    let event = |facts: &[Fact]| Event {
+        facts: facts.to_vec(),
+    };
+    let [six, seven, other] = [Fact::new(1, &[6]), Fact::new(1, &[7]), Fact::new(2, &[])];
+    let facts = vec![event(&[six]), event(&[seven]), event(&[other])];
+    let lists = vec![
+        event(&[]),
+        event(&[six]),
+        event(&[seven, six]),
+        event(&[other, seven]),
     ];
+    let pairs = [[1, 1], [1, 2], [6, 1]].map(|pair| Fact::new(1, &pair));
+    let [both, up, down] = pairs;
+    let pairs = pairs.map(|fact| event(&[fact])).to_vec();
+    let pair_lists = vec![event(&[]), event(&[up, down]), event(&[down, both])];
     vec![
         Alphabet {
             leaves: one.clone(),
@@ -42,7 +51,7 @@ pub fn alphabets() -> Vec<Alphabet> {
             ks: 1..=4,
         },
         Alphabet {
-            leaves: one,
+            leaves: one.clone(),
             variables: vec![0],
             rows: 4,
             events: facts,
@@ -50,12 +59,28 @@ pub fn alphabets() -> Vec<Alphabet> {
             ks: 1..=2,
         },
         Alphabet {
-            leaves: two,
+            leaves: two.clone(),
             variables: vec![0, 1],
             rows: 4,
             events: pairs,
             length: 2,
             ks: 1..=4,
+        },
+        Alphabet {
+            leaves: one,
+            variables: vec![0],
+            rows: 3,
+            events: lists,
+            length: 3,
+            ks: 1..=3,
+        },
+        Alphabet {
+            leaves: two,
+            variables: vec![0, 1],
+            rows: 4,
+            events: pair_lists,
+            length: 2,
+            ks: 2..=3,
         },
     ]
 }
@@ -115,7 +140,7 @@ impl Alphabet {
             for which in 0..self.events.len().pow(self.length as u32) {
                 let events = (0..self.length).map(|place| {
                     let digit = which / self.events.len().pow(place as u32);
-                    self.events[digit % self.events.len()]
+                    self.events[digit % self.events.len()].clone()
                 });
                 visit(&Case::fresh(k, numbers.clone(), COUNT, events.collect()))?;
             }

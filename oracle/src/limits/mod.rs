@@ -38,7 +38,7 @@ pub struct Step {
     pub after: After,
 }
 
-#[derive(Clone, Copy, Debug, PartialEq, Eq)]
+#[derive(Clone, Debug, PartialEq, Eq)]
 pub enum Doing {
     Start {
         k: u32,

@@ -1,7 +1,7 @@
 //! Reads a file of written cases. An error begins with the number of its line.
 
 use super::{After, Doing, Lent, Step, Written};
-use crate::event::{Answer, Event, State};
+use crate::event::{Answer, Event, Fact, State};
 use crate::rows::{FIELDS, VARIABLES};
 
 /// Numbers by their names, as `kept 4, counts 1 2`.
@@ -121,19 +121,28 @@ fn lend(case: &mut Written, rest: &str) -> Result<(), String> {
     Ok(())
 }
 
-/// A predicate and its values, and a count where it is not that of the values. A fourth value only counts.
+/// Facts with `;` between, or `none`.
 fn event(rest: &str) -> Result<Event, String> {
+    let facts: Result<Vec<Fact>, String> = match rest {
+        "none" => Ok(Vec::new()),
+        _ => rest.split(';').map(fact).collect(),
+    };
+    Ok(Event { facts: facts? })
+}
+
+/// A predicate and its values, and a count where it is not that of the values. A fourth value only counts.
+fn fact(rest: &str) -> Result<Fact, String> {
     let (said, count) = match rest.split_once(", count ") {
         Some((said, count)) => (said, Some(one(count)?)),
         None => (rest, None),
     };
     match &numbers(said)?[..] {
         [predicate, values @ ..] => {
-            let event = Event::new(*predicate, values);
-            let count = count.unwrap_or(event.count);
-            Ok(Event { count, ..event })
+            let fact = Fact::new(*predicate, values);
+            let count = count.unwrap_or(fact.count);
+            Ok(Fact { count, ..fact })
         }
-        [] => Err("an event has a predicate".to_string()),
+        [] => Err("a fact has a predicate".to_string()),
     }
 }
 

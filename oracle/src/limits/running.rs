@@ -20,7 +20,7 @@ pub fn run(case: &Written, monitor: &mut dyn Monitor) -> Result<usize, String> {
             continue;
         }
         let differs = |what| format!("{}: {}: {what}", step.line, case.name);
-        let left = called(case, &now, step.doing, monitor).map_err(differs)?;
+        let left = called(case, &now, &step.doing, monitor).map_err(differs)?;
         if let Some(what) = difference(&wanted, &left, "as written") {
             return Err(differs(what));
         }
@@ -53,7 +53,7 @@ fn marked(length: usize) -> Vec<u32> {
 fn called(
     case: &Written,
     now: &Left,
-    call: Doing,
+    call: &Doing,
     monitor: &mut dyn Monitor,
 ) -> Result<Left, String> {
     let slices = [&now.nodes, &now.values, &now.work];
@@ -62,11 +62,11 @@ fn called(
     let lent = case.lent;
     let (own_nodes, own_values) = (&mut nodes[..lent.nodes], &mut values[..lent.values]);
     let (state, answer) = match call {
-        Doing::Start { k } => monitor.start(k, &case.rows, own_nodes, own_values),
+        Doing::Start { k } => monitor.start(*k, &case.rows, own_nodes, own_values),
         Doing::Event(event) => {
             let own_work = &mut work[..lent.work];
             monitor.event(
-                now.state, &case.rows, own_nodes, own_values, own_work, &event,
+                now.state, &case.rows, own_nodes, own_values, own_work, event,
             )
         }
         Doing::Given => (now.state, now.answer),

@@ -39,6 +39,9 @@ impl Step<'_> {
                 met.extend(self.removals(shape, &after[*below], *variable, lists));
             }
         }
+        for row in &self.rule.rows {
+            met.extend(self.turns(shape, row, lists));
+        }
         for (place, row) in self.rule.rows.iter().enumerate() {
             if let (Row::Since { left, .. }, Fault::RoomWithPartsOfSince) = (row, self.fault) {
                 met.push(after[*left].and(&before[place]));
@@ -46,6 +49,22 @@ impl Step<'_> {
         }
         let counted: Vec<&Table> = met.iter().collect();
         room(shape, &counted) + u32::from(self.fault == Fault::RoomOneMore)
+    }
+
+    /// An atom's functions after each fact in turn.
+    fn turns(&self, shape: &Shape, row: &Row, lists: &Lists) -> Vec<Table> {
+        let facts = &self.event.facts;
+        let after = |count| self.atom(shape, row, lists, count);
+        let points = || facts.iter().map(|fact| self.point(shape, row, lists, fact));
+        match (row, self.fault) {
+            (Row::Atom { .. }, Fault::RoomWithoutTurns) => Vec::new(),
+            (Row::Atom { .. }, Fault::RoomWithPoints) => {
+                (1..=facts.len()).map(after).chain(points()).collect()
+            }
+            (Row::Atom { .. }, Fault::RoomOfPointsForTurns) => points().collect(),
+            (Row::Atom { .. }, _) => (1..=facts.len()).map(after).collect(),
+            _ => Vec::new(),
+        }
     }
 
     pub fn lay_out(&self, shape: &Shape, after: &[Table]) -> (Vec<u32>, Vec<u32>) {

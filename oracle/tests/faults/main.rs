@@ -1,5 +1,7 @@
 //! The comparison finds each of a set of seeded faults.
 
+mod asking;
+mod facts;
 mod fault;
 mod kept;
 mod mutant;

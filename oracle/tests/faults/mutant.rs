@@ -1,12 +1,13 @@
 //! The oracle's two calls with a fault in them.
 
-use oracle::event::{Answer, Event, State};
+use oracle::event::{Answer, Event, Fact, State, MOST_FACTS};
 use oracle::monitor::{event, start, Monitor};
 use oracle::numbering::Lists;
-use oracle::refusals::{at_event, at_start, work_used};
+use oracle::refusals::{at_event, at_start, unfit, work_used};
 use oracle::rows::{Rule, FIELDS};
 use oracle::well_formed::broken;
 
+use crate::facts::seen;
 use crate::fault::Fault;
 use crate::step::Step;
 
@@ -69,16 +70,16 @@ impl Monitor for Mutant {
         nodes: &mut [u32],
         values: &mut [u32],
         work: &mut [u32],
-        fact: &Event,
+        handed: &Event,
     ) -> (State, Answer) {
         let held = (nodes.to_vec(), values.to_vec(), work.to_vec());
-        let repeated = *self.first.get_or_insert(*fact);
-        let fact = if self.fault == Fault::FirstEventRepeated {
-            &repeated
-        } else {
-            fact
+        let first = self.first.get_or_insert(handed.clone());
+        let facts = match self.fault {
+            Fault::FirstEventRepeated => first.clone(),
+            fault => seen(fault, rows, handed),
         };
-        let (mut next, mut answer) = self.stepped(state, rows, nodes, values, work, fact);
+        let facts = &facts;
+        let (mut next, mut answer) = self.stepped(state, rows, nodes, values, work, facts);
         match (self.fault, &mut answer) {
             (Fault::AlwaysYes, Answer::Verdict { yes, .. }) => *yes = true,
             (Fault::AlwaysNo, Answer::Verdict { yes, .. }) => *yes = false,
@@ -101,16 +102,21 @@ impl Monitor for Mutant {
             }
             (Fault::NumberGivenByRefusedEvent, Answer::Refused { number: 7, .. }) => {
                 let rule = Rule::read(rows).expect("refusal 2 was not given");
-                let lists = Lists::read(state.k, &state.counts, values).asked(&rule, fact);
+                let lists = Lists::read(state.k, &state.counts, values).asked(&rule, facts);
                 lists.write(state.k, values);
                 next.counts = lists.counts();
             }
             (Fault::UnknownPredicateSkipped, Answer::Verdict { .. }) => {
                 let rule = Rule::read(rows).expect("refusal 2 was not given");
-                if rule.count_of(fact.predicate).is_none() {
+                let unnamed = |fact: &Fact| rule.count_of(fact.predicate).is_none();
+                if !facts.facts.is_empty() && facts.facts.iter().all(unnamed) {
                     nodes.copy_from_slice(&held.0);
                     next = state;
                 }
+            }
+            (Fault::NoFactsSkipped, Answer::Verdict { .. }) if facts.facts.is_empty() => {
+                nodes.copy_from_slice(&held.0);
+                next = state;
             }
             (Fault::WorkNotCleanAfterVerdict, Answer::Verdict { .. }) => {
                 work[..9].copy_from_slice(&held.2[..9])
@@ -128,7 +134,7 @@ impl Monitor for Mutant {
                     rows,
                     nodes: &held.0,
                     values: &held.1,
-                    event: fact,
+                    event: facts,
                 };
                 let (number, place) = (*number, *place);
                 answer = self.other_refusal(&call, number, place).unwrap_or(answer);
@@ -148,10 +154,10 @@ impl Mutant {
         nodes: &mut [u32],
         values: &mut [u32],
         work: &mut [u32],
-        fact: &Event,
+        facts: &Event,
     ) -> (State, Answer) {
         let Ok(rule) = at_event(&state, rows, nodes, values, work) else {
-            return event(state, rows, nodes, values, work, fact);
+            return event(state, rows, nodes, values, work, facts);
         };
         work[..work_used(nodes)].fill(0);
         let step = Step {
@@ -160,10 +166,11 @@ impl Mutant {
             state: &state,
             nodes,
             values,
-            event: fact,
+            event: facts,
         };
-        if !broken(&state, &rule, nodes, values).is_empty() || fact.count > 3 {
-            return event(state, rows, nodes, values, work, fact);
+        let unfit = facts.facts.iter().any(|fact| unfit(&rule, fact));
+        if !broken(&state, &rule, nodes, values).is_empty() || unfit {
+            return event(state, rows, nodes, values, work, facts);
         }
         match step.work() {
             Err((number, place)) => (state, Answer::Refused { number, place }),
@@ -206,11 +213,27 @@ impl Mutant {
                 let found = broken(call.state, &rule, call.nodes, call.values);
                 (found.len() == 1 && found.contains(&clause)).then_some(taken)
             }
-            (Fault::CountLookedAtBeforeState, 4, _) if call.event.count > 3 => refused(5, 0),
+            (Fault::CountLookedAtBeforeState, 4, _) => {
+                let over = call.event.facts.iter().any(|fact| fact.count > 3);
+                over.then_some(Answer::Refused {
+                    number: 5,
+                    place: 0,
+                })
+            }
             (Fault::NumbersLookedAtBeforeCount, 5, Ok(rule)) => {
-                let mut short = *call.event;
-                short.count = short.count.min(3);
+                let mut short = call.event.clone();
+                for fact in &mut short.facts {
+                    fact.count = fact.count.min(3);
+                }
                 let lists = call.lists().asked(&rule, &short);
+                let variable = lists.short(call.state.k)?;
+                refused(6, variable)
+            }
+            (Fault::FactsJudgedOneByOne, 5, Ok(rule)) => {
+                let right = |fact: &&Fact| !unfit(&rule, fact);
+                let facts = call.event.facts.iter().take(MOST_FACTS);
+                let facts = facts.take_while(right).copied().collect();
+                let lists = call.lists().asked(&rule, &Event { facts });
                 let variable = lists.short(call.state.k)?;
                 refused(6, variable)
             }

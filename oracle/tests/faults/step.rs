@@ -1,9 +1,9 @@
 //! A step of the monitor with a fault in it. Without one it gives what the oracle's own step gives.
 
-use oracle::event::{Answer, Event, State};
+use oracle::event::{Answer, Event, Fact, State};
 use oracle::layout::shown;
 use oracle::numbering::{bindings, numbers, Lists};
-use oracle::refusals::{in_state, Refusal};
+use oracle::refusals::Refusal;
 use oracle::rows::{Argument, Row, Rule};
 use oracle::table::{Shape, Table};
 
@@ -27,55 +27,6 @@ pub struct Step<'a> {
 }
 
 impl Step<'_> {
-    /// The lists with what the event asks.
-    fn lists(&self) -> Result<Lists, Refusal> {
-        let before = Lists::read(self.state.k, &self.state.counts, self.values);
-        let right = in_state(self.state, self.rule, self.nodes, self.values, self.event);
-        let matching = |row: &&Row| bindings(row, self.event).is_some();
-        let mut rows = self.rule.rows.iter().filter(matching);
-        let asked_by = |lists, row: &Row| self.asked_by(lists, row);
-        match (self.fault, right) {
-            (Fault::LastNumberGiven, Err((6, place))) => {
-                let asked = before.asked(self.rule, self.event);
-                let past = asked.0.iter().any(|list| list.len() > 1 << self.state.k);
-                if past {
-                    Err((6, place))
-                } else {
-                    Ok(asked)
-                }
-            }
-            (Fault::AtMostTwoNumbers, Ok((before, after))) => {
-                let many =
-                    |&variable: &usize| after.0[variable].len() > before.0[variable].len() + 2;
-                (0..4)
-                    .find(many)
-                    .map_or(Ok(after.clone()), |place| Err((6, place as u32)))
-            }
-            (Fault::WalkStopsAtFirstAtom, Ok(_)) => {
-                Ok(rows.next().into_iter().fold(before, asked_by))
-            }
-            (Fault::WalkFromLastRow, Ok(_)) => Ok(rows.rev().fold(before, asked_by)),
-            (Fault::PastValuesRead, Ok((_, after))) => {
-                let past = &self.event.values[self.event.count as usize..];
-                if past.iter().any(|&value| value != 0) {
-                    Err((5, 0))
-                } else {
-                    Ok(after)
-                }
-            }
-            (_, right) => right.map(|lists| lists.1),
-        }
-    }
-
-    fn asked_by(&self, mut lists: Lists, row: &Row) -> Lists {
-        for (variable, value) in bindings(row, self.event).unwrap_or_default() {
-            if lists.number_of(variable, value).is_none() {
-                lists.0[variable].push(value);
-            }
-        }
-        lists
-    }
-
     /// The functions before the event. A monitor that trusts its own past takes all numbers without a value for one.
     fn before(&self, shape: &Shape) -> Vec<Table> {
         let references = &self.state.refs[..self.rule.rows.len()];
@@ -105,9 +56,24 @@ impl Step<'_> {
             .collect()
     }
 
-    /// Yes exactly where the variables have the numbers of the values; a value without one has the reserved number.
-    fn atom(&self, shape: &Shape, row: &Row, lists: &Lists) -> Table {
-        let Some(bound) = self.bindings(row) else {
+    /// An atom's function after the first facts.
+    pub fn atom(&self, shape: &Shape, row: &Row, lists: &Lists, count: usize) -> Table {
+        let facts = match self.fault {
+            Fault::FirstFactOnly => &self.event.facts[..count.min(1)],
+            Fault::LastFactOnly => &self.event.facts[count.max(1) - 1..count],
+            _ => &self.event.facts[..count],
+        };
+        let points = facts.iter().map(|fact| self.point(shape, row, lists, fact));
+        match self.fault {
+            Fault::EveryFactMustMatch => points.reduce(|all, point| all.and(&point)),
+            _ => points.reduce(|some, point| some.or(&point)),
+        }
+        .unwrap_or(shape.constant(false))
+    }
+
+    /// Yes exactly where the variables have the numbers of the fact's values; a value without one has the reserved number.
+    pub fn point(&self, shape: &Shape, row: &Row, lists: &Lists, fact: &Fact) -> Table {
+        let Some(bound) = self.bindings(row, fact) else {
             return shape.constant(false);
         };
         let wanted: Vec<(usize, usize)> = bound
@@ -132,7 +98,7 @@ impl Step<'_> {
         Table((0..shape.size()).map(|index| u8::from(at(index))).collect())
     }
 
-    fn bindings(&self, row: &Row) -> Option<Vec<(usize, u32)>> {
+    fn bindings(&self, row: &Row, fact: &Fact) -> Option<Vec<(usize, u32)>> {
         let Row::Atom {
             predicate,
             arguments,
@@ -140,7 +106,7 @@ impl Step<'_> {
         else {
             return None;
         };
-        let given = self.event.given();
+        let given = fact.given();
         let loose: Vec<(usize, u32)> = arguments
             .iter()
             .zip(given)
@@ -150,7 +116,7 @@ impl Step<'_> {
             })
             .collect();
         match self.fault {
-            Fault::ConstantsNotCompared if *predicate == self.event.predicate => {
+            Fault::ConstantsNotCompared if *predicate == fact.predicate => {
                 let agree = |&(one, two): &(usize, u32)| {
                     loose
                         .iter()
@@ -158,7 +124,7 @@ impl Step<'_> {
                 };
                 loose.iter().all(agree).then_some(loose.clone())
             }
-            Fault::RepeatedVariableNotCompared if *predicate == self.event.predicate => {
+            Fault::RepeatedVariableNotCompared if *predicate == fact.predicate => {
                 let constants =
                     arguments
                         .iter()
@@ -171,7 +137,7 @@ impl Step<'_> {
                 first.dedup_by_key(|bound| bound.0);
                 constants.then_some(first)
             }
-            _ => bindings(row, self.event),
+            _ => bindings(row, fact),
         }
     }
 
@@ -225,7 +191,7 @@ impl Step<'_> {
         for (place, row) in self.rule.rows.iter().enumerate() {
             let table = match row {
                 Row::True => shape.constant(true),
-                Row::Atom { .. } => self.atom(shape, row, lists),
+                Row::Atom { .. } => self.atom(shape, row, lists, self.event.facts.len()),
                 Row::And(one, two) => after[*one].and(&after[*two]),
                 Row::Not(below) => self.not(shape, lists, *below, &after[*below]),
                 Row::Since { left, right } => match self.fault {

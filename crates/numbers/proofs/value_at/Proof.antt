@@ -5,14 +5,14 @@ use Rattle.numbers.proofs.MatchingLaws.{value-is}
 use Rattle.numbers.proofs.value_at.Statement.{statement}
 use Rattle.numbers.proofs.value_at.Tie as tie
 
-mul-y : tie.Need-mul-y
-mul-y c = search needs
+mul-result : tie.Need-mul-result
+mul-result c = search needs
 
-array-copy-out-y : tie.Need-array-copy-out-y
-array-copy-out-y c = search needs
+array-copy-out-result : tie.Need-array-copy-out-result
+array-copy-out-result c = search needs
 
 returns : tie.Need-returns
-returns c = let s = c .before .before in sym (value-is (s .args .event) (s .args .j) (s .pre .0))
+returns c = let s = c .before .before in sym (value-is (s .args .fact) (s .args .j) (s .pre .0))
 
 pub value-at-spec : {M : Type 1} → statement M
-value-at-spec = tie.close (tie.spec mul-y array-copy-out-y returns)
+value-at-spec = tie.close (tie.spec mul-result array-copy-out-result returns)

@@ -1,35 +1,49 @@
--- `rule::agrees` meets its contract. The loop keeps that no row before i is an atom of the predicate with another count; the rows left are the measure. Assumes nothing.
-use Prim.Native.Nat.{ℕ, _-_, _/_, _≤_, _<_}
-use mathlib.Core.Bool.{false}
+-- `rule::agrees` meets its contract. The loop keeps that the facts before i are right; the facts left are the measure. Assumes nothing.
+use Prim.Native.Nat.{ℕ, _-_, _≤_, _<_}
 use mathlib.Core.Path.{_≡_, refl, sym, _∙_}
+use mathlib.Core.Bool.{true}
 use native.Mathlib.Omega.{arith}
-use lib.ListN.{length}
+use lib.ListN.{length, getD, length-map}
 use borrow.Author.Count.{below-more}
-use Rattle.meaning.specs.Rows.{rowCount}
-use Rattle.rule.specs.Checking.{otherCount}
-use Rattle.rule.proofs.AgreesLaws.{counts-high, counts-other, counts-right}
+use borrow.Author.Tests.{not-true, not-false}
+use Rattle.meaning.specs.Rows.{ruleOf}
+use Rattle.meaning.specs.Outcome.{factRight}
+use Rattle.rule.proofs.AgreesLaws.{noFact, event-high, event-wrong, event-right}
 use Rattle.rule.proofs.agrees.Statement.{statement}
 use Rattle.rule.proofs.agrees.Tie as tie
 
 abbrev Inv-loop : tie.InvT-loop
-Inv-loop rows predicate count n i₀ i =
-    (n ≡ length rows / 9) × (i ≤ n) × (count ≤ 3) × ((j : ℕ) → j < i → otherCount rows j predicate count ≡ false)
+Inv-loop rows facts n i₀ i =
+    (i ≤ n) × (n ≤ 8) × (length facts ≡ 8) × ((j : ℕ) → j < i → factRight (ruleOf rows) (getD facts j noFact) ≡ true)
 
 abbrev μ-loop : tie.MeasureT-loop
-μ-loop rows predicate count n i₀ i = n - i
+μ-loop rows facts n i₀ i = n - i
 
 returns : tie.Need-returns Inv-loop μ-loop
-returns c = counts-high _ _ _ (omega arith)
+returns c = event-high _ _ (omega arith)
+
+cast-n : tie.Need-cast-n Inv-loop μ-loop
+cast-n c = omega arith
 
 loop-holds : tie.Need-loop-holds Inv-loop μ-loop
-loop-holds c = (refl, omega arith, omega arith, λ j h. absurd (omega arith))
+loop-holds c =
+    let s = c .before .before .before .before .before in
+    (omega arith, omega arith, sym (length-map (s .args .event .facts) _) ∙ s .good .1 .0 .1 .1 .1 .0 .1 .0 .1, λ j h. absurd (omega arith))
 
-other-count-requires : tie.Need-other-count-requires Inv-loop μ-loop
-other-count-requires c κs = omega arith
+mul-fact : tie.Need-mul-fact Inv-loop μ-loop
+mul-fact c = omega arith
+
+array-copy-out-fact : tie.Need-array-copy-out-fact Inv-loop μ-loop
+array-copy-out-fact c = omega arith
+
+fact-agrees-requires : tie.Need-fact-agrees-requires Inv-loop μ-loop
+fact-agrees-requires c κs = tt
 
 returns-2 : tie.Need-returns-2 Inv-loop μ-loop
-unfolding rowCount
-returns-2 c = counts-other _ _ _ _ (omega arith) (sym (c .before .other-count .ensures) ∙ c .if2 .taken)
+returns-2 c =
+    let s = c .before .before .before .before in
+    event-wrong _ _ (s .loop .i) (omega arith) (omega (arith, s .loop .inv .2))
+    (sym (c .before .fact-agrees .ensures .each _ refl refl) ∙ not-true _ (c .if2 .taken))
 
 add-i : tie.Need-add-i Inv-loop μ-loop
 add-i c = omega arith
@@ -39,12 +53,13 @@ loop-less c = omega arith
 
 loop-again : tie.Need-loop-again Inv-loop μ-loop
 loop-again c =
-    let s = c .before .before .before in
-    (s .loop .inv .0, omega arith, s .loop .inv .2, below-more _ _ (s .loop .inv .3) (sym (c .before .other-count .ensures) ∙ c .if2 .left))
+    let s = c .before .before .before .before in
+    (omega arith, s .loop .inv .1, s .loop .inv .2, below-more _ _ (s .loop .inv .3) (sym (c .before .fact-agrees .ensures .each _ refl refl) ∙ not-false _ (c .if2 .left)))
 
 returns-3 : tie.Need-returns-3 Inv-loop μ-loop
-unfolding rowCount
-returns-3 c = counts-right _ _ _ (c .before .loop .inv .2) (λ j h. c .before .loop .inv .3 j (omega arith))
+returns-3 c =
+    let s = c .before in
+    event-right _ _ (s .loop .inv .1) (omega (arith, s .loop .inv .1, s .loop .inv .2)) (λ j h. s .loop .inv .3 j (omega arith))
 
 pub agrees-spec : {M : Type 1} → statement M
 agrees-spec =
@@ -53,8 +68,11 @@ agrees-spec =
     Inv-loop
     μ-loop
     returns
+    cast-n
     loop-holds
-    other-count-requires
+    mul-fact
+    array-copy-out-fact
+    fact-agrees-requires
     returns-2
     add-i
     loop-less

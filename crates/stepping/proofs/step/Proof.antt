@@ -31,14 +31,14 @@ unfolding rowCount
 returns c =
     let s = c .before .before .before .before .before .before in
     rw (c .refused .ensures)
-    (unfit-leaves (s .args .k) (rowCount (now (s .args .rows))) (now (s .args .free)) (s .args .refs .now) (s .args .kept) (s .args .nodes .now) (s .args .work .now) (planned (now (s .args .rows)) (s .args .event) (s .args .given)) (c .before .before .fit .result) (c .before .before .fit .ensures) (c .before .if1 .taken), (refl, refl))
+    (unfit-leaves (s .args .k) (rowCount (now (s .args .rows))) (now (s .args .free)) (s .args .refs .now) (s .args .kept) (s .args .nodes .now) (s .args .work .now) (planned (now (s .args .rows)) (s .args .event) (now (s .args .given))) (c .before .before .fit .result) (c .before .before .fit .ensures) (c .before .if1 .taken), (refl, refl))
 
 check-requires : tie.Need-check-requires
 unfolding rowCount
 check-requires c κs =
     let s = c .before .before .before .before .before .before .before .before in
     let f = says-yes (Fits (s .args .k) (rowCount (now (s .args .rows))) (length (s .args .nodes .now)) (length (s .args .work .now))) (c .before .before .before .before .fit .result) (c .before .before .before .before .fit .ensures) (c .before .before .before .if1 .left) in
-    ((f .least, f .most, f .few, s .pre .2), sized f)
+    ((f .least, f .most, f .few, s .pre .3), sized f)
 
 mul-zero : tie.Need-mul-zero
 mul-zero c = search needs
@@ -69,7 +69,7 @@ returns-2 c =
     let s = c .before .before .before .before .before .before .before .before .before .before .before .before .before .before .before .before .before in
     let f = says-yes (Fits (s .args .k) (rowCount (now (s .args .rows))) (length (s .args .nodes .now)) (length (s .args .work .now))) (c .before .before .before .before .before .before .before .before .before .before .before .before .before .fit .result) (c .before .before .before .before .before .before .before .before .before .before .before .before .before .fit .ensures) (c .before .before .before .before .before .before .before .before .before .before .before .before .if1 .left) in
     rw (c .refused2 .ensures) (
-      bad-leaves (s .args .k) (rowCount (now (s .args .rows))) (now (s .args .free)) (s .args .refs .now) (s .args .kept) (s .args .nodes .now) (s .args .work .now) (planned (now (s .args .rows)) (s .args .event) (s .args .given)) f (sym (checked .ensures .0) ∙ not-false (checked .result) (c .before .before .before .before .before .if2 .taken))
+      bad-leaves (s .args .k) (rowCount (now (s .args .rows))) (now (s .args .free)) (s .args .refs .now) (s .args .kept) (s .args .nodes .now) (s .args .work .now) (planned (now (s .args .rows)) (s .args .event) (now (s .args .given))) f (sym (checked .ensures .0) ∙ not-false (checked .result) (c .before .before .before .before .before .if2 .taken))
           (cleared-after (s .args .k) (rowCount (now (s .args .rows))) (now (s .args .free)) (s .args .refs .now) (s .args .kept) (s .args .nodes .now) (s .args .work .now) f (checked .ensures .1 .rest) (checked .kept .1 .1 .1 .1 .1 .1 .0) (c .before .before .before .zero .ensures)),
       (refl, refl),
     )
@@ -81,11 +81,11 @@ worked-requires c κs =
     let s = c .before .before .before .before .before .before .before .before .before .before .before .before .before .before .before in
     let f = says-yes (Fits (s .args .k) (rowCount (now (s .args .rows))) (length (s .args .nodes .now)) (length (s .args .work .now))) (c .before .before .before .before .before .before .before .before .before .before .before .fit .result) (c .before .before .before .before .before .before .before .before .before .before .before .fit .ensures) (c .before .before .before .before .before .before .before .before .before .before .if1 .left) in
     let good = turned-false (checked .result) (c .before .before .before .if2 .left) in (
-      (s .pre .0, s .pre .1),
+      (s .pre .0, s .pre .1, s .pre .2),
       (
         rw (checked .kept .1 .1 .1 .1 .1 .1 .0) f,
         (
-          ready (s .args .k) (now (s .args .free)) (length (s .args .nodes .now) / 3) (rowCount (now (s .args .rows))) (s .args .refs .now) (s .args .kept) (s .args .nodes .now) (f .least) (f .few) (s .pre .2) (f .whole) (f .small)
+          ready (s .args .k) (now (s .args .free)) (length (s .args .nodes .now) / 3) (rowCount (now (s .args .rows))) (s .args .refs .now) (s .args .kept) (s .args .nodes .now) (f .least) (f .few) (s .pre .3) (f .whole) (f .small)
               (kept-of (freeBy (s .args .k) (now (s .args .free))) _ (rowCount (now (s .args .rows))) (s .args .refs .now) (s .args .kept) (s .args .nodes .now) (sym (checked .ensures .0) ∙ good)),
           checked .ensures .1 .chained good,
         ),
@@ -104,7 +104,7 @@ returns-3 c =
     let checked = c .before .before .before .before .before .before .before .before .before .before .before .check in
     let s = c .before .before .before .before .before .before .before .before .before .before .before .before .before .before .before .before .before .before .before .before in
     let f = says-yes (Fits (s .args .k) (rowCount (now (s .args .rows))) (length (s .args .nodes .now)) (length (s .args .work .now))) (c .before .before .before .before .before .before .before .before .before .before .before .before .before .before .before .before .fit .result) (c .before .before .before .before .before .before .before .before .before .before .before .before .before .before .before .before .fit .ensures) (c .before .before .before .before .before .before .before .before .before .before .before .before .before .before .before .if1 .left) in (
-      good-leaves (s .args .k) (rowCount (now (s .args .rows))) (now (s .args .free)) (s .args .refs .now) (s .args .kept) (s .args .nodes .now) (s .args .work .now) (planned (now (s .args .rows)) (s .args .event) (s .args .given)) f (sym (checked .ensures .0) ∙ turned-false (checked .result) (c .before .before .before .before .before .before .before .before .if2 .left)) (checked .ensures .1 .rest) (checked .kept .1 .1 .1 .1 .1 .1 .0) (c .before .before .before .before .worked .ensures .0),
+      good-leaves (s .args .k) (rowCount (now (s .args .rows))) (now (s .args .free)) (s .args .refs .now) (s .args .kept) (s .args .nodes .now) (s .args .work .now) (planned (now (s .args .rows)) (s .args .event) (now (s .args .given))) f (sym (checked .ensures .0) ∙ turned-false (checked .result) (c .before .before .before .before .before .before .before .before .if2 .left)) (checked .ensures .1 .rest) (checked .kept .1 .1 .1 .1 .1 .1 .0) (c .before .before .before .before .worked .ensures .0),
       c .before .before .before .before .worked .ensures .1,
     )
 

@@ -1,8 +1,7 @@
 -- `row::row` meets its contract: one law for each instruction. Assumes nothing.
 use native.Mathlib.Omega.{arith}
 use denote.Ref.{now}
-use Rattle.walks.proofs.DeskLaws.{desk-added}
-use Rattle.diagram.proofs.RowLaws.{within-no, leads-to, row-yes, row-no, row-cube, row-and, row-not, row-since, row-old, row-drop}
+use Rattle.diagram.proofs.RowLaws.{within-no, leads-to, row-yes, row-and, row-not, row-since, row-old, row-drop}
 use borrow.Author.Needs.{needs}
 use Rattle.diagram.proofs.row.row.Statement.{statement}
 use Rattle.diagram.proofs.row.row.Tie as tie
@@ -10,20 +9,8 @@ use Rattle.diagram.proofs.row.row.Tie as tie
 enum-told : tie.Need-enum-told
 enum-told c = search needs
 
-enum-told-2 : tie.Need-enum-told-2
-enum-told-2 c = search needs
-
 enum-known-x : tie.Need-enum-known-x
 enum-known-x c = search needs
-
-cube-requires : tie.Need-cube-requires
-cube-requires c κs = search needs
-
-uncounted-requires : tie.Need-uncounted-requires
-uncounted-requires c κs = search needs
-
-enum-known-x-2 : tie.Need-enum-known-x-2
-enum-known-x-2 c = search needs
 
 pick-requires : tie.Need-pick-requires
 pick-requires c κs = search needs
@@ -42,11 +29,11 @@ since-walk-requires c κs =
     let s = c .before .before .before .before .before .before .before .before .before in
     (s .pre .0 .1, (omega arith, leads-to (s .pre .1 .1) _ (c .before .before .before .pick .ensures), within-no _ _ _, leads-to (s .pre .1 .1) _ (c .before .before .pick2 .ensures)))
 
-uncounted-requires-2 : tie.Need-uncounted-requires-2
-uncounted-requires-2 c κs = search needs
+uncounted-requires : tie.Need-uncounted-requires
+uncounted-requires c κs = search needs
 
-enum-known-x-3 : tie.Need-enum-known-x-3
-enum-known-x-3 c = search needs
+enum-known-x-2 : tie.Need-enum-known-x-2
+enum-known-x-2 c = search needs
 
 pick-requires-3 : tie.Need-pick-requires-3
 pick-requires-3 c κs = search needs
@@ -62,8 +49,8 @@ not-walk-requires c κs =
     let s = c .before .before .before .before .before .before .before .before in
     (s .pre .0 .1, (omega arith, leads-to (s .pre .1 .1) _ (c .before .before .pick3 .ensures)))
 
-enum-known-x-4 : tie.Need-enum-known-x-4
-enum-known-x-4 c = search needs
+enum-known-x-3 : tie.Need-enum-known-x-3
+enum-known-x-3 c = search needs
 
 pick-requires-4 : tie.Need-pick-requires-4
 pick-requires-4 c κs = search needs
@@ -85,17 +72,17 @@ since-walk-requires-2 c κs =
     let s = c .before .before .before .before .before .before .before .before .before .before in
     (s .pre .0 .1, (omega arith, leads-to (s .pre .1 .1) _ (c .before .before .before .before .pick4 .ensures), leads-to (s .pre .1 .1) _ (c .before .before .before .pick5 .ensures), leads-to (s .pre .1 .0) _ (c .before .before .pick6 .ensures)))
 
-uncounted-requires-3 : tie.Need-uncounted-requires-3
-uncounted-requires-3 c κs = search needs
+uncounted-requires-2 : tie.Need-uncounted-requires-2
+uncounted-requires-2 c κs = search needs
 
-enum-known-x-5 : tie.Need-enum-known-x-5
-enum-known-x-5 c = search needs
+enum-known-x-4 : tie.Need-enum-known-x-4
+enum-known-x-4 c = search needs
 
 pick-requires-7 : tie.Need-pick-requires-7
 pick-requires-7 c κs = search needs
 
-enum-known-x-6 : tie.Need-enum-known-x-6
-enum-known-x-6 c = search needs
+enum-known-x-5 : tie.Need-enum-known-x-5
+enum-known-x-5 c = search needs
 
 pick-requires-8 : tie.Need-pick-requires-8
 pick-requires-8 c κs = search needs
@@ -105,18 +92,13 @@ drops-row-requires c κs =
     let s = c .before .before .before .before .before .before .before .before in
     (s .pre .0, leads-to (s .pre .1 .1) _ (c .before .before .pick8 .ensures))
 
-uncounted-requires-4 : tie.Need-uncounted-requires-4
-uncounted-requires-4 c κs = search needs
+uncounted-requires-3 : tie.Need-uncounted-requires-3
+uncounted-requires-3 c κs = search needs
 
 returns : tie.Need-returns
 returns c =
     let s = c .before .before .before .before in
     rw (c .enum-told .given .1) (row-yes (s .args .k) (now (s .args .olds)) (now (s .args .news)) (s .args .i) (s .pre .0 .1))
-
-returns-2 : tie.Need-returns-2
-returns-2 c =
-    let s = c .before .before .before .before in
-    rw (c .enum-told2 .given .1) (row-no (s .args .k) (now (s .args .olds)) (now (s .args .news)) (s .args .i) (s .pre .0 .1))
 
 same-length : tie.Need-same-length
 same-length c = search needs
@@ -124,11 +106,11 @@ same-length c = search needs
 same-length-2 : tie.Need-same-length-2
 same-length-2 c = search needs
 
-returns-3 : tie.Need-returns-3
-returns-3 c =
-    let done = c .before .before .before .before .before .cube in
-    let s = c .before .before .before .before .before .before .before .before .before .before .before .before .before in
-    rw (c .before .before .before .before .before .before .before .before .before .x .given .1, c .uncounted .ensures) (row-cube (s .args .k) (now (s .args .olds)) (now (s .args .news)) (s .args .i) (s .pre .0 .1) (done .last .0) (done .last .1 .0) _ _ _ _ (done .result) (desk-added (s .pre .0 .1) (done .last .1 .0) (done .last .0) _ (done .result) (done .ensures)))
+returns-2 : tie.Need-returns-2
+returns-2 c =
+    let done = c .before .before .before .before .before .since-walk in
+    let s = c .before .before .before .before .before .before .before .before .before .before .before .before .before .before .before in
+    rw (c .before .before .before .before .before .before .before .before .before .before .before .x .given .1, c .uncounted .ensures) (row-and (s .args .k) (now (s .args .olds)) (now (s .args .news)) (s .args .i) (s .pre .0 .1) (done .last .0) (done .last .1 .0) _ _ (done .result) (rw (c .before .before .before .before .before .before .before .before .before .pick .ensures, c .before .before .before .before .before .before .before .before .pick2 .ensures) at (done .ensures)))
 
 same-length-3 : tie.Need-same-length-3
 same-length-3 c = search needs
@@ -136,11 +118,11 @@ same-length-3 c = search needs
 same-length-4 : tie.Need-same-length-4
 same-length-4 c = search needs
 
-returns-4 : tie.Need-returns-4
-returns-4 c =
-    let done = c .before .before .before .before .before .since-walk in
-    let s = c .before .before .before .before .before .before .before .before .before .before .before .before .before .before .before in
-    rw (c .before .before .before .before .before .before .before .before .before .before .before .x2 .given .1, c .uncounted2 .ensures) (row-and (s .args .k) (now (s .args .olds)) (now (s .args .news)) (s .args .i) (s .pre .0 .1) (done .last .0) (done .last .1 .0) _ _ (done .result) (rw (c .before .before .before .before .before .before .before .before .before .pick .ensures, c .before .before .before .before .before .before .before .before .pick2 .ensures) at (done .ensures)))
+returns-3 : tie.Need-returns-3
+returns-3 c =
+    let done = c .before .before .before .before .not-walk in
+    let s = c .before .before .before .before .before .before .before .before .before .before .before .before .before in
+    rw (c .before .before .before .before .before .before .before .before .before .x2 .given .1) (row-not (s .args .k) (now (s .args .olds)) (now (s .args .news)) (s .args .i) (s .pre .0 .1) (done .last .0) (done .last .1 .0) (s .pre .1 .1) _ (done .result) (rw (c .before .before .before .before .before .before .before .pick3 .ensures) at (done .ensures)))
 
 same-length-5 : tie.Need-same-length-5
 same-length-5 c = search needs
@@ -148,11 +130,16 @@ same-length-5 c = search needs
 same-length-6 : tie.Need-same-length-6
 same-length-6 c = search needs
 
+returns-4 : tie.Need-returns-4
+returns-4 c =
+    let done = c .before .before .before .before .before .since-walk2 in
+    let s = c .before .before .before .before .before .before .before .before .before .before .before .before .before .before .before .before in
+    rw (c .before .before .before .before .before .before .before .before .before .before .before .before .x3 .given .1, c .uncounted2 .ensures) (row-since (s .args .k) (now (s .args .olds)) (now (s .args .news)) (s .args .i) (s .pre .0 .1) (done .last .0) (done .last .1 .0) _ _ _ _ _ (c .before .before .before .before .before .before .before .before .before .before .pick4 .ensures) (c .before .before .before .before .before .before .before .before .before .pick5 .ensures) (c .before .before .before .before .before .before .before .before .pick6 .ensures) (done .result) (done .ensures))
+
 returns-5 : tie.Need-returns-5
 returns-5 c =
-    let done = c .before .before .before .before .not-walk in
-    let s = c .before .before .before .before .before .before .before .before .before .before .before .before .before in
-    rw (c .before .before .before .before .before .before .before .before .before .x3 .given .1) (row-not (s .args .k) (now (s .args .olds)) (now (s .args .news)) (s .args .i) (s .pre .0 .1) (done .last .0) (done .last .1 .0) (s .pre .1 .1) _ (done .result) (rw (c .before .before .before .before .before .before .before .pick3 .ensures) at (done .ensures)))
+    let s = c .before .before .before .before .before .before in
+    rw (c .before .before .x4 .given .1, c .pick7 .ensures) (row-old (s .args .k) (now (s .args .olds)) (now (s .args .news)) (s .args .i) (s .pre .0 .1) _ (s .pre .1 .0))
 
 same-length-7 : tie.Need-same-length-7
 same-length-7 c = search needs
@@ -162,77 +149,52 @@ same-length-8 c = search needs
 
 returns-6 : tie.Need-returns-6
 returns-6 c =
-    let done = c .before .before .before .before .before .since-walk2 in
-    let s = c .before .before .before .before .before .before .before .before .before .before .before .before .before .before .before .before in
-    rw (c .before .before .before .before .before .before .before .before .before .before .before .before .x4 .given .1, c .uncounted3 .ensures) (row-since (s .args .k) (now (s .args .olds)) (now (s .args .news)) (s .args .i) (s .pre .0 .1) (done .last .0) (done .last .1 .0) _ _ _ _ _ (c .before .before .before .before .before .before .before .before .before .before .pick4 .ensures) (c .before .before .before .before .before .before .before .before .before .pick5 .ensures) (c .before .before .before .before .before .before .before .before .pick6 .ensures) (done .result) (done .ensures))
-
-returns-7 : tie.Need-returns-7
-returns-7 c =
-    let s = c .before .before .before .before .before .before in
-    rw (c .before .before .x5 .given .1, c .pick7 .ensures) (row-old (s .args .k) (now (s .args .olds)) (now (s .args .news)) (s .args .i) (s .pre .0 .1) _ (s .pre .1 .0))
-
-same-length-9 : tie.Need-same-length-9
-same-length-9 c = search needs
-
-same-length-10 : tie.Need-same-length-10
-same-length-10 c = search needs
-
-returns-8 : tie.Need-returns-8
-returns-8 c =
     let done = c .before .before .before .before .before .drops-row in
     let s = c .before .before .before .before .before .before .before .before .before .before .before .before .before .before in
-    rw (c .before .before .before .before .before .before .before .before .before .before .x6 .given .1, c .uncounted4 .ensures) (row-drop (s .args .k) (now (s .args .olds)) (now (s .args .news)) (s .args .i) (s .pre .0 .1) (done .last .0) (done .last .1 .0) _ _ (done .result) (rw (c .before .before .before .before .before .before .before .before .pick8 .ensures) at (done .ensures)))
+    rw (c .before .before .before .before .before .before .before .before .before .before .x5 .given .1, c .uncounted3 .ensures) (row-drop (s .args .k) (now (s .args .olds)) (now (s .args .news)) (s .args .i) (s .pre .0 .1) (done .last .0) (done .last .1 .0) _ _ (done .result) (rw (c .before .before .before .before .before .before .before .before .pick8 .ensures) at (done .ensures)))
 
 pub row-spec : {M : Type 1} → statement M
 row-spec =
     tie.close
     (tie.spec
     enum-told
-    enum-told-2
     enum-known-x
-    cube-requires
-    uncounted-requires
-    enum-known-x-2
     pick-requires
     pick-requires-2
     mul-since-walk
     mul-since-walk-2
     since-walk-requires
-    uncounted-requires-2
-    enum-known-x-3
+    uncounted-requires
+    enum-known-x-2
     pick-requires-3
     mul-not-walk
     mul-not-walk-2
     not-walk-requires
-    enum-known-x-4
+    enum-known-x-3
     pick-requires-4
     pick-requires-5
     pick-requires-6
     mul-since-walk-3
     mul-since-walk-4
     since-walk-requires-2
-    uncounted-requires-3
-    enum-known-x-5
+    uncounted-requires-2
+    enum-known-x-4
     pick-requires-7
-    enum-known-x-6
+    enum-known-x-5
     pick-requires-8
     drops-row-requires
-    uncounted-requires-4
+    uncounted-requires-3
     returns
-    returns-2
     same-length
     same-length-2
-    returns-3
+    returns-2
     same-length-3
     same-length-4
-    returns-4
+    returns-3
     same-length-5
     same-length-6
+    returns-4
     returns-5
     same-length-7
     same-length-8
-    returns-6
-    returns-7
-    same-length-9
-    same-length-10
-    returns-8)
+    returns-6)

@@ -1,5 +1,6 @@
 -- `monitor::working::judged` meets its contract: refusals 5 and 6, and else what the work leaves. Assumes nothing.
 use mathlib.Core.Path.{refl, sym, _∙_}
+use lib.ListN.{length-map}
 use borrow.Author.Needs.{needs}
 use borrow.Author.Tests.{not-true, not-false}
 use Rattle.monitor.proofs.StartLaws.{k-small}
@@ -26,7 +27,7 @@ returns c =
     let test = refused .before .before .before .before in
     let first = test .before in
     let s = first .before .before .before .before .before in (
-      refuses-5 _ _ _ _ (s .pre) (sym (first .agrees .ensures .each (s .args .event) refl refl) ∙ not-true _ (test .if1 .taken)) _ _ _ _
+      refuses-5 _ _ _ _ (s .pre) (sym (first .agrees .ensures) ∙ not-true _ (test .if1 .taken)) _ _ _ _
           (formed-turn _ _ _ _ _ _ (refused .refused-formed .ensures .0)) (refused .refused-formed .ensures .1) refl refl,
       formed-looks _ _ _ _ _ _ _ _ (refused .refused-formed .ensures .0),
     )
@@ -36,7 +37,7 @@ ask-requires c κs =
     let test = c .before .before in
     let first = test .before in
     let s = first .before .before .before .before .before in
-    askable _ _ _ _ (s .pre) (sym (first .agrees .ensures .each (s .args .event) refl refl) ∙ not-false _ (test .if1 .left))
+    askable _ _ _ _ (s .pre) (sym (first .agrees .ensures) ∙ not-false _ (test .if1 .left))
 
 shortest-requires : tie.Need-shortest-requires
 shortest-requires c κs = k-small _ (c .before .before .before .before .before .before .before .before .before .before .pre .k-right)
@@ -61,7 +62,7 @@ returns-2 c =
     let test = ask .before .before .before in
     let first = test .before in
     let s = first .before .before .before .before .before in (
-      refuses-6 _ _ _ _ (s .pre) _ (ask .ask .ensures) (sym (first .agrees .ensures .each (s .args .event) refl refl) ∙ not-false _ (test .if1 .left)) _ (short .before .shortest .ensures) (short .if2 .taken) _ _ _ _
+      refuses-6 _ _ _ _ (s .pre) _ (ask .ask .ensures) (sym (first .agrees .ensures) ∙ not-false _ (test .if1 .left)) _ (short .before .shortest .ensures) (short .if2 .taken) _ _ _ _
           (formed-turn _ _ _ _ _ _ (refused .refused-formed2 .ensures .0)) (refused .refused-formed2 .ensures .1) refl refl,
       formed-looks _ _ _ _ _ _ _ _ (refused .refused-formed2 .ensures .0),
     )
@@ -73,7 +74,7 @@ work-on-requires c κs =
     let test = ask .before .before .before in
     let first = test .before in
     let s = first .before .before .before .before .before in
-    asking _ _ _ _ (s .pre) _ (ask .ask .ensures) (sym (first .agrees .ensures .each (s .args .event) refl refl) ∙ not-false _ (test .if1 .left)) _ (short .before .shortest .ensures) (short .if2 .left)
+    asking _ _ _ _ (s .pre) _ (ask .ask .ensures) (sym (first .agrees .ensures) ∙ not-false _ (test .if1 .left)) _ (short .before .shortest .ensures) (short .if2 .left) (sym (length-map (s .args .event .facts) _) ∙ s .good .1 .1 .1 .1 .1 .1 .1 .0 .1 .1 .1 .0 .1 .0 .1)
 
 same-length-6 : tie.Need-same-length-6
 same-length-6 c = search needs

@@ -1,38 +1,37 @@
--- `ask` meets its contract. The loop's invariant: the rows before i have asked, and row i matches, if there is one. The measure is the count of
--- rows left. Assumes nothing.
-use Prim.Native.Nat.{ℕ, _/_, _-_, _≤_, _<_}
-use mathlib.Core.Path.{_≡_}
-use mathlib.Core.Bool.{true}
+-- `ask` meets its contract. The loop's invariant: the facts before f have asked. The measure is the count of facts left. Assumes nothing.
+use Prim.Native.Nat.{ℕ, _-_, _≤_, _<_}
+use mathlib.Core.Path.{_≡_, sym, _∙_}
 use native.Mathlib.Omega.{arith}
-use lib.ListN.{length, getD}
-use borrow.Author.Needs.{needs}
-use Rattle.meaning.specs.Rows.{rowAt, rowCount}
-use Rattle.meaning.specs.Outcome.{factOf}
-use Rattle.numbers.specs.Matching.{matchesRow, Sized}
+use lib.ListN.{length, getD, length-map}
+use Rattle.meaning.specs.Rows.{ruleOf}
 use Rattle.numbers.specs.Asking.{Parted, partOf}
-use Rattle.numbers.proofs.MatchingLaws.{sized-of}
-use Rattle.numbers.proofs.WalkLaws.{Rows, rows-none, rows-to, rows-next, asking-of}
-use Rattle.numbers.proofs.StartLaws.{most-le, row-right, asksNothing, steady-start, asks-all}
+use Rattle.numbers.proofs.PartLaws.{part-size}
+use Rattle.numbers.proofs.StartLaws.{most-le}
+use Rattle.numbers.proofs.FactsLaws.{Going, going-none, going-steady, going-next}
+use Rattle.numbers.proofs.AskedLaws.{eight, three, facts-inside, fact-is, asks-all}
+use borrow.Author.Needs.{needs}
 use Rattle.numbers.proofs.asking.ask.Statement.{statement}
 use Rattle.numbers.proofs.asking.ask.Tie as tie
 
 abbrev Inv-loop : tie.InvT-loop
-Inv-loop k counts values rows event m n a₀ i₀ a i = (i ≤ length rows / 9) × (i < length rows / 9 → matchesRow (factOf event) (rowAt rows i) ≡ true)
-    × Rows counts (partOf m counts values) rows event i a₀ a
+Inv-loop k before values rows event m n fresh₀ t₀ f₀ fresh t f = (f ≤ event .count) × Going before (partOf m before values) rows event f (t .counts) fresh (t .given)
 
 abbrev μ-loop : tie.MeasureT-loop
-μ-loop k counts values rows event m n a₀ i₀ a i = length rows / 9 - i
+μ-loop k before values rows event m n fresh₀ t₀ f₀ fresh t f = event .count - f
 
--- the event as the function got it
-sized : (s : tie.Start Inv-loop μ-loop) → Sized (s .args .event)
-sized s = sized-of _ (s .args .event) (s .pre .few) (s .good .1 .1 .1 .1 .0 .1 .1 .1 .1 .0 .1 .0 .1)
+-- the arrays that the function got
+four : (s : tie.Start Inv-loop μ-loop) → length (s .args .before) ≡ 4
+four s = s .good .1 .0 .1 .0 .1
+
+facts : (s : tie.Start Inv-loop μ-loop) → length (s .args .t5 .facts) ≡ 8
+facts s = sym (length-map (s .args .t5 .facts) _) ∙ s .good .1 .1 .1 .1 .0 .1 .1 .1 .0 .1 .0 .1
 
 -- every count is small
-counts-small : (s : tie.Start Inv-loop μ-loop) (v : ℕ) → v < 4 → getD (s .args .counts) v 0 ≤ 1023
+counts-small : (s : tie.Start Inv-loop μ-loop) (v : ℕ) → v < 4 → getD (s .args .before) v 0 ≤ 1023
 counts-small s v h = omega (arith, s .pre .counts v h, most-le (s .args .k) (s .pre .bits))
 
 -- the parts of the value slice
-parted : (c : tie.After-most Inv-loop μ-loop) → let s = c .before .before .before in Parted (c .most .result) (s .args .counts) (s .args .values .now)
+parted : (c : tie.After-most Inv-loop μ-loop) → let s = c .before .before .before in Parted (c .most .result) (s .args .before) (s .args .values .now)
 parted c =
     let s = c .before .before .before in
     record {
@@ -45,60 +44,80 @@ most-requires : tie.Need-most-requires Inv-loop μ-loop
 most-requires c κs = c .before .before .pre .bits
 
 cast-m : tie.Need-cast-m Inv-loop μ-loop
-cast-m c = let s = c .before .before .before in omega (arith, c .most .ensures, most-le (s .args .k) (s .pre .bits))
+cast-m c =
+    let s = c .before .before .before in
+    omega (arith, c .most .ensures, most-le (s .args .k) (s .pre .bits))
 
-next-match-requires : tie.Need-next-match-requires Inv-loop μ-loop
-next-match-requires c κs = let s = c .before .before .before in (s .pre .checked, s .pre .few)
+cast-n : tie.Need-cast-n Inv-loop μ-loop
+cast-n c = search needs
 
 loop-holds : tie.Need-loop-holds Inv-loop μ-loop
 loop-holds c =
-    let s = c .before .before .before .before in
-    let a = s .args in
-    let n = c .next-match .ensures in (
-      n .within (omega arith),
-      n .matches,
-      rows-to (a .counts) (partOf (c .before .most .result) (a .counts) (a .values .now)) (a .rows .now) (a .event) 0 (c .next-match .result) (asksNothing (a .counts)) (asksNothing (a .counts)) n
-          (rows-none (a .counts) (partOf (c .before .most .result) (a .counts) (a .values .now)) (a .rows .now) (a .event) (asksNothing (a .counts)) (steady-start (a .counts) (s .good .1 .0 .1 .0 .1) (counts-small s))),
+    let s = c .before .before .before in
+    let a = s .args in (
+      omega arith,
+      going-none (a .before) (partOf (c .most .result) (a .before) (a .values .now)) (a .rows .now) (a .t5) (four s) (part-size (c .most .result) (a .before) (a .values .now) (parted c)),
     )
 
-ask-arguments-requires : tie.Need-ask-arguments-requires Inv-loop μ-loop
-ask-arguments-requires c κs =
-    let s = c .before .before .before .before .before .before in
+mul-fact : tie.Need-mul-fact Inv-loop μ-loop
+mul-fact c = search needs
+
+element-copy-out-fact : tie.Need-element-copy-out-fact Inv-loop μ-loop
+element-copy-out-fact c =
+    let s = c .before .before .before .before .before in
+    omega (arith, c .loop-test .taken, eight (s .args .t5) (ruleOf (s .args .rows .now)) (s .pre .agreed))
+
+slice-aggregate-ask-fact : tie.Need-slice-aggregate-ask-fact Inv-loop μ-loop
+slice-aggregate-ask-fact c = search needs
+
+ask-fact-requires : tie.Need-ask-fact-requires Inv-loop μ-loop
+ask-fact-requires c κs =
+    let s = c .before .before .before .before .before .before .before .before in
     let a = s .args in
-    let l = c .before .loop in
-    let inside : l .i < length (a .rows .now) / 9 = omega arith in
-    (l .inv .2 .steady, parted (c .before .before .before), asking-of (a .rows .now) (l .i) (a .event) (record { inside = inside; sized = sized s }) (row-right (a .rows .now) (l .i) (s .pre .checked) inside) (l .inv .1 inside))
+    let l = c .before .before .before .before .loop in
+    let h : l .f < a .t5 .count = omega (arith, c .before .before .before .loop-test .taken) in
+    let n = eight (a .t5) (ruleOf (a .rows .now)) (s .pre .agreed) in (
+      going-steady (a .before) (partOf (c .before .before .before .before .before .most .result) (a .before) (a .values .now)) (a .rows .now) (a .t5) (l .f) (l .t .counts) (l .fresh) (l .t .given) (l .inv .1) (omega arith) (counts-small s),
+      parted (c .before .before .before .before .before),
+      s .pre .checked,
+      three (a .t5) (l .f) h (omega (arith, facts s)) (ruleOf (a .rows .now)) _ (s .pre .agreed),
+    )
 
-add-next-match : tie.Need-add-next-match Inv-loop μ-loop
-add-next-match c = search needs
+tell-requires : tie.Need-tell-requires Inv-loop μ-loop
+tell-requires c κs =
+    let s = c .before .before .before .before .before .before .before .before .before .before in
+    omega (arith, c .before .before .before .before .before .loop-test .taken, eight (s .args .t5) (ruleOf (s .args .rows .now)) (s .pre .agreed))
 
-next-match-requires-2 : tie.Need-next-match-requires-2 Inv-loop μ-loop
-next-match-requires-2 c κs = let s = c .before .before .before .before .before .before .before in (s .pre .checked, s .pre .few)
+add-f : tie.Need-add-f Inv-loop μ-loop
+add-f c = search needs
 
 loop-less : tie.Need-loop-less Inv-loop μ-loop
-loop-less c = let n = c .next-match2 .ensures .later in omega arith
+loop-less c = search needs
 
 loop-again : tie.Need-loop-again Inv-loop μ-loop
 loop-again c =
-    let s = c .before .before .before .before .before .before .before .before in
+    let s = c .before .before .before .before .before .before .before .before .before .before .before in
     let a = s .args in
-    let l = c .before .before .before .loop in
-    let n = c .next-match2 .ensures in
-    let inside : l .i < length (a .rows .now) / 9 = omega arith in (
-      n .within (omega arith),
-      n .matches,
-      rows-next (a .counts) (partOf (c .before .before .before .before .before .most .result) (a .counts) (a .values .now)) (a .rows .now) (a .event) (l .i) (c .next-match2 .result) (asksNothing (a .counts)) (l .a) (c .before .ask-arguments .result)
-          (sized s) (row-right (a .rows .now) (l .i) (s .pre .checked) inside) (l .inv .1 inside) n (l .inv .2) (c .before .ask-arguments .ensures),
+    let l = c .before .before .before .before .before .before .before .loop in
+    let h : l .f < a .t5 .count = omega (arith, c .before .before .before .before .before .before .loop-test .taken) in
+    let n = eight (a .t5) (ruleOf (a .rows .now)) (s .pre .agreed) in
+    let all : a .t5 .count ≤ length (a .t5 .facts) = omega (arith, facts s) in (
+      omega arith,
+      rw (c .tell .ensures .0) (going-next (a .before) (partOf (c .before .before .before .before .before .before .before .before .most .result) (a .before) (a .values .now)) (a .rows .now) (a .t5) (l .f) (l .t .counts) (l .fresh) (l .t .given) (l .inv .1) (omega arith) (facts-inside (a .t5) (l .f) h all) _ (fact-is (a .t5) (l .f) h all _) _ _ _ _ (c .before .before .ask-fact .ensures) (c .tell .ensures .1)),
     )
 
+slice-aggregate-as-values : tie.Need-slice-aggregate-as-values Inv-loop μ-loop
+slice-aggregate-as-values c = search needs
+
+as-values-requires : tie.Need-as-values-requires Inv-loop μ-loop
+as-values-requires c κs = search needs
+
 returns : tie.Need-returns Inv-loop μ-loop
-unfolding rowCount
 returns c =
-    let s = c .before .before .before .before .before .before in
+    let s = c .before .before .before .before .before .before .before .before .before in
     let a = s .args in
-    let l = c .before .loop in
-    let z : l .i ≡ length (a .rows .now) / 9 = omega arith in
-    asks-all (a .k) (a .counts) (a .values .now) (a .rows .now) (a .event) (l .a) (sized s) (s .good .1 .0 .1 .0 .1) (s .pre) (rw (z, c .before .before .before .most .ensures) at (l .inv .2))
+    let l = c .before .before .before .before .before .loop in
+    asks-all (a .k) (c .before .before .before .before .before .before .most .result) (a .before) (a .values .now) (a .rows .now) (a .t5) _ (l .fresh) (l .f) (s .pre) (c .before .before .before .before .before .before .most .ensures) (four s) (omega (arith, c .before .before .before .before .loop-test .left)) (c .as-values .ensures) (l .inv .1)
 
 pub ask-spec : {M : Type 1} → statement M
 ask-spec =
@@ -108,11 +127,16 @@ ask-spec =
     μ-loop
     most-requires
     cast-m
-    next-match-requires
+    cast-n
     loop-holds
-    ask-arguments-requires
-    add-next-match
-    next-match-requires-2
+    mul-fact
+    element-copy-out-fact
+    slice-aggregate-ask-fact
+    ask-fact-requires
+    tell-requires
+    add-f
     loop-less
     loop-again
+    slice-aggregate-as-values
+    as-values-requires
     returns)

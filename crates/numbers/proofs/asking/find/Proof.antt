@@ -10,7 +10,7 @@ use Rattle.numbers.proofs.asking.find.Statement.{statement}
 use Rattle.numbers.proofs.asking.find.Tie as tie
 
 abbrev Inv-loop : tie.InvT-loop
-Inv-loop list y i₀ i = (i ≤ length list) × ((k : ℕ) → k < i → getD list k 0 ≡ y → ⊥)
+Inv-loop list y i₀ i = (i ≤ length list) × ((k : ℕ) → k < i → getD list k 0 ≡ y .0 → ⊥)
 
 abbrev μ-loop : tie.MeasureT-loop
 μ-loop list y i₀ i = length list - i
@@ -24,14 +24,14 @@ mul-if1 c = search needs
 shared-slice-read-if1 : tie.Need-shared-slice-read-if1 Inv-loop μ-loop
 shared-slice-read-if1 c = search needs
 
-cast-result : tie.Need-cast-result Inv-loop μ-loop
-cast-result c = search needs
+cast-t8 : tie.Need-cast-t8 Inv-loop μ-loop
+cast-t8 c = search needs
 
 returns : tie.Need-returns Inv-loop μ-loop
 returns c =
-    let s = c .before .before .before .before .args in
-    let l = c .before .before .before .loop in
-    sym (listed-first (s .list .now) (s .y) (l .i) (search needs) (c .if1 .taken) (l .inv .1))
+    let s = c .before .before .before .before .before .args in
+    let l = c .before .before .before .before .loop in
+    sym (listed-first (s .list .now) (s .y .0) (l .i) (search needs) (c .if1 .taken) (l .inv .1))
 
 add-i : tie.Need-add-i Inv-loop μ-loop
 add-i c = search needs
@@ -40,13 +40,13 @@ loop-less : tie.Need-loop-less Inv-loop μ-loop
 loop-less c = search needs
 
 loop-again : tie.Need-loop-again Inv-loop μ-loop
-loop-again c = (search needs, below-more _ _ (c .before .before .before .loop .inv .1) (c .if1 .left))
+loop-again c = (search needs, below-more _ _ (c .before .before .before .before .loop .inv .1) (c .if1 .left))
 
 returns-2 : tie.Need-returns-2 Inv-loop μ-loop
 returns-2 c =
     let s = c .before .before .args in
     let l = c .before .loop in
-    sym (listed-never (s .list .now) (s .y) (λ k h. l .inv .1 k (omega arith)))
+    sym (listed-never (s .list .now) (s .y .0) (λ k h. l .inv .1 k (omega arith)))
 
 pub find-spec : {M : Type 1} → statement M
 find-spec =
@@ -57,7 +57,7 @@ find-spec =
     loop-holds
     mul-if1
     shared-slice-read-if1
-    cast-result
+    cast-t8
     returns
     add-i
     loop-less

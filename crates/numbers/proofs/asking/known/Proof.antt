@@ -1,5 +1,6 @@
 -- `known` meets its contract: the list is searched, and then the fresh values. Assumes nothing.
 use Prim.Native.Nat.{_+_, _*_, _≤_}
+use mathlib.Core.Path.{_∙_}
 use native.Mathlib.Omega.{arith}
 use lib.ListN.{getD, length-take}
 use Rattle.numbers.proofs.PartLaws.{part-inside, known-old, known-none, new-low, known-new}
@@ -11,12 +12,8 @@ use Rattle.numbers.proofs.asking.known.Tie as tie
 within : (s : tie.Start) → s .args .v * s .args .m + getD (s .args .t2) (s .args .v) 0 ≤ 4 * s .args .m
 within s = part-inside (s .args .v) (s .args .m) (getD (s .args .t2) (s .args .v) 0) (s .pre .2) (s .pre .1 .counts-fit (s .args .v) (s .pre .2))
 
--- the fresh values of v are three at most
-few : (s : tie.Start) → getD (s .args .t3 .counts) (s .args .v) 0 ≤ getD (s .args .t2) (s .args .v) 0 + 3
-few s = omega (arith, s .pre .0 .room (s .args .v) (s .pre .2))
-
 mul-at : tie.Need-mul-at
-mul-at c = let s = c .before in omega (arith, within s, s .pre .1 .small)
+mul-at c = let s = c .before .before in omega (arith, within s, s .pre .1 .small)
 
 mul-end : tie.Need-mul-end
 mul-end c = search needs
@@ -28,10 +25,10 @@ cast-end : tie.Need-cast-end
 cast-end c = search needs
 
 add-end : tie.Need-add-end
-add-end c = let s = c .before in omega (arith, within s, s .pre .1 .small)
+add-end c = let s = c .before .before in omega (arith, within s, s .pre .1 .small)
 
 mul-find : tie.Need-mul-find
-mul-find c = let s = c .before in omega (arith, within s, s .pre .1 .small)
+mul-find c = let s = c .before .before in omega (arith, within s, s .pre .1 .small)
 
 sub-find : tie.Need-sub-find
 sub-find c = search needs
@@ -40,16 +37,18 @@ part-find-start : tie.Need-part-find-start
 part-find-start c = search needs
 
 part-find-end : tie.Need-part-find-end
-part-find-end c = let s = c .before in omega (arith, within s, s .pre .1 .whole)
+part-find-end c = let s = c .before .before in omega (arith, within s, s .pre .1 .whole)
 
 find-requires : tie.Need-find-requires
-find-requires c κs = let s = c .before .before in rw length-take (omega (arith, s .pre .1 .counts-fit (s .args .v) (s .pre .2), s .pre .1 .small))
+find-requires c κs =
+    let s = c .before .before .before in
+    rw length-take (omega (arith, s .pre .1 .counts-fit (s .args .v) (s .pre .2), s .pre .1 .small))
 
 returns : tie.Need-returns
 returns c =
-    let s = c .before .before .before .before in
+    let s = c .before .before .before .before .before .before in
     let a = s .args in
-    known-old (a .m) (a .t2) (a .values .now) (a .t3) (a .v) (a .y) (c .before .find .result) (s .pre .1) (s .pre .2) (c .before .find .ensures) (c .if1 .taken)
+    known-old (a .m) (a .t2) (a .values .now) (a .t3) (a .fresh .now) (a .v) (a .y .0) (c .before .before .find .result .0) (s .pre .1) (s .pre .2) (c .before .before .find .ensures) (c .if1 .taken)
 
 mul-from : tie.Need-mul-from
 mul-from c = search needs
@@ -57,23 +56,23 @@ mul-from c = search needs
 mul-to : tie.Need-mul-to
 mul-to c = search needs
 
-element-copy-out-to : tie.Need-element-copy-out-to
-element-copy-out-to c = search needs
+array-read-to : tie.Need-array-read-to
+array-read-to c = search needs
 
 mul-to-2 : tie.Need-mul-to-2
 mul-to-2 c = search needs
 
-array-read-to : tie.Need-array-read-to
-array-read-to c = search needs
+array-read-to-2 : tie.Need-array-read-to-2
+array-read-to-2 c = search needs
 
 sub-to : tie.Need-sub-to
-sub-to c = let s = c .before .before .before .before .before .before in s .pre .0 .grown (s .args .v) (s .pre .2)
+sub-to c = c .before .before .before .before .before .before .pre .3
 
 cast-to : tie.Need-cast-to
-cast-to c = let s = c .before .before .before .before .before .before in omega (arith, few s)
+cast-to c = let s = c .before .before .before .before .before .before in omega (arith, s .pre .4)
 
 add-to : tie.Need-add-to
-add-to c = let s = c .before .before .before .before .before .before in omega (arith, few s)
+add-to c = let s = c .before .before .before .before .before .before in omega (arith, s .pre .4)
 
 mul-find-2 : tie.Need-mul-find-2
 mul-find-2 c = search needs
@@ -85,38 +84,39 @@ part-find-start-2 : tie.Need-part-find-start-2
 part-find-start-2 c = search needs
 
 part-find-end-2 : tie.Need-part-find-end-2
-part-find-end-2 c = let s = c .before .before .before .before .before .before .before in omega (arith, few s, s .pre .0 .twelve)
+part-find-end-2 c =
+    let s = c .before .before .before .before .before .before in
+    omega (arith, s .pre .4, s .pre .0)
 
 find-requires-2 : tie.Need-find-requires-2
-find-requires-2 c κs = let s = c .before .before .before .before .before .before .before .before in rw length-take (omega (arith, few s))
+find-requires-2 c κs =
+    let s = c .before .before .before .before .before .before .before in
+    rw length-take (omega (arith, s .pre .4))
 
 returns-2 : tie.Need-returns-2
 returns-2 c =
     let s = c .before .before .before .before .before .before .before .before .before .before in
     let a = s .args in
-    let l = c .before .before .before .before .before .before in
-    known-none (a .m) (a .t2) (a .values .now) (a .t3) (a .v) (a .y) (l .before .find .result) (s .pre .1) (s .pre .2) (l .before .find .ensures) (l .if1 .left) (few s) (c .before .find2 .result) (c .before .find2 .ensures) (c .if2 .taken)
+    c .if2 .taken ∙ known-none (a .m) (a .t2) (a .values .now) (a .t3) (a .fresh .now) (a .v) (a .y .0) (c .before .before .before .before .before .before .find .result .0) (s .pre .1) (s .pre .2) (c .before .before .before .before .before .before .find .ensures) (c .before .before .before .before .if1 .left) (s .pre .4) (c .before .before .find2 .result .0) (c .before .before .find2 .ensures) (c .if2 .taken)
 
-mul-result : tie.Need-mul-result
-mul-result c = search needs
+mul-t31 : tie.Need-mul-t31
+mul-t31 c = search needs
 
-array-read-result : tie.Need-array-read-result
-array-read-result c = search needs
+array-read-t30 : tie.Need-array-read-t30
+array-read-t30 c = search needs
 
-add-result : tie.Need-add-result
-add-result c =
-    let s = c .before .before .before .before .before .before .before .before .before .before in
+add-t19 : tie.Need-add-t19
+add-t19 c =
+    let s = c .before .before .before .before .before .before .before .before .before .before .before in
     let a = s .args in
-    let l = c .before .before .before .before .before .before in
-    let n = new-low (a .m) (a .t2) (a .values .now) (a .t3) (a .v) (a .y) (l .before .find .result) (s .pre .1) (s .pre .2) (l .before .find .ensures) (l .if1 .left) (few s) (c .before .find2 .result) (c .before .find2 .ensures) (c .if2 .left) in
-    omega (arith, n, s .pre .0 .first (a .v) (s .pre .2))
+    let n = new-low (a .m) (a .t2) (a .values .now) (a .t3) (a .fresh .now) (a .v) (a .y .0) (c .before .before .before .before .before .before .before .find .result .0) (s .pre .1) (s .pre .2) (c .before .before .before .before .before .before .before .find .ensures) (c .before .before .before .before .before .if1 .left) (s .pre .4) (c .before .before .before .find2 .result .0) (c .before .before .before .find2 .ensures) (c .before .if2 .left) in
+    omega (arith, n, s .pre .1 .counts-fit (a .v) (s .pre .2), s .pre .1 .small)
 
 returns-3 : tie.Need-returns-3
 returns-3 c =
-    let s = c .before .before .before .before .before .before .before .before .before .before in
+    let s = c .before .before .before .before .before .before .before .before .before .before .before in
     let a = s .args in
-    let l = c .before .before .before .before .before .before in
-    known-new (a .m) (a .t2) (a .values .now) (a .t3) (a .v) (a .y) (l .before .find .result) (s .pre .1) (s .pre .2) (l .before .find .ensures) (l .if1 .left) (few s) (c .before .find2 .result) (c .before .find2 .ensures) (c .if2 .left)
+    known-new (a .m) (a .t2) (a .values .now) (a .t3) (a .fresh .now) (a .v) (a .y .0) (c .before .before .before .before .before .before .before .find .result .0) (s .pre .1) (s .pre .2) (c .before .before .before .before .before .before .before .find .ensures) (c .before .before .before .before .before .if1 .left) (s .pre .4) (c .before .before .before .find2 .result .0) (c .before .before .before .find2 .ensures) (c .before .if2 .left)
 
 pub known-spec : {M : Type 1} → statement M
 known-spec =
@@ -135,9 +135,9 @@ known-spec =
     returns
     mul-from
     mul-to
-    element-copy-out-to
-    mul-to-2
     array-read-to
+    mul-to-2
+    array-read-to-2
     sub-to
     cast-to
     add-to
@@ -147,7 +147,7 @@ known-spec =
     part-find-end-2
     find-requires-2
     returns-2
-    mul-result
-    array-read-result
-    add-result
+    mul-t31
+    array-read-t30
+    add-t19
     returns-3)

@@ -14,10 +14,10 @@ use Rattle.numbers.proofs.asking.next_match.Statement.{statement}
 use Rattle.numbers.proofs.asking.next_match.Tie as tie
 
 abbrev Inv-loop : tie.InvT-loop
-Inv-loop rows from event n i₀ i = (from ≤ i) × (from ≤ length rows / 9 → i ≤ length rows / 9) × ((j : ℕ) → from ≤ j → j < i → matchesRow (factOf event) (rowAt rows j) ≡ false)
+Inv-loop rows from fact n i₀ i = (from ≤ i) × (from ≤ length rows / 9 → i ≤ length rows / 9) × ((j : ℕ) → from ≤ j → j < i → matchesRow (factOf fact) (rowAt rows j) ≡ false)
 
 abbrev μ-loop : tie.MeasureT-loop
-μ-loop rows from event n i₀ i = length rows / 9 - i
+μ-loop rows from fact n i₀ i = length rows / 9 - i
 
 loop-holds : tie.Need-loop-holds Inv-loop μ-loop
 loop-holds c = (omega arith, λ h. h, λ j h k. absurd (omega arith))
@@ -35,7 +35,7 @@ returns c =
       later = l .inv .0;
       within = l .inv .1;
       skipped = l .inv .2;
-      matches = λ h. sym (c .before .matches .ensures ∙ ap (matchesRow (factOf (c .before .before .before .before .before .before .args .event))) (c .before .before .row-at .ensures .says)) ∙ c .if1 .taken;
+      matches = λ h. sym (c .before .matches .ensures ∙ ap (matchesRow (factOf (c .before .before .before .before .before .before .args .fact))) (c .before .before .row-at .ensures .says)) ∙ c .if1 .taken;
     }
 
 add-i : tie.Need-add-i Inv-loop μ-loop
@@ -51,7 +51,7 @@ loop-again c =
       λ h. omega arith,
       λ j h k. ⊎-elim
           (λ p. l .inv .2 j h p)
-          (λ p. let z : j ≡ l .i = omega arith in rw z (sym (c .before .matches .ensures ∙ ap (matchesRow (factOf (c .before .before .before .before .before .before .args .event))) (c .before .before .row-at .ensures .says)) ∙ c .if1 .left))
+          (λ p. let z : j ≡ l .i = omega arith in rw z (sym (c .before .matches .ensures ∙ ap (matchesRow (factOf (c .before .before .before .before .before .before .args .fact))) (c .before .before .row-at .ensures .says)) ∙ c .if1 .left))
           (lt-or-ge j (l .i)),
     )
 

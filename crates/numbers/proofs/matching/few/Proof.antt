@@ -1,6 +1,5 @@
 -- `few` meets its contract. Assumes nothing.
 use native.Mathlib.Omega.{arith}
-use borrow.Author.Needs.{needs}
 use Rattle.numbers.proofs.matching.few.Statement.{statement}
 use Rattle.numbers.proofs.matching.few.Tie as tie
 

@@ -1,11 +1,7 @@
 -- `matches` meets its contract: one law for each way out. Assumes nothing.
-use Prim.Native.Nat.{ℕ}
 use mathlib.Core.Path.{_≡_, refl, ap, sym, _∙_}
-use mathlib.Core.Bool.{false}
-use lib.ListN.{length, take, length-map}
+use lib.ListN.{length, length-map}
 use Rattle.meaning.specs.Rows
-use Rattle.meaning.specs.Qtl.{Fact}
-use Rattle.meaning.specs.Numbering.{fits}
 use Rattle.rule.specs.Decoded.{rowOf}
 use Rattle.numbers.specs.Matching.{matchesRow}
 use Rattle.numbers.proofs.FitLaws.{no-atom, match-predicate, match-count, match-fits}
@@ -14,8 +10,8 @@ use Rattle.numbers.proofs.matching.matches.Statement.{statement}
 use Rattle.numbers.proofs.matching.matches.Tie as tie
 
 -- an event has an array of three values
-three : (s : tie.Start) → length (s .args .event .values) ≡ 3
-three s = sym (length-map (s .args .event .values) _) ∙ s .good .1 .0 .1 .1 .1 .1 .0 .1 .0 .1
+three : (s : tie.Start) → length (s .args .fact .values) ≡ 3
+three s = sym (length-map (s .args .fact .values) _) ∙ s .good .1 .0 .1 .1 .1 .1 .0 .1 .0 .1
 
 enum-told : tie.Need-enum-told
 enum-told c = search needs
@@ -24,7 +20,7 @@ enum-known-row : tie.Need-enum-known-row
 enum-known-row c = search needs
 
 returns : tie.Need-returns
-returns c = let a = c .before .before .before .before .before .args in match-predicate (a .event) (a .row) _ _ _ _ _ (c .before .before .before .row .given .1) (c .if1 .taken)
+returns c = let a = c .before .before .before .before .before .args in match-predicate (a .fact) (a .row) _ _ _ _ _ (c .before .before .before .row .given .1) (c .if1 .taken)
 
 few-requires : tie.Need-few-requires
 few-requires c κs = tt
@@ -33,7 +29,7 @@ few-requires-2 : tie.Need-few-requires-2
 few-requires-2 c κs = tt
 
 returns-2 : tie.Need-returns-2
-returns-2 c = let s = c .before .before .before .before .before .before .before .before in let a = s .args in match-count (a .event) (a .row) _ _ _ _ _ (c .before .before .before .before .before .before .row .given .1) (three s) (λ z. c .if2 .taken (c .before .before .few .ensures ∙ z ∙ sym (c .before .few2 .ensures)))
+returns-2 c = let s = c .before .before .before .before .before .before .before .before in let a = s .args in match-count (a .fact) (a .row) _ _ _ _ _ (c .before .before .before .before .before .before .row .given .1) (three s) (λ z. c .if2 .taken (c .before .before .few .ensures ∙ z ∙ sym (c .before .few2 .ensures)))
 
 few-requires-3 : tie.Need-few-requires-3
 few-requires-3 c κs = tt
@@ -70,7 +66,7 @@ unfolding matchesRow rowOf
 returns-3 c = no-atom _ _ _ (ap rowOf (c .enum-told .given .1)) refl
 
 returns-4 : tie.Need-returns-4
-returns-4 c = let s = c .before .before .before .before .before .before .before .before .before .before .before .before .before .before in let a = s .args in (rw (c .before .before .before .before .few3 .ensures) at (c .all-fit .ensures)) ∙ match-fits (a .event) (a .row) _ _ _ _ _ (c .before .before .before .before .before .before .before .before .before .before .before .before .row .given .1) (three s) (c .before .before .before .before .before .before .before .before .before .if1 .left) (sym (c .before .before .before .before .before .before .before .before .few .ensures) ∙ c .before .before .before .before .before .before .if2 .left ∙ c .before .before .before .before .before .before .before .few2 .ensures) (record { 0 = 0 })
+returns-4 c = let s = c .before .before .before .before .before .before .before .before .before .before .before .before .before .before in let a = s .args in (rw (c .before .before .before .before .few3 .ensures) at (c .all-fit .ensures)) ∙ match-fits (a .fact) (a .row) _ _ _ _ _ (c .before .before .before .before .before .before .before .before .before .before .before .before .row .given .1) (three s) (c .before .before .before .before .before .before .before .before .before .if1 .left) (sym (c .before .before .before .before .before .before .before .before .few .ensures) ∙ c .before .before .before .before .before .before .if2 .left ∙ c .before .before .before .before .before .before .before .few2 .ensures) (record { 0 = 0 })
 
 returns-5 : tie.Need-returns-5
 unfolding matchesRow rowOf

@@ -2,7 +2,6 @@
 use mathlib.Core.Path.{sym, _∙_}
 use Rattle.rule.specs.Decoded.{argumentOf}
 use Rattle.numbers.proofs.FitLaws.{repeats-none, repeats-off, repeats-one, repeats-two}
-use borrow.Author.Needs.{needs}
 use borrow.Author.Tests.{not-true, not-false}
 use Rattle.numbers.proofs.matching.repeats.Statement.{statement}
 use Rattle.numbers.proofs.matching.repeats.Tie as tie

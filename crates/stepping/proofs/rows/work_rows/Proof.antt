@@ -1,36 +1,32 @@
 -- `work_rows` meets its contract. The loop's invariant: the first i rows are worked and counted. The measure is the count of rows that
 -- are left. Assumes nothing.
 use Prim.Native.Nat.{ℕ, _+_, _*_, _-_, _/_, _≤_, _<_}
-use mathlib.Core.Path.{_≡_, refl, ap, ap₂, sym, _∙_}
-use mathlib.Core.Bool.{Bool}
+use mathlib.Core.Path.{_≡_, refl, ap, sym, _∙_}
 use mathlib.Core.List.{List}
 use native.Mathlib.Omega.{arith}
 use lib.ListN.{length, getD}
 use denote.Ref.{now}
 use borrow.Author.Needs.{needs}
 use Rattle.trees.specs.Kept.{diagrams}
+use Rattle.meaning.specs.Rows
 use Rattle.meaning.specs.Rows.{rowCount}
-use Rattle.meaning.specs.Outcome.{factOf}
 use Rattle.meaning.specs.declared.Event.{Event}
 use Rattle.rule.specs.declared.Row.{Row}
 use Rattle.rule.specs.Decoded.{rowOf, rowReadAt}
 use Rattle.rule.proofs.DecodedLaws.{row-says}
-use Rattle.numbers.specs.Matching.{matchesRow}
-use Rattle.diagram.specs.declared.Instruction.{Instruction}
 use Rattle.diagram.specs.declared.Instruction.the-variants.{Yes}
-use Rattle.instructions.specs.Read.{instructionRead}
-use Rattle.instructions.specs.Planned.{planned}
+use Rattle.instructions.specs.Planned.{asked, planned}
 use Rattle.instructions.proofs.PlannedLaws.{planned-at}
+use Rattle.diagram.specs.Steps.{does}
 use Rattle.diagram.specs.Works.{Through}
 use Rattle.stepping.proofs.FitLaws.{few-rows, count-is}
 use Rattle.stepping.proofs.PlanLaws.{old-are, through-none, through-short, through-more}
 use Rattle.stepping.proofs.rows.work_rows.Statement.{statement}
 use Rattle.stepping.proofs.rows.work_rows.Tie as tie
 
--- the instruction that is read is the plan's
-reads : (rows : List ℕ) (e : Event) (given : List ℕ) (i : ℕ) → i < length rows / 9 → {x : Instruction} {r : Row} {b : Bool}
-    → x ≡ instructionRead r b given → r ≡ rowReadAt rows i → b ≡ matchesRow (factOf e) (rowOf r) → x ≡ getD (planned rows e given) i Yes
-reads rows e given i h p q s = p ∙ ap₂ (λ (r : Row) (b : Bool). instructionRead r b given) q (s ∙ ap (matchesRow (factOf e)) (ap rowOf q ∙ row-says rows i)) ∙ sym (planned-at rows e given i (omega (arith, count-is rows)))
+-- the task that is worked is the plan's
+reads : (rows : List ℕ) (e : Event) (given : List ℕ) (i : ℕ) → i < length rows / 9 → {r : Row} → r ≡ rowReadAt rows i → asked (rowOf r) e given ≡ getD (planned rows e given) i (does Yes)
+reads rows e given i h q = ap (λ (r : Rows.Row). asked r e given) (ap rowOf q ∙ row-says rows i) ∙ sym (planned-at rows e given i (omega (arith, count-is rows)))
 
 abbrev Inv-loop : tie.InvT-loop
 Inv-loop nodes₀ work₀ c slots kept k rows event given olds news₀ count n₀ visits₀ i₀ nodes work news n visits i =
@@ -46,26 +42,21 @@ loop-holds c =
       refl,
       omega arith,
       refl,
-      rw (s .pre .1 .0 .1) (through-none (s .args .k) (planned (now (s .args .rows)) (s .args .event) (s .args .given)) _ (s .args .nodes .now) (s .args .kept) (s .args .work .now) (s .args .c) (s .args .slots) (now (s .args .olds)) (s .pre .0 .3) (s .pre .1 .0 .0)
+      rw (s .pre .1 .0 .1) (through-none (s .args .k) (planned (now (s .args .rows)) (s .args .event) (now (s .args .given))) _ (s .args .nodes .now) (s .args .kept) (s .args .work .now) (s .args .c) (s .args .slots) (now (s .args .olds)) (s .pre .0 .4) (s .pre .1 .0 .0)
           (old-are (s .args .nodes .now) (s .args .kept) (now (s .args .olds)) (rowCount (now (s .args .rows))) (omega (arith, most, s .pre .1 .0 .0 .wide)) (s .pre .1 .1 .0)) (s .pre .1 .1 .1)),
     )
 
 row-at-requires : tie.Need-row-at-requires Inv-loop μ-loop
 row-at-requires c κs = let l = c .before .loop in omega (arith, l .inv .0, c .loop-test .taken)
 
-matches-requires : tie.Need-matches-requires Inv-loop μ-loop
-matches-requires c κs = tt
+cast-one-row : tie.Need-cast-one-row Inv-loop μ-loop
+cast-one-row c = omega (arith, few-rows _ (c .before .before .before .before .before .before .before .before .pre .0 .1), c .before .before .before .before .loop .inv .0, c .before .before .before .loop-test .taken)
 
-instruction-requires : tie.Need-instruction-requires Inv-loop μ-loop
-instruction-requires c κs = tt
-
-cast-row : tie.Need-cast-row Inv-loop μ-loop
-cast-row c = omega (arith, few-rows _ (c .before .before .before .before .before .before .before .before .before .before .pre .0 .1), c .before .before .before .before .before .before .loop .inv .0, c .before .before .before .before .before .loop-test .taken)
-
-row-requires : tie.Need-row-requires Inv-loop μ-loop
-row-requires c κs =
-    let t = c .before .before .before .before .before .before .before .loop .inv .3 in
-    ((c .before .before .before .before .before .before .before .before .before .before .before .pre .0 .0, t .desk), (t .old-lead, t .new-lead))
+one-row-requires : tie.Need-one-row-requires Inv-loop μ-loop
+one-row-requires c κs =
+    let s = c .before .before .before .before .before .before .before .before .before in
+    let t = c .before .before .before .before .before .loop .inv .3 in
+    ((s .pre .0 .0, s .pre .0 .2, t .desk), (t .old-lead, t .new-lead, s .pre .0 .3))
 
 enum-known-m : tie.Need-enum-known-m Inv-loop μ-loop
 enum-known-m c = search needs
@@ -74,50 +65,50 @@ enum-told : tie.Need-enum-told Inv-loop μ-loop
 enum-told c = search needs
 
 same-length : tie.Need-same-length Inv-loop μ-loop
-same-length c = c .before .before .before .before .before .before .row .kept .0 ∙ c .before .before .before .before .before .before .before .before .before .before .before .before .before .before .loop .inv .3 .size
+same-length c = c .before .before .before .before .before .before .one-row .kept .0 ∙ c .before .before .before .before .before .before .before .before .before .before .before .before .loop .inv .3 .size
 
 same-length-2 : tie.Need-same-length-2 Inv-loop μ-loop
-same-length-2 c = c .before .before .before .before .before .before .row .kept .1 .0 ∙ c .before .before .before .before .before .before .before .before .before .before .before .before .before .before .loop .inv .2
+same-length-2 c = c .before .before .before .before .before .before .one-row .kept .1 .0 ∙ c .before .before .before .before .before .before .before .before .before .before .before .before .loop .inv .2
 
 returns : tie.Need-returns Inv-loop μ-loop
 returns c =
-    let s = c .before .before .before .before .before .before .before .before .before .before .before .before .before .before .before .before .before .before in
-    let l = c .before .before .before .before .before .before .before .before .before .before .before .before .before .before .loop in
-    let h : l .i < length (now (s .args .rows)) / 9 = omega (arith, l .inv .0, c .before .before .before .before .before .before .before .before .before .before .before .before .before .loop-test .taken) in
-    let x = reads (now (s .args .rows)) (s .args .event) (s .args .given) (l .i) h (c .before .before .before .before .before .before .before .before .before .before .instruction .ensures) (c .before .before .before .before .before .before .before .before .before .before .before .before .row-at .ensures .whole) (c .before .before .before .before .before .before .before .before .before .before .before .matches .ensures) in
-    through-short (s .args .k) (planned (now (s .args .rows)) (s .args .event) (s .args .given)) _ (s .args .nodes .now) (s .args .kept) (l .inv .3) (rowCount (now (s .args .rows))) (omega (arith, count-is (now (s .args .rows)))) (rw (c .enum-told .given .1, x) at (c .before .before .before .before .before .before .row .ensures))
+    let s = c .before .before .before .before .before .before .before .before .before .before .before .before .before .before .before .before in
+    let l = c .before .before .before .before .before .before .before .before .before .before .before .before .loop in
+    let h : l .i < length (now (s .args .rows)) / 9 = omega (arith, l .inv .0, c .before .before .before .before .before .before .before .before .before .before .before .loop-test .taken) in
+    let x = reads (now (s .args .rows)) (s .args .event) (now (s .args .given)) (l .i) h (c .before .before .before .before .before .before .before .before .before .before .row-at .ensures .whole) in
+    through-short (s .args .k) (planned (now (s .args .rows)) (s .args .event) (now (s .args .given))) _ (s .args .nodes .now) (s .args .kept) (l .inv .3) (rowCount (now (s .args .rows))) (omega (arith, count-is (now (s .args .rows)))) (rw (c .enum-told .given .1, x) at (c .before .before .before .before .before .before .one-row .ensures))
 
 mul-news : tie.Need-mul-news Inv-loop μ-loop
-mul-news c = omega (arith, few-rows _ (c .before .before .before .before .before .before .before .before .before .before .before .before .before .before .before .before .before .before .before .pre .0 .1), c .before .before .before .before .before .before .before .before .before .before .before .before .before .before .before .loop .inv .0, c .before .before .before .before .before .before .before .before .before .before .before .before .before .before .loop-test .taken)
+mul-news c = omega (arith, few-rows _ (c .before .before .before .before .before .before .before .before .before .before .before .before .before .before .before .before .before .pre .0 .1), c .before .before .before .before .before .before .before .before .before .before .before .before .before .loop .inv .0, c .before .before .before .before .before .before .before .before .before .before .before .before .loop-test .taken)
 
 element-write-news : tie.Need-element-write-news Inv-loop μ-loop
-element-write-news c = omega (arith, few-rows _ (c .before .before .before .before .before .before .before .before .before .before .before .before .before .before .before .before .before .before .before .pre .0 .1), c .before .before .before .before .before .before .before .before .before .before .before .before .before .before .before .loop .inv .0, c .before .before .before .before .before .before .before .before .before .before .before .before .before .before .loop-test .taken, c .before .before .before .before .before .before .before .before .before .before .before .before .before .before .before .loop .inv .3 .new-lead .wide)
+element-write-news c = omega (arith, few-rows _ (c .before .before .before .before .before .before .before .before .before .before .before .before .before .before .before .before .before .pre .0 .1), c .before .before .before .before .before .before .before .before .before .before .before .before .before .loop .inv .0, c .before .before .before .before .before .before .before .before .before .before .before .before .loop-test .taken, c .before .before .before .before .before .before .before .before .before .before .before .before .before .loop .inv .3 .new-lead .wide)
 
 add-visits : tie.Need-add-visits Inv-loop μ-loop
 add-visits c =
-    let s = c .before .before .before .before .before .before .before .before .before .before .before .before .before .before .before .before .before .before .before in
-    let l = c .before .before .before .before .before .before .before .before .before .before .before .before .before .before .before .loop in
-    let h : l .i < length (now (s .args .rows)) / 9 = omega (arith, l .inv .0, c .before .before .before .before .before .before .before .before .before .before .before .before .before .before .loop-test .taken) in
-    let x = reads (now (s .args .rows)) (s .args .event) (s .args .given) (l .i) h (c .before .before .before .before .before .before .before .before .before .before .before .instruction .ensures) (c .before .before .before .before .before .before .before .before .before .before .before .before .before .row-at .ensures .whole) (c .before .before .before .before .before .before .before .before .before .before .before .before .matches .ensures) in
-    let g = rw (c .before .m .given .1, x) at (c .before .before .before .before .before .before .before .row .ensures) in
-    let t = through-more (s .args .k) (planned (now (s .args .rows)) (s .args .event) (s .args .given)) _ (s .args .nodes .now) (s .args .kept) (l .inv .3) (g .0) (omega (arith, few-rows _ (s .pre .0 .1))) _ (g .1) (g .2) in
+    let s = c .before .before .before .before .before .before .before .before .before .before .before .before .before .before .before .before .before in
+    let l = c .before .before .before .before .before .before .before .before .before .before .before .before .before .loop in
+    let h : l .i < length (now (s .args .rows)) / 9 = omega (arith, l .inv .0, c .before .before .before .before .before .before .before .before .before .before .before .before .loop-test .taken) in
+    let x = reads (now (s .args .rows)) (s .args .event) (now (s .args .given)) (l .i) h (c .before .before .before .before .before .before .before .before .before .before .before .row-at .ensures .whole) in
+    let g = rw (c .before .m .given .1, x) at (c .before .before .before .before .before .before .before .one-row .ensures) in
+    let t = through-more (s .args .k) (planned (now (s .args .rows)) (s .args .event) (now (s .args .given))) _ (s .args .nodes .now) (s .args .kept) (l .inv .3) (g .0) (omega (arith, few-rows _ (s .pre .0 .1))) _ (g .1) (g .2) in
     omega (arith, t .tally .small, few-rows _ (s .pre .0 .1))
 
 add-i : tie.Need-add-i Inv-loop μ-loop
-add-i c = omega (arith, few-rows _ (c .before .before .before .before .before .before .before .before .before .before .before .before .before .before .before .before .before .before .before .pre .0 .1), c .before .before .before .before .before .before .before .before .before .before .before .before .before .before .before .loop .inv .0, c .before .before .before .before .before .before .before .before .before .before .before .before .before .before .loop-test .taken)
+add-i c = omega (arith, few-rows _ (c .before .before .before .before .before .before .before .before .before .before .before .before .before .before .before .before .before .pre .0 .1), c .before .before .before .before .before .before .before .before .before .before .before .before .before .loop .inv .0, c .before .before .before .before .before .before .before .before .before .before .before .before .loop-test .taken)
 
 loop-less : tie.Need-loop-less Inv-loop μ-loop
-loop-less c = omega (arith, c .before .before .before .before .before .before .before .before .before .before .before .before .before .before .loop-test .taken)
+loop-less c = omega (arith, c .before .before .before .before .before .before .before .before .before .before .before .before .loop-test .taken)
 
 loop-again : tie.Need-loop-again Inv-loop μ-loop
 loop-again c =
-    let s = c .before .before .before .before .before .before .before .before .before .before .before .before .before .before .before .before .before .before .before in
-    let l = c .before .before .before .before .before .before .before .before .before .before .before .before .before .before .before .loop in
-    let h : l .i < length (now (s .args .rows)) / 9 = omega (arith, l .inv .0, c .before .before .before .before .before .before .before .before .before .before .before .before .before .before .loop-test .taken) in
-    let x = reads (now (s .args .rows)) (s .args .event) (s .args .given) (l .i) h (c .before .before .before .before .before .before .before .before .before .before .before .instruction .ensures) (c .before .before .before .before .before .before .before .before .before .before .before .before .before .row-at .ensures .whole) (c .before .before .before .before .before .before .before .before .before .before .before .before .matches .ensures) in
-    let g = rw (c .before .m .given .1, x) at (c .before .before .before .before .before .before .before .row .ensures) in
-    let t = through-more (s .args .k) (planned (now (s .args .rows)) (s .args .event) (s .args .given)) _ (s .args .nodes .now) (s .args .kept) (l .inv .3) (g .0) (omega (arith, few-rows _ (s .pre .0 .1))) _ (g .1) (g .2) in
-    (l .inv .0, omega (arith, c .before .before .before .before .before .before .before .before .before .before .before .before .before .before .loop-test .taken), c .before .before .before .before .before .before .before .row .kept .1 .0 ∙ l .inv .2, t)
+    let s = c .before .before .before .before .before .before .before .before .before .before .before .before .before .before .before .before .before in
+    let l = c .before .before .before .before .before .before .before .before .before .before .before .before .before .loop in
+    let h : l .i < length (now (s .args .rows)) / 9 = omega (arith, l .inv .0, c .before .before .before .before .before .before .before .before .before .before .before .before .loop-test .taken) in
+    let x = reads (now (s .args .rows)) (s .args .event) (now (s .args .given)) (l .i) h (c .before .before .before .before .before .before .before .before .before .before .before .row-at .ensures .whole) in
+    let g = rw (c .before .m .given .1, x) at (c .before .before .before .before .before .before .before .one-row .ensures) in
+    let t = through-more (s .args .k) (planned (now (s .args .rows)) (s .args .event) (now (s .args .given))) _ (s .args .nodes .now) (s .args .kept) (l .inv .3) (g .0) (omega (arith, few-rows _ (s .pre .0 .1))) _ (g .1) (g .2) in
+    (l .inv .0, omega (arith, c .before .before .before .before .before .before .before .before .before .before .before .before .loop-test .taken), c .before .before .before .before .before .before .before .one-row .kept .1 .0 ∙ l .inv .2, t)
 
 same-length-3 : tie.Need-same-length-3 Inv-loop μ-loop
 same-length-3 c = c .before .loop .inv .3 .size
@@ -139,10 +130,8 @@ work-rows-spec =
     μ-loop
     loop-holds
     row-at-requires
-    matches-requires
-    instruction-requires
-    cast-row
-    row-requires
+    cast-one-row
+    one-row-requires
     enum-known-m
     enum-told
     same-length

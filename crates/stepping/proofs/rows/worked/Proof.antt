@@ -52,7 +52,7 @@ work-rows-requires c κs =
     let r = s .pre .1 .1 .0 in
     let few = c .before .before .before .before .before .before .before .before .slots-for .ensures in
     let z = c .before .before .before .before .before .before .zero .ensures in
-    ((f .most, s .pre .0 .0, s .pre .0 .1, desk-ready f r (s .pre .1 .1 .1) _ (few .0) (few .1) z), ((r .leads, refl), (r .none, fresh-ready f r _ z)))
+    ((f .most, s .pre .0 .0, s .pre .0 .1, s .pre .0 .2, desk-ready f r (s .pre .1 .1 .1) _ (few .0) (few .1) z), ((r .leads, refl), (r .none, fresh-ready f r _ z)))
 
 mul-zero-4 : tie.Need-mul-zero-4
 mul-zero-4 c = search needs
@@ -90,7 +90,7 @@ returns c =
     let f = s .pre .1 .0 in
     let back = lent-back (s .args .nodes .now) f _ (c .before .before .before .before .before .before .before .before .before .before .before .before .before .before .before .before .before .before .before .before .before .before .before .slots-for .ensures .1) (c .before .before .before .before .before .before .before .before .before .before .before .before .before .before .before .before .before .before .before .before .before .zero .ensures) (rows .last .1 .0) (rows .kept .1 .0) in
     rw (c .refused .ensures) (
-      full-leaves (s .args .k) (rowCount (now (s .args .rows))) (planned (now (s .args .rows)) (s .args .event) (s .args .given)) (s .args .refs .now) (s .args .kept) (s .args .nodes .now) (s .args .work .now) f (s .pre .1 .1 .0) (rw (c .before .before .before .before .before .before .before .before .before .if1 .taken) at (rows .ensures)) (c .before .before .before .before .before .before .before .zero2 .ensures)
+      full-leaves (s .args .k) (rowCount (now (s .args .rows))) (planned (now (s .args .rows)) (s .args .event) (now (s .args .given))) (s .args .refs .now) (s .args .kept) (s .args .nodes .now) (s .args .work .now) f (s .pre .1 .1 .0) (rw (c .before .before .before .before .before .before .before .before .before .if1 .taken) at (rows .ensures)) (c .before .before .before .before .before .before .before .zero2 .ensures)
           (cleared-is (length (s .args .nodes .now) / 3) (s .args .work .now) (f .room) (rest-more (back .0) (omega arith)) (back .1) (c .before .before .before .zero3 .ensures)),
       (refl, refl),
     )
@@ -108,7 +108,7 @@ renew-requires c κs =
     let s = c .before .before .before .before .before .before .before .before .before .before .before .before .before .before .before .before .before .before .before .before .before .before in
     let f = s .pre .1 .0 in
     let back = lent-back (s .args .nodes .now) f _ (c .before .before .before .before .before .before .before .before .before .before .before .before .before .before .before .before .before .before .slots-for .ensures .1) (c .before .before .before .before .before .before .before .before .before .before .before .before .before .before .before .before .zero .ensures) (rows .last .1 .0) (rows .kept .1 .0) in
-    let t = sweep-ready (s .args .k) (rowCount (now (s .args .rows))) (planned (now (s .args .rows)) (s .args .event) (s .args .given)) (s .args .refs .now) (s .args .kept) (s .args .nodes .now) (s .args .work .now) f (rw (c .before .before .before .before .if1 .left) at (rows .ensures)) (putMid 0 (15 * (length (s .args .nodes .now) / 3) - 0) (c .before .before .before .before .before .before .before .before .before .before .before .before .before .before .before .before .zero .last .0) (rows .last .1 .0)) (back .1) (s .pre .1 .1 .0) in
+    let t = sweep-ready (s .args .k) (rowCount (now (s .args .rows))) (planned (now (s .args .rows)) (s .args .event) (now (s .args .given))) (s .args .refs .now) (s .args .kept) (s .args .nodes .now) (s .args .work .now) f (rw (c .before .before .before .before .if1 .left) at (rows .ensures)) (putMid 0 (15 * (length (s .args .nodes .now) / 3) - 0) (c .before .before .before .before .before .before .before .before .before .before .before .before .before .before .before .before .zero .last .0) (rows .last .1 .0)) (back .1) (s .pre .1 .1 .0) in
     (t .0, (t .1, (t .2, t .3)))
 
 mul-zero-6 : tie.Need-mul-zero-6
@@ -141,10 +141,10 @@ returns-2 c =
     let back = lent-back (s .args .nodes .now) f _ (c .before .before .before .before .before .before .before .before .before .before .before .before .before .before .before .before .before .before .before .before .before .before .before .before .before .before .before .slots-for .ensures .1) (c .before .before .before .before .before .before .before .before .before .before .before .before .before .before .before .before .before .before .before .before .before .before .before .before .before .zero .ensures) (rows .last .1 .0) (rows .kept .1 .0) in
     let t = rw (c .before .before .before .before .before .before .before .before .before .before .before .before .before .if1 .left) at (rows .ensures) in
     let same = t .size in
-    let ready = sweep-ready (s .args .k) (rowCount (now (s .args .rows))) (planned (now (s .args .rows)) (s .args .event) (s .args .given)) (s .args .refs .now) (s .args .kept) (s .args .nodes .now) (s .args .work .now) f t (putMid 0 (15 * (length (s .args .nodes .now) / 3) - 0) (c .before .before .before .before .before .before .before .before .before .before .before .before .before .before .before .before .before .before .before .before .before .before .before .before .before .zero .last .0) (rows .last .1 .0)) (back .1) (s .pre .1 .1 .0) in (
-      done-leaves (s .args .k) (rowCount (now (s .args .rows))) (planned (now (s .args .rows)) (s .args .event) (s .args .given)) (s .args .refs .now) (s .args .kept) (s .args .nodes .now) (s .args .work .now) f t (swept .ensures)
+    let ready = sweep-ready (s .args .k) (rowCount (now (s .args .rows))) (planned (now (s .args .rows)) (s .args .event) (now (s .args .given))) (s .args .refs .now) (s .args .kept) (s .args .nodes .now) (s .args .work .now) f t (putMid 0 (15 * (length (s .args .nodes .now) / 3) - 0) (c .before .before .before .before .before .before .before .before .before .before .before .before .before .before .before .before .before .before .before .before .before .before .before .before .before .zero .last .0) (rows .last .1 .0)) (back .1) (s .pre .1 .1 .0) in (
+      done-leaves (s .args .k) (rowCount (now (s .args .rows))) (planned (now (s .args .rows)) (s .args .event) (now (s .args .given))) (s .args .refs .now) (s .args .kept) (s .args .nodes .now) (s .args .work .now) f t (swept .ensures)
           (cleared-is (length (s .args .nodes .now) / 3) (s .args .work .now) (f .room) (rest-two (16 * (length (s .args .nodes .now) / 3) + 1024) (back .0) (swept .ensures .rest) (omega arith) (omega arith)) (swept .kept .1 .1 .0 ∙ back .1) (c .before .before .zero4 .ensures)),
-      done-visits (s .args .k) (rowCount (now (s .args .rows))) (planned (now (s .args .rows)) (s .args .event) (s .args .given)) (s .args .refs .now) (s .args .kept) (s .args .nodes .now) (s .args .work .now) f t (ready .3) (swept .ensures),
+      done-visits (s .args .k) (rowCount (now (s .args .rows))) (planned (now (s .args .rows)) (s .args .event) (now (s .args .given))) (s .args .refs .now) (s .args .kept) (s .args .nodes .now) (s .args .work .now) f t (ready .3) (swept .ensures),
     )
 
 pub worked-spec : {M : Type 1} → statement M
