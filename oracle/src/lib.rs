@@ -25,5 +25,6 @@ pub mod room;
 pub mod rows;
 pub mod runs;
 pub mod table;
+pub mod texts;
 pub mod trial;
 pub mod well_formed;

@@ -7,7 +7,7 @@ use oracle::coverage::{Coverage, BY_INPUTS};
 use oracle::enumerating::Oracle;
 use oracle::generate::{calls, inputs, laws};
 use oracle::monitor::Monitor;
-use oracle::{cards, limits, program, runs};
+use oracle::{cards, limits, program, runs, texts};
 
 #[cfg(feature = "linked")]
 use oracle::linked::Linked as Subject;
@@ -24,6 +24,7 @@ oracle compare-program SEED COUNT --run COMMAND..
 oracle limits FILE..
 oracle lines FILE --run COMMAND..
 oracle cards SEED COUNT FOLDER --run COMMAND..
+oracle texts SEED COUNT FOLDER FILE --run COMMAND..
 oracle input SEED INDEX
 oracle trial SEED INDEX
 oracle pair SEED INDEX";
@@ -57,6 +58,12 @@ fn command() -> Result<(), String> {
         ["cards", seed, count, folder, "--run", ref run @ ..] if !run.is_empty() => {
             let subject = cards::compare::Subject::new(run, std::path::Path::new(folder));
             cards::compare::all(number(seed)?, number(count)?, &subject)?
+        }
+        ["texts", seed, count, folder, file, "--run", ref run @ ..] if !run.is_empty() => {
+            let subject = texts::compare::Subject::new(run, std::path::Path::new(folder));
+            let stored = texts::compare::stored(file, &subject)?;
+            let seeded = texts::compare::all(number(seed)?, number(count)?, &subject)?;
+            format!("{stored} stored texts; {seeded}")
         }
         ["limits", ref files @ ..] if !files.is_empty() => written(files)?,
         ["input", seed, index] => {

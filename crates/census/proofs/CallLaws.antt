@@ -209,7 +209,7 @@ number-longer (z ∷ ns) x y h = go (same z y) h (number-longer ns x y)
     go true h ih = refl
     go false h ih = ap suc (ih (omega arith))
 
-number-last : (ns : List (List ℕ)) (x : List ℕ) → listed ns x ≡ false → numberIn (ns ++ (x ∷ [])) x ≡ length ns
+pub number-last : (ns : List (List ℕ)) (x : List ℕ) → listed ns x ≡ false → numberIn (ns ++ (x ∷ [])) x ≡ length ns
 unfolding numberIn listed
 number-last [] x h = rw (same-refl x, numberIn)
 number-last (z ∷ ns) x h = go (same z x) h (number-last ns x)

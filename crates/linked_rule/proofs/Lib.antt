@@ -1,0 +1,2 @@
+-- The laws behind the proofs of the functions. Assumes nothing.
+pub mod RulingLaws

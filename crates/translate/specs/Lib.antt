@@ -1,0 +1,2 @@
+-- What the contracts cite: what a call promises.
+pub mod Translated
