@@ -9,10 +9,10 @@ use lib.Seq.{take-at, drop-append-add}
 use Rattle.translate.specs.declared.Told.{Told}
 use Rattle.translate.specs.declared.Told.the-variants.{Refused, Rows}
 use Rattle.translate.specs.Translated.{Translated}
-use Rattle.linked_rule.specs.Ruling.{packedTold, packed, Ruled, LinkedRule}
+use Rattle.linked_rule.specs.Ruling.{packedTold, wrappedTold, packed, Ruled, LinkedRule}
 
-pub told-length : (t : Told) → length (packedTold t) ≡ 5
-unfolding packedTold
+pub told-length : (t : Told) → length (wrappedTold t) ≡ 5
+unfolding wrappedTold
 told-length (Refused number place) = refl
 told-length (Rows n p v) = refl
 
@@ -41,27 +41,27 @@ nothing-left [] e = refl
 nothing-left (x ∷ rest) e = absurd (omega arith)
 
 module _ (answer : List ℕ) (told : Told) (ps pl vs vl : List ℕ) (one two three four five : List ℕ) (long : length answer ≡ 141) (a : length ps ≡ 64) (b : length pl ≡ 64) (c : length vs ≡ 4) (d : length vl ≡ 4)
-    (e : one ≡ take 0 answer ++ packedTold told ++ drop (0 + length (packedTold told)) answer)
+    (e : one ≡ take 0 answer ++ wrappedTold told ++ drop (0 + length (wrappedTold told)) answer)
     (f : two ≡ take 5 one ++ ps ++ drop (5 + length ps) one) (g : three ≡ take 69 two ++ pl ++ drop (69 + length pl) two)
     (h : four ≡ take 133 three ++ vs ++ drop (133 + length vs) three) (i : five ≡ take 137 four ++ vl ++ drop (137 + length vl) four) where
-  pub all-written : five ≡ packed told ps pl vs vl
+  pub all-written : wrappedTold told ≡ packedTold told → five ≡ packed told ps pl vs vl
   unfolding packed
-  all-written =
-      let w1 = write-more [] answer answer (packedTold told) one 0 (write-begins answer) e in
-      let w1′ : Writing (packedTold told) (drop 5 answer) one 5 = rw (told-length told) at w1 in
-      let w2 = write-more (packedTold told) (drop 5 answer) one ps two 5 w1′ f in
-      let w2′ : Writing (packedTold told ++ ps) (drop 64 (drop 5 answer)) two 69 = rw a at w2 in
-      let w3 = write-more (packedTold told ++ ps) (drop 64 (drop 5 answer)) two pl three 69 w2′ g in
-      let w3′ : Writing ((packedTold told ++ ps) ++ pl) (drop 64 (drop 64 (drop 5 answer))) three 133 = rw b at w3 in
-      let w4 = write-more ((packedTold told ++ ps) ++ pl) (drop 64 (drop 64 (drop 5 answer))) three vs four 133 w3′ h in
-      let w4′ : Writing (((packedTold told ++ ps) ++ pl) ++ vs) (drop 4 (drop 64 (drop 64 (drop 5 answer)))) four 137 = rw c at w4 in
-      let w5 = write-more (((packedTold told ++ ps) ++ pl) ++ vs) (drop 4 (drop 64 (drop 64 (drop 5 answer)))) four vl five 137 w4′ i in
-      let w5′ : Writing ((((packedTold told ++ ps) ++ pl) ++ vs) ++ vl) (drop 4 (drop 4 (drop 64 (drop 64 (drop 5 answer))))) five 141 = rw d at w5 in
+  all-written small =
+      let w1 = write-more [] answer answer (wrappedTold told) one 0 (write-begins answer) e in
+      let w1′ : Writing (wrappedTold told) (drop 5 answer) one 5 = rw (told-length told) at w1 in
+      let w2 = write-more (wrappedTold told) (drop 5 answer) one ps two 5 w1′ f in
+      let w2′ : Writing (wrappedTold told ++ ps) (drop 64 (drop 5 answer)) two 69 = rw a at w2 in
+      let w3 = write-more (wrappedTold told ++ ps) (drop 64 (drop 5 answer)) two pl three 69 w2′ g in
+      let w3′ : Writing ((wrappedTold told ++ ps) ++ pl) (drop 64 (drop 64 (drop 5 answer))) three 133 = rw b at w3 in
+      let w4 = write-more ((wrappedTold told ++ ps) ++ pl) (drop 64 (drop 64 (drop 5 answer))) three vs four 133 w3′ h in
+      let w4′ : Writing (((wrappedTold told ++ ps) ++ pl) ++ vs) (drop 4 (drop 64 (drop 64 (drop 5 answer)))) four 137 = rw c at w4 in
+      let w5 = write-more (((wrappedTold told ++ ps) ++ pl) ++ vs) (drop 4 (drop 64 (drop 64 (drop 5 answer)))) four vl five 137 w4′ i in
+      let w5′ : Writing ((((wrappedTold told ++ ps) ++ pl) ++ vs) ++ vl) (drop 4 (drop 4 (drop 64 (drop 64 (drop 5 answer))))) five 141 = rw d at w5 in
       let z : drop 4 (drop 4 (drop 64 (drop 64 (drop 5 answer)))) ≡ [] =
       nothing-left (drop 4 (drop 4 (drop 64 (drop 64 (drop 5 answer)))))
       (omega (arith, length-drop 4 (drop 4 (drop 64 (drop 64 (drop 5 answer)))), length-drop 4 (drop 64 (drop 64 (drop 5 answer))), length-drop 64 (drop 64 (drop 5 answer)), length-drop 64 (drop 5 answer), length-drop 5 answer)) in
-      w5′ .is ∙ rw z (append-nil ((((packedTold told ++ ps) ++ pl) ++ vs) ++ vl)
-      ∙ append-assoc ((packedTold told ++ ps) ++ pl) vs vl ∙ append-assoc (packedTold told ++ ps) pl (vs ++ vl) ∙ append-assoc (packedTold told) ps (pl ++ (vs ++ vl)))
+      w5′ .is ∙ rw (z, ← small) (append-nil ((((wrappedTold told ++ ps) ++ pl) ++ vs) ++ vl)
+      ∙ append-assoc ((wrappedTold told ++ ps) ++ pl) vs vl ∙ append-assoc (wrappedTold told ++ ps) pl (vs ++ vl) ∙ append-assoc (wrappedTold told) ps (pl ++ (vs ++ vl)))
 
 -- the call
 pub rule-made : (text rows answer rows′ answer′ : List ℕ) (told : Told) (ps pl vs vl : List ℕ) → length answer ≡ 141 → Translated text rows rows′ told ps pl vs vl

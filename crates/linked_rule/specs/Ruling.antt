@@ -10,8 +10,13 @@ use Rattle.translate.specs.Translated.{Translated}
 
 -- a refusal's number and place, or the counts of rows, predicates and variables
 unfoldable pub packedTold : Told → List ℕ
-packedTold (Refused number place) = number ∷ (place % 4294967296) ∷ 0 ∷ 0 ∷ 0 ∷ []
-packedTold (Rows n p v) = 0 ∷ 0 ∷ (n % 4294967296) ∷ (p % 4294967296) ∷ (v % 4294967296) ∷ []
+packedTold (Refused number place) = number ∷ place ∷ 0 ∷ 0 ∷ 0 ∷ []
+packedTold (Rows n p v) = 0 ∷ 0 ∷ n ∷ p ∷ v ∷ []
+
+-- the same in 32 bits; what is told always fits
+unfoldable pub wrappedTold : Told → List ℕ
+wrappedTold (Refused number place) = number ∷ (place % 4294967296) ∷ 0 ∷ 0 ∷ 0 ∷ []
+wrappedTold (Rows n p v) = 0 ∷ 0 ∷ (n % 4294967296) ∷ (p % 4294967296) ∷ (v % 4294967296) ∷ []
 
 -- 141 numbers: five, then the places and the lengths of predicates, and of variables
 unfoldable pub packed : Told → List ℕ → List ℕ → List ℕ → List ℕ → List ℕ

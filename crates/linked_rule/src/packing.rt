@@ -4,7 +4,7 @@ ghost use mathlib.Core.Path.{_≡_};
 ghost use Prim.Native.Nat.{_+_, _≤_};
 ghost use mathlib.Core.List.{_++_};
 ghost use lib.ListN.{length, take, drop};
-ghost use Rattle.linked_rule.specs.Ruling.{packedTold};
+ghost use Rattle.linked_rule.specs.Ruling.{wrappedTold};
 
 // Five numbers.
 struct Numbers {
@@ -13,7 +13,7 @@ struct Numbers {
 
 // A refusal's number and place, and three zeros; or two zeros and the counts of rows, predicates and variables. They are all small.
 fn five_of(told: Told) -> Numbers
-    ensures { λ r. ⌜ r .five ≡ packedTold told ⌝ }
+    ensures { λ r. ⌜ r .five ≡ wrappedTold told ⌝ }
 {
     match told {
         Told::Refused(number, place) => Numbers {
@@ -44,7 +44,7 @@ fn put_numbers(from: &[u32], to: &mut [u32], at: usize)
 // Writes what was told, from the start on.
 pub fn put_told(told: Told, to: &mut [u32])
     requires { ⌜ 5 ≤ length (now to) ⌝ }
-    ensures { λ _. ⌜ now (to .exit) ≡ take 0 (now (to .entry)) ++ packedTold told ++ drop (0 + length (packedTold told)) (now (to .entry)) ⌝ }
+    ensures { λ _. ⌜ now (to .exit) ≡ take 0 (now (to .entry)) ++ wrappedTold told ++ drop (0 + length (wrappedTold told)) (now (to .entry)) ⌝ }
 {
     let n = five_of(told);
     let five = n.five;

@@ -3,6 +3,7 @@ use native.Mathlib.Omega.{arith}
 use mathlib.Core.Path.{_≡_}
 use lib.ListN.{length}
 use Rattle.linked_rule.proofs.RulingLaws.{all-written, rule-made, rule-unmade}
+use Rattle.linked_rule.proofs.SmallLaws.{told-fits}
 use borrow.Author.Needs.{needs}
 use Rattle.linked_rule.proofs.moheguzari_rule.Statement.{statement}
 use Rattle.linked_rule.proofs.moheguzari_rule.Tie as tie
@@ -70,7 +71,7 @@ same-length-2 c = search needs
 
 -- src/lib.rt:9:1
 returns-2 : tie.Need-returns-2
-returns-2 c = let l = lengths-are (c .before .before .before .before .before .before .before .before .before .before .before .before .before .before .before .before .before .before .before .before .before .before .before .before .before .before .before .before .before .before) in rule-made _ _ _ _ _ _ _ _ _ _ (c .before .before .before .before .before .before .before .before .before .before .before .before .before .before .before .before .before .before .before .before .before .before .before .before .before .before .before .before .before .before .before .before .if1 .left) (c .before .before .before .before .before .before .before .before .before .before .before .before .before .before .before .before .before .before .before .before .before .before .before .before .before .before .before .before .before .before .translate .ensures) (all-written _ _ _ _ _ _ _ _ _ _ _ (c .before .before .before .before .before .before .before .before .before .before .before .before .before .before .before .before .before .before .before .before .before .before .before .before .before .before .before .before .before .before .before .before .if1 .left) (l .0) (l .1) (l .2) (l .3) (c .before .before .before .before .before .before .before .before .before .before .before .before .before .before .before .before .before .before .before .before .before .before .put-told .ensures) (c .before .before .before .before .before .before .before .before .before .before .before .before .before .before .before .before .before .put-places .ensures) (c .before .before .before .before .before .before .before .before .before .before .before .before .put-places2 .ensures) (c .before .before .before .before .before .before .before .put-places3 .ensures) (c .before .before .put-places4 .ensures))
+returns-2 c = let l = lengths-are (c .before .before .before .before .before .before .before .before .before .before .before .before .before .before .before .before .before .before .before .before .before .before .before .before .before .before .before .before .before .before) in rule-made _ _ _ _ _ _ _ _ _ _ (c .before .before .before .before .before .before .before .before .before .before .before .before .before .before .before .before .before .before .before .before .before .before .before .before .before .before .before .before .before .before .before .before .if1 .left) (c .before .before .before .before .before .before .before .before .before .before .before .before .before .before .before .before .before .before .before .before .before .before .before .before .before .before .before .before .before .before .translate .ensures) (all-written _ _ _ _ _ _ _ _ _ _ _ (c .before .before .before .before .before .before .before .before .before .before .before .before .before .before .before .before .before .before .before .before .before .before .before .before .before .before .before .before .before .before .before .before .if1 .left) (l .0) (l .1) (l .2) (l .3) (c .before .before .before .before .before .before .before .before .before .before .before .before .before .before .before .before .before .before .before .before .before .before .put-told .ensures) (c .before .before .before .before .before .before .before .before .before .before .before .before .before .before .before .before .before .put-places .ensures) (c .before .before .before .before .before .before .before .before .before .before .before .before .put-places2 .ensures) (c .before .before .before .before .before .before .before .put-places3 .ensures) (c .before .before .put-places4 .ensures) (told-fits _ _ _ _ _ _ _ _ (c .before .before .before .before .before .before .before .before .before .before .before .before .before .before .before .before .before .before .before .before .before .before .before .before .before .before .before .before .before .before .translate .ensures)))
 
 pub moheguzari-rule-spec : {M : Type 1} → statement M
 moheguzari-rule-spec =
