@@ -12,12 +12,12 @@ struct state {
     uint32_t refs[MOST_ROWS];
 };
 
-enum { STATE = sizeof(struct state) / sizeof(uint32_t), ANSWER = 6, MOST_NODES = 4096, MOST_LEVELS = 40 };
+enum { STATE = sizeof(struct state) / sizeof(uint32_t), ANSWER = 10, MOST_NODES = 4096, MOST_LEVELS = 40 };
 enum { FACT = sizeof(struct fact) / sizeof(uint32_t) };
 
 static void say(uint32_t *answer, uint32_t a, uint32_t b, uint32_t c, uint32_t d)
 {
-    memcpy(answer, (uint32_t[ANSWER]){a, b, c, d, 0, 0}, ANSWER * sizeof *answer);
+    memcpy(answer, (uint32_t[ANSWER]){a, b, c, d}, ANSWER * sizeof *answer);
 }
 
 // Refusals 1 to 3 as start gives them, or 0.
@@ -172,12 +172,16 @@ static void judge(struct diagrams *d, struct state *state, const struct rule *ru
         return;
     }
     lists_write(&asked, most, state->counts, values);
+    uint32_t numbered[VARIABLES];
+    for (uint32_t v = 0; v < VARIABLES; v++)
+        numbered[v] = asked.counts[v] - state->counts[v];
     memcpy(state->counts, asked.counts, sizeof state->counts);
     state->kept = diagrams_sweep(d, news, rule->count);
     memcpy(state->refs, news, rule->count * sizeof news[0]);
     say(answer, 0, state->refs[rule->count - 1], state->kept, d->count);
     answer[4] = d->complement_visits;
     answer[5] = d->sweep_visits;
+    memcpy(answer + 6, numbered, sizeof numbered);
 }
 
 bool plain_event(const uint32_t *rows, size_t rows_len, uint32_t *nodes, size_t nodes_len, uint32_t *values,

@@ -12,7 +12,7 @@
 #define plain_event moheguzari_event
 #endif
 
-// Both calls are true, unless state or answer have another length than 71 and 6, or facts one that is no multiple of 5:
+// Both calls are true, unless state or answer have another length than 71 and 10, or facts one that is no multiple of 5:
 // then nothing is done.
 bool plain_start(uint32_t k, const uint32_t *rows, size_t rows_len, uint32_t *nodes, size_t nodes_len,
                  uint32_t *values, size_t values_len, uint32_t *state, size_t state_len,

@@ -33,7 +33,7 @@ impl<'a> Monitor<'a> {
     fn start(k: u32, c: usize, rows: &'a [u32]) -> Result<Self, (u32, u32)> {
         let most = (1 << k.min(10)) - 1;
         let (mut nodes, mut values) = (vec![0; 3 * c], vec![0; 4 * most]);
-        let (mut state, mut answer) = ([0; 71], [0; 6]);
+        let (mut state, mut answer) = ([0; 71], [0; 10]);
         let made = unsafe {
             moheguzari_start(
                 k, rows.as_ptr(), rows.len(), nodes.as_mut_ptr(), nodes.len(), values.as_mut_ptr(), values.len(),
@@ -56,7 +56,7 @@ impl<'a> Monitor<'a> {
             [predicate, count, value(0), value(1), value(2)]
         };
         let facts: Vec<u32> = facts.iter().flat_map(packed).collect();
-        let mut answer = [0; 6];
+        let mut answer = [0; 10];
         let made = unsafe {
             moheguzari_event(
                 self.rows.as_ptr(), self.rows.len(), self.nodes.as_mut_ptr(), self.nodes.len(), self.values.as_mut_ptr(), self.values.len(),

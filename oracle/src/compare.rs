@@ -3,8 +3,8 @@
 use crate::case::{Begin, Case, DIRT};
 use crate::coverage::Coverage;
 use crate::enumerating::Oracle;
-use crate::event::{Answer, State};
-use crate::monitor::Monitor;
+use crate::event::{Answer, Event, Found, State};
+use crate::monitor::{look_up, Monitor};
 use crate::reached::{at_event, at_start, Handed};
 
 /// What one call left.
@@ -32,6 +32,7 @@ pub fn compare(
         })
         .map_err(|differs| format!("start: {differs}"))?;
         at_start(coverage, &now.handed(&case.rows), left.answer);
+        looked_up(&left, &[], subject, coverage)?;
         now = left.clone();
         transcript.push(left);
     }
@@ -44,6 +45,8 @@ pub fn compare(
             monitor.event(left.state, &case.rows, nodes, values, &mut left.work, event)
         })
         .map_err(|differs| format!("event {} {event}: {differs}", ordinal + 1))?;
+        looked_up(&left, std::slice::from_ref(event), subject, coverage)
+            .map_err(|differs| format!("event {} {event}: {differs}", ordinal + 1))?;
         let handed = now.handed(&case.rows);
         at_event(coverage, &handed, &now.state, fresh, event, left.answer);
         now = left.clone();
@@ -75,6 +78,37 @@ impl Left {
             work: &self.work,
         }
     }
+}
+
+/// Looks values up in what a call left, each variable's first and last, those of the event's facts and some others, on both monitors.
+fn looked_up(
+    left: &Left,
+    events: &[Event],
+    subject: &mut dyn Monitor,
+    coverage: &mut Coverage,
+) -> Result<(), String> {
+    let facts = events.iter().flat_map(|event| &event.facts);
+    let mut values: Vec<u32> = facts.flat_map(|fact| fact.values).take(9).collect();
+    values.extend([0, 1, u32::MAX]);
+    values.extend(left.values.first().into_iter().chain(left.values.last()));
+    for variable in [0, 1, 2, 3, 4, u32::MAX] {
+        for &value in &values {
+            let wanted = look_up(&left.state, &left.values, variable, value);
+            let found = subject.lookup(&left.state, &left.values, variable, value);
+            coverage.add(match wanted {
+                Found::Has(_) => "lookup of a value that has a number",
+                Found::OneLeft => "lookup of a value that has none, one left",
+                Found::NoneLeft => "lookup of a value that has none, none left",
+                Found::Misfit => "lookup with nothing to look in",
+            });
+            if wanted != found {
+                return Err(format!(
+                    "looking {value} up for variable {variable} tells {found:?}, and {wanted:?} by the oracle"
+                ));
+            }
+        }
+    }
+    Ok(())
 }
 
 /// Makes a call on both monitors, each with its own copy of what is handed in.

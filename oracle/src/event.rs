@@ -76,8 +76,27 @@ impl State {
 #[derive(Clone, Copy, Debug, PartialEq, Eq)]
 pub enum Answer {
     Started,
-    Refused { number: u32, place: u32 },
-    Verdict { yes: bool, kept: u32, room: u32 },
+    Refused {
+        number: u32,
+        place: u32,
+    },
+    /// With how many values of each variable the event newly numbered.
+    Verdict {
+        yes: bool,
+        kept: u32,
+        room: u32,
+        numbered: [u32; VARIABLES],
+    },
+}
+
+/// What looking a value up tells: its number; that it has none, and one is left; that it has none, and none is left; or that there is
+/// nothing to look in.
+#[derive(Clone, Copy, Debug, PartialEq, Eq)]
+pub enum Found {
+    Has(u32),
+    OneLeft,
+    NoneLeft,
+    Misfit,
 }
 
 /// The facts as they are written in the folder `limits`, in brackets.

@@ -1,8 +1,8 @@
-//! The proved monitor's static library behind the two calls.
+//! The proved monitor's static library behind the three calls.
 
 use std::collections::HashSet;
 
-use crate::event::{Answer, Event, Fact, State};
+use crate::event::{Answer, Event, Fact, Found, State};
 use crate::monitor::Monitor;
 use crate::rows::{MOST_ROWS, VARIABLES};
 
@@ -38,13 +38,28 @@ extern "C" {
         answer: *mut u32,
         answer_len: usize,
     ) -> bool;
+
+    fn moheguzari_lookup(
+        values: *const u32,
+        values_len: usize,
+        state: *const u32,
+        state_len: usize,
+        variable: u32,
+        value: u32,
+        answer: *mut u32,
+        answer_len: usize,
+    ) -> bool;
 }
 
 /// k, rows, kept, four counts and 64 references.
 const STATE_NUMBERS: usize = 3 + VARIABLES + MOST_ROWS;
 
-/// The refusal's number or the verdict's, place or yes, kept, room, and the visits of the complements and of the sweep.
-const ANSWER_NUMBERS: usize = 6;
+/// The refusal's number or the verdict's, place or yes, kept, room, the visits of the complements and of the sweep, and the values of
+/// each variable that were newly numbered.
+const ANSWER_NUMBERS: usize = 10;
+
+/// What a lookup tells, and the number.
+const FOUND_NUMBERS: usize = 2;
 
 /// The numbers of a fact: predicate, count and three values.
 const FACT_NUMBERS: usize = 5;
@@ -130,8 +145,8 @@ impl Monitor for Linked {
         };
         assert!(called, "the state and the answer have the right lengths");
         let answer = match answer {
-            [0, 0, 0, 0, 0, 0] => Answer::Started,
-            [number, place, 0, 0, 0, 0] => Answer::Refused { number, place },
+            [0, 0, 0, 0, 0, 0, 0, 0, 0, 0] => Answer::Started,
+            [number, place, 0, 0, 0, 0, 0, 0, 0, 0] => Answer::Refused { number, place },
             other => panic!("start answers {other:?}"),
         };
         (unpacked(&state), answer)
@@ -169,19 +184,44 @@ impl Monitor for Linked {
         };
         assert!(called, "the state and the answer have the right lengths");
         let answer = match answer {
-            [0, yes @ 0..=1, kept, room, complements, swept] => {
+            [0, yes @ 0..=1, kept, room, complements, swept, numbered @ ..] => {
                 let seen = visits(rows, nodes, &unpacked(&state).refs, kept);
                 assert_eq!((complements, swept), seen, "the visits of an event");
                 Answer::Verdict {
                     yes: yes == 1,
                     kept,
                     room,
+                    numbered,
                 }
             }
-            [number, place, 0, 0, 0, 0] => Answer::Refused { number, place },
+            [number, place, 0, 0, 0, 0, 0, 0, 0, 0] => Answer::Refused { number, place },
             other => panic!("event answers {other:?}"),
         };
         (unpacked(&state), answer)
+    }
+
+    fn lookup(&mut self, state: &State, values: &[u32], variable: u32, value: u32) -> Found {
+        let (state, mut answer) = (packed(state), [u32::MAX; FOUND_NUMBERS]);
+        let called = unsafe {
+            moheguzari_lookup(
+                values.as_ptr(),
+                values.len(),
+                state.as_ptr(),
+                state.len(),
+                variable,
+                value,
+                answer.as_mut_ptr(),
+                answer.len(),
+            )
+        };
+        assert!(called, "the state and the answer have the right lengths");
+        match answer {
+            [0, number] => Found::Has(number),
+            [1, 0] => Found::OneLeft,
+            [2, 0] => Found::NoneLeft,
+            [3, 0] => Found::Misfit,
+            other => panic!("lookup answers {other:?}"),
+        }
     }
 }
 
@@ -245,13 +285,46 @@ mod tests {
 
     #[test]
     fn a_state_or_an_answer_of_another_length_is_turned_down() {
-        for (state_len, answer_len) in [(0, 6), (70, 6), (72, 6), (71, 0), (71, 5), (71, 7)] {
+        for (state_len, answer_len) in [
+            (0, 10),
+            (70, 10),
+            (72, 10),
+            (71, 0),
+            (71, 6),
+            (71, 9),
+            (71, 11),
+        ] {
             assert_eq!(start_with(state_len, answer_len), (false, false));
             for facts_len in [0, 5, 45] {
                 assert_eq!(event_with(state_len, answer_len, facts_len), (false, false));
             }
         }
-        assert_eq!(start_with(71, 6), (true, true));
+        assert_eq!(start_with(71, 10), (true, true));
+    }
+
+    #[test]
+    fn a_lookup_of_another_length_is_turned_down() {
+        let looked_up = |state_len: usize, answer_len: usize| {
+            let (values, state) = ([LEFT; 4], vec![0; state_len]);
+            let mut answer = vec![LEFT; answer_len];
+            let called = unsafe {
+                moheguzari_lookup(
+                    values.as_ptr(),
+                    values.len(),
+                    state.as_ptr(),
+                    state.len(),
+                    0,
+                    LEFT,
+                    answer.as_mut_ptr(),
+                    answer.len(),
+                )
+            };
+            (called, answer.iter().any(|&number| number != LEFT))
+        };
+        for (state_len, answer_len) in [(0, 2), (70, 2), (72, 2), (71, 0), (71, 1), (71, 3)] {
+            assert_eq!(looked_up(state_len, answer_len), (false, false));
+        }
+        assert_eq!(looked_up(71, 2), (true, true));
     }
 
     #[test]
@@ -259,7 +332,7 @@ mod tests {
         for facts_len in (0..=60).chain([5001, 5000]) {
             let called = facts_len % FACT_NUMBERS == 0;
             assert_eq!(
-                event_with(71, 6, facts_len),
+                event_with(71, 10, facts_len),
                 (called, called),
                 "{facts_len}"
             );

@@ -1,14 +1,14 @@
 //! What a monitor is, over slices of any numbers, and the one that works on truth tables.
 
-use crate::event::{Answer, Event, State};
+use crate::event::{Answer, Event, Found, State};
 use crate::layout::{lay_out, shown};
-use crate::numbering::Lists;
+use crate::numbering::{numbers, Lists};
 use crate::refusals::{at_event, at_start, in_state, work_used, Refusal};
 use crate::room::room;
-use crate::rows::Rule;
+use crate::rows::{Rule, VARIABLES};
 use crate::table::{met_by_exists, step, turns, Shape, Table};
 
-/// The two calls. A compared monitor stands behind these.
+/// The three calls. A compared monitor stands behind these.
 pub trait Monitor {
     fn start(
         &mut self,
@@ -27,6 +27,29 @@ pub trait Monitor {
         work: &mut [u32],
         event: &Event,
     ) -> (State, Answer);
+
+    /// Whether a variable of any state has a number for a value, and whether one is left where it has none.
+    fn lookup(&mut self, state: &State, values: &[u32], variable: u32, value: u32) -> Found {
+        look_up(state, values, variable, value)
+    }
+}
+
+/// The lookup, by the value's place among those that have numbers.
+pub fn look_up(state: &State, values: &[u32], variable: u32, value: u32) -> Found {
+    if !(1..=10).contains(&state.k) || variable as usize >= VARIABLES {
+        return Found::Misfit;
+    }
+    let (most, variable) = (numbers(state.k), variable as usize);
+    let count = state.counts[variable] as usize;
+    if values.len() != VARIABLES * most || count > most {
+        return Found::Misfit;
+    }
+    let listed = values.chunks(most).nth(variable).expect("four parts");
+    match (0..count).find(|&number| listed[number] == value) {
+        Some(number) => Found::Has(number as u32),
+        None if count == most => Found::NoneLeft,
+        None => Found::OneLeft,
+    }
 }
 
 /// An event that refusals 1 to 6 let through.
@@ -155,6 +178,11 @@ fn judged(asked: Asked, after: &[Table], room: u32) -> Judged {
         yes: references[references.len() - 1] == 1,
         kept: state.kept,
         room,
+        numbered: std::array::from_fn(|variable| {
+            let before = &asked.lists_before.0[variable];
+            let after = asked.lists_after.0[variable].iter();
+            after.filter(|value| !before.contains(value)).count() as u32
+        }),
     };
     Judged {
         state,

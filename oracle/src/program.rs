@@ -102,7 +102,9 @@ impl Run {
 
 fn write_answer(output: &mut impl Write, ordinal: u64, answer: Answer) -> Result<()> {
     match answer {
-        Answer::Verdict { yes, kept, room } => {
+        Answer::Verdict {
+            yes, kept, room, ..
+        } => {
             let verdict = if yes { "yes" } else { "no" };
             writeln!(output, "{ordinal} {verdict} {kept} {room}")
         }

@@ -133,8 +133,8 @@ fn same_but_renamed(one: &Left, two: &Left, renaming: &Renaming) -> Result<(), S
     }
 }
 
-/// While the same events are taken in both orders, the verdicts are the same, and so are the kept sets, read as values. Refusals 5
-/// and 6 do not depend on the order either, and 7 does.
+/// While the same events are taken in both orders, the verdicts are the same, and so are the kept sets, read as values, and how many
+/// values are newly numbered. Refusals 5 and 6 do not depend on the order either, and 7 does.
 fn same_in_any_order(
     rule: &Rule,
     one: &[Left],
@@ -145,9 +145,23 @@ fn same_in_any_order(
         facts::reordered(coverage, one.answer, other.answer);
         let told = |what: &str| Err(format!("another order, {what}: {one:?} and {other:?}"));
         match (one.answer, other.answer) {
-            (Answer::Verdict { yes: here, .. }, Answer::Verdict { yes: there, .. }) => {
+            (
+                Answer::Verdict {
+                    yes: here,
+                    numbered: counts,
+                    ..
+                },
+                Answer::Verdict {
+                    yes: there,
+                    numbered: others,
+                    ..
+                },
+            ) => {
                 if here != there {
                     return told("another verdict");
+                }
+                if counts != others {
+                    return told("other counts of newly numbered values");
                 }
                 if let Some(what) = other_set(rule, one, other) {
                     return told(&what);

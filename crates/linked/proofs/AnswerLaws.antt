@@ -4,13 +4,13 @@ use mathlib.Core.Path.{_≡_, refl, ap}
 use mathlib.Core.Bool.{Bool, true, false}
 use mathlib.Core.List.{List}
 use native.Mathlib.Omega.{arith}
-use lib.ListN.{getD}
+use lib.ListN.{getD, replicate}
 use Rattle.meaning.specs.declared.Answer.{Answer}
 use Rattle.meaning.specs.declared.Answer.the-variants.{Started, Verdict, Refused}
 use Rattle.meaning.specs.declared.Event.{Event}
 use Rattle.meaning.specs.Rows.{Found, right, fault}
 use Rattle.meaning.specs.Outcome.{Decision, taken, refused, Machine, judgeStart, judgeEvent, settleStart, decideStart, startOutcome, verdictOf, settleEvent, decideEvent, eventOutcome}
-use Rattle.linked.specs.Packing.{bit, packedAnswer}
+use Rattle.linked.specs.Packing.{bit, firstSix, packedAnswer}
 
 -- a decision that refuses does so with a number other than 0
 data Told : Decision → Type 0 where
@@ -68,32 +68,32 @@ bits-tell true true e = refl
 bits-tell false true e = absurd (omega arith)
 bits-tell true false e = absurd (omega arith)
 
-starts-tell : (a b : Answer) → OfStart a → OfStart b → (c v c′ v′ : ℕ) → packedAnswer a c v ≡ packedAnswer b c′ v′ → a ≡ b
-unfolding packedAnswer
-starts-tell Started Started started started c v c′ v′ e = refl
-starts-tell Started (Refused n p) started (start-refused h) c v c′ v′ e = absurd (omega (arith, ap (λ (l : List ℕ). getD l 0 0) e))
-starts-tell (Refused n p) Started (start-refused h) started c v c′ v′ e = absurd (omega (arith, ap (λ (l : List ℕ). getD l 0 0) e))
-starts-tell (Refused n p) (Refused m q) (start-refused h) (start-refused g) c v c′ v′ e = cc e
+starts-tell : (a b : Answer) → OfStart a → OfStart b → (c v c′ v′ : ℕ) (ns ns′ : List ℕ) → packedAnswer a c v ns ≡ packedAnswer b c′ v′ ns′ → a ≡ b
+unfolding packedAnswer firstSix
+starts-tell Started Started started started c v c′ v′ ns ns′ e = refl
+starts-tell Started (Refused n p) started (start-refused h) c v c′ v′ ns ns′ e = absurd (omega (arith, ap (λ (l : List ℕ). getD l 0 0) e))
+starts-tell (Refused n p) Started (start-refused h) started c v c′ v′ ns ns′ e = absurd (omega (arith, ap (λ (l : List ℕ). getD l 0 0) e))
+starts-tell (Refused n p) (Refused m q) (start-refused h) (start-refused g) c v c′ v′ ns ns′ e = cc e
 
-events-tell : (a b : Answer) → OfEvent a → OfEvent b → (c v c′ v′ : ℕ) → packedAnswer a c v ≡ packedAnswer b c′ v′ → a ≡ b
-unfolding packedAnswer
-events-tell (Verdict y j r) (Verdict z k s) verdict verdict c v c′ v′ e =
+events-tell : (a b : Answer) → OfEvent a → OfEvent b → (c v c′ v′ : ℕ) (ns ns′ : List ℕ) → packedAnswer a c v ns ≡ packedAnswer b c′ v′ ns′ → a ≡ b
+unfolding packedAnswer firstSix
+events-tell (Verdict y j r) (Verdict z k s) verdict verdict c v c′ v′ ns ns′ e =
     let p : y ≡ z = bits-tell y z (ap (λ (l : List ℕ). getD l 1 0) e) in
     let q : j ≡ k = ap (λ (l : List ℕ). getD l 2 0) e in
     let t : r ≡ s = ap (λ (l : List ℕ). getD l 3 0) e in
     cc
-events-tell (Verdict y j r) (Refused n p) verdict (event-refused h) c v c′ v′ e = absurd (omega (arith, ap (λ (l : List ℕ). getD l 0 0) e))
-events-tell (Refused n p) (Verdict z k s) (event-refused h) verdict c v c′ v′ e = absurd (omega (arith, ap (λ (l : List ℕ). getD l 0 0) e))
-events-tell (Refused n p) (Refused m q) (event-refused h) (event-refused g) c v c′ v′ e = cc e
+events-tell (Verdict y j r) (Refused n p) verdict (event-refused h) c v c′ v′ ns ns′ e = absurd (omega (arith, ap (λ (l : List ℕ). getD l 0 0) e))
+events-tell (Refused n p) (Verdict z k s) (event-refused h) verdict c v c′ v′ ns ns′ e = absurd (omega (arith, ap (λ (l : List ℕ). getD l 0 0) e))
+events-tell (Refused n p) (Refused m q) (event-refused h) (event-refused g) c v c′ v′ ns ns′ e = cc e
 
 -- two starts whose answers are written alike answered alike
 pub one-start-answer : (k j : ℕ) (rows nodes values rows′ nodes′ values′ : List ℕ)
-    → packedAnswer (startOutcome k rows nodes values .answer) 0 0 ≡ packedAnswer (startOutcome j rows′ nodes′ values′ .answer) 0 0
+    → packedAnswer (startOutcome k rows nodes values .answer) 0 0 (replicate 4 0) ≡ packedAnswer (startOutcome j rows′ nodes′ values′ .answer) 0 0 (replicate 4 0)
     → startOutcome k rows nodes values .answer ≡ startOutcome j rows′ nodes′ values′ .answer
-one-start-answer k j rows nodes values rows′ nodes′ values′ e = starts-tell _ _ (of-start k rows nodes values) (of-start j rows′ nodes′ values′) 0 0 0 0 e
+one-start-answer k j rows nodes values rows′ nodes′ values′ e = starts-tell _ _ (of-start k rows nodes values) (of-start j rows′ nodes′ values′) 0 0 0 0 (replicate 4 0) (replicate 4 0) e
 
 -- two events whose answers are written alike were answered alike
-pub one-event-answer : (rows rows′ : List ℕ) (m m′ : Machine) (e e′ : Event) (c v c′ v′ : ℕ)
-    → packedAnswer (eventOutcome rows m e .answer) c v ≡ packedAnswer (eventOutcome rows′ m′ e′ .answer) c′ v′
+pub one-event-answer : (rows rows′ : List ℕ) (m m′ : Machine) (e e′ : Event) (c v c′ v′ : ℕ) (ns ns′ : List ℕ)
+    → packedAnswer (eventOutcome rows m e .answer) c v ns ≡ packedAnswer (eventOutcome rows′ m′ e′ .answer) c′ v′ ns′
     → eventOutcome rows m e .answer ≡ eventOutcome rows′ m′ e′ .answer
-one-event-answer rows rows′ m m′ e e′ c v c′ v′ h = events-tell _ _ (of-event rows m e) (of-event rows′ m′ e′) c v c′ v′ h
+one-event-answer rows rows′ m m′ e e′ c v c′ v′ ns ns′ h = events-tell _ _ (of-event rows m e) (of-event rows′ m′ e′) c v c′ v′ ns ns′ h

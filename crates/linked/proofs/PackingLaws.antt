@@ -1,17 +1,17 @@
--- Laws of how a state and an answer are laid out as numbers. Assumes nothing.
+-- Laws of how a state, an answer and what looking a value up tells are laid out as numbers. Assumes nothing.
 use Prim.Native.Nat.{ℕ, _+_, _≤_}
 use mathlib.Core.Path.{_≡_, refl, ap, sym, _∙_, ap₂}
 use mathlib.Core.Bool.{Bool}
 use mathlib.Core.List.{List, [], _∷_, _++_, append-nil}
 use native.Mathlib.Omega.{arith}
-use lib.ListN.{length, getD, take, drop, set, replicate, length-drop, take-append-drop, drop-of-length-le}
+use lib.ListN.{length, getD, take, drop, set, replicate, length-append, length-drop, take-append-drop, drop-of-length-le}
 use lib.Seq.{length-take-le, take-all, take-at, drop-at}
 use Rattle.meaning.specs.declared.State.{State}
 use Rattle.meaning.specs.declared.Answer.{Answer}
-use Rattle.meaning.specs.declared.Answer.the-variants.{Verdict}
+use Rattle.meaning.specs.declared.Answer.the-variants.{Started, Verdict, Refused}
 use Rattle.monitor.specs.declared.Figures.{Figures}
 use Rattle.monitor.specs.Said.{whole}
-use Rattle.linked.specs.Packing.{packedState, figuresOf, referencesOf, unpackedState, bit, packedAnswer}
+use Rattle.linked.specs.Packing.{packedState, figuresOf, referencesOf, unpackedState, bit, firstSix, packedAnswer}
 
 -- six numbers written one after the other
 pub six-are : (xs : List ℕ) (a b c d e f : ℕ) → length xs ≡ 6 → set (set (set (set (set (set xs 0 a) 1 b) 2 c) 3 d) 4 e) 5 f ≡ a ∷ b ∷ c ∷ d ∷ e ∷ f ∷ []
@@ -26,13 +26,37 @@ six-are (x ∷ y ∷ z ∷ w ∷ v ∷ u ∷ t ∷ xs) a b c d e f h = absurd (o
 
 -- a verdict written as six numbers
 pub verdict-put : (xs : List ℕ) (a : Answer) (y : Bool) (b kept room complements swept : ℕ) → xs ≡ 0 ∷ b ∷ kept ∷ room ∷ complements ∷ swept ∷ [] → b ≡ bit y → a ≡ Verdict y kept room
-    → xs ≡ packedAnswer a complements swept
-unfolding packedAnswer
+    → xs ≡ firstSix a complements swept
+unfolding firstSix
 verdict-put xs a y b kept room complements swept p q e = p ∙ rw (q, e) refl
 
 -- nothing of d is left where a list of its length is written over it
 pub all-over : (d s : List ℕ) (n : ℕ) → length d ≤ n → s ++ drop n d ≡ s
 all-over d s n h = rw (drop-of-length-le d h, append-nil) refl
+
+-- an answer's first six numbers are six
+six-length : (a : Answer) (complements swept : ℕ) → length (firstSix a complements swept) ≡ 6
+unfolding firstSix
+six-length Started complements swept = refl
+six-length (Verdict y kept room) complements swept = refl
+six-length (Refused n p) complements swept = refl
+
+-- an answer written over 10 numbers: six, and four behind them
+pub answer-written : (a : Answer) (complements swept : ℕ) (ns xs first ys zs : List ℕ) → length xs ≡ 10 → length ns ≡ 4 → first ≡ firstSix a complements swept
+    → ys ≡ first ++ drop 6 xs → zs ≡ take 6 ys ++ ns ++ drop (6 + length ns) ys → zs ≡ packedAnswer a complements swept ns
+unfolding packedAnswer
+answer-written a complements swept ns xs first ys zs h n e p q =
+    let l : length first ≡ 6 = ap length e ∙ six-length a complements swept in
+    let t : take 6 ys ≡ first = ap (take 6) p ∙ take-at first (drop 6 xs) 6 l in
+    let k : length ys ≤ 6 + length ns = let z = length-append first (drop 6 xs) in let w = length-drop 6 xs in let v = ap length p in omega arith in
+    q ∙ (all-over ys (take 6 ys ++ ns) (6 + length ns) k ∙ rw (t, e) refl)
+
+-- two numbers written one after the other
+pub two-are : (xs : List ℕ) (a b : ℕ) → length xs ≡ 2 → set (set xs 0 a) 1 b ≡ a ∷ b ∷ []
+two-are [] a b h = absurd (omega arith)
+two-are (x ∷ []) a b h = absurd (omega arith)
+two-are (x ∷ y ∷ []) a b h = refl
+two-are (x ∷ y ∷ z ∷ xs) a b h = absurd (omega arith)
 
 -- counts written behind three numbers, and references behind those, over 68 numbers
 behind-three : (a b c : ℕ) (xs cs rs ys zs : List ℕ) → length xs ≡ 68 → length cs ≡ 4 → length rs ≡ 64

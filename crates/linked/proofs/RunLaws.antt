@@ -67,7 +67,7 @@ unfolding packedState
 packed-length s hc hr = simp length-append (omega arith)
 
 -- what a start leaves is what an event then reads
-pub start-leaves : (k : ℕ) (rows nodes values work state answer : List ℕ) (r : Bool) (ns vs ss as′ : List ℕ) → length state ≡ 71 → length answer ≡ 6
+pub start-leaves : (k : ℕ) (rows nodes values work state answer : List ℕ) (r : Bool) (ns vs ss as′ : List ℕ) → length state ≡ 71 → length answer ≡ 10
     → LinkedStart k rows nodes values state answer r ns vs ss as′
     → (machineOf ns vs work ss ≡ outcome.machineOf (startOutcome k rows nodes values) work) × (length ss ≡ 71)
 unfolding startLeft calls.settleStart machineOf outcome.machineOf
@@ -82,7 +82,7 @@ start-leaves k rows nodes values work state answer r ns vs ss as′ h g o =
     (λ i. record { state = q i; nodes = n i; values = v i; work = work }, ap length p ∙ packed-length x (a .0) (a .1))
 
 -- what an event leaves is what the next one reads
-pub event-leaves : (rows nodes values work facts state answer : List ℕ) (r : Bool) (ns vs ws ss as′ : List ℕ) → length facts % 5 ≡ 0 → length state ≡ 71 → length answer ≡ 6
+pub event-leaves : (rows nodes values work facts state answer : List ℕ) (r : Bool) (ns vs ws ss as′ : List ℕ) → length facts % 5 ≡ 0 → length state ≡ 71 → length answer ≡ 10
     → LinkedEvent rows nodes values work facts state answer r ns vs ws ss as′
     → (machineOf ns vs ws ss ≡ eventOutcome rows (machineOf nodes values work state) (eventOf facts) .left) × (length ss ≡ 71)
 unfolding eventLeft calls.settleEvent machineOf
@@ -100,7 +100,7 @@ event-leaves rows nodes values work facts state answer r ns vs ws ss as′ d h g
     (λ i. record { state = q i; nodes = n i; values = v i; work = w i }, ap length p ∙ packed-length (x .state) (a .0) (a .1))
 
 -- a start that is taken begins a run of the monitor
-pub start-fresh : (k : ℕ) (rows nodes values work state answer : List ℕ) (r : Bool) (ns vs ss as′ : List ℕ) → length state ≡ 71 → length answer ≡ 6
+pub start-fresh : (k : ℕ) (rows nodes values work state answer : List ℕ) (r : Bool) (ns vs ss as′ : List ℕ) → length state ≡ 71 → length answer ≡ 10
     → LinkedStart k rows nodes values state answer r ns vs ss as′ → startOutcome k rows nodes values .answer ≡ Started → Fresh k rows nodes values (machineOf ns vs work ss)
 unfolding outcome.machineOf
 start-fresh k rows nodes values work state answer r ns vs ss as′ h g o t =
@@ -113,7 +113,7 @@ start-fresh k rows nodes values work state answer r ns vs ss as′ h g o t =
     }
 
 -- an event is a call of the monitor
-pub event-call : (rows nodes values work facts state answer : List ℕ) (r : Bool) (ns vs ws ss as′ : List ℕ) → length facts % 5 ≡ 0 → length state ≡ 71 → length answer ≡ 6
+pub event-call : (rows nodes values work facts state answer : List ℕ) (r : Bool) (ns vs ws ss as′ : List ℕ) → length facts % 5 ≡ 0 → length state ≡ 71 → length answer ≡ 10
     → LinkedEvent rows nodes values work facts state answer r ns vs ws ss as′
     → Call rows (machineOf nodes values work state) (eventOf facts) (eventOutcome rows (machineOf nodes values work state) (eventOf facts) .answer) (machineOf ns vs ws ss)
 event-call rows nodes values work facts state answer r ns vs ws ss as′ d h g o =

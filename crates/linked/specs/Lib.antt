@@ -1,4 +1,4 @@
--- What the two calls promise to those who link them.
+-- What the three calls promise to those who link them.
 pub mod Packing
 pub mod Happening
 pub mod Calls

@@ -1,9 +1,11 @@
--- How a state and an answer are laid out as numbers. Assumes nothing: these are definitions.
+-- How a state, an answer and what looking a value up tells are laid out as numbers. Assumes nothing: these are definitions.
 use Prim.Native.Nat.{ℕ}
 use mathlib.Core.Bool.{Bool, true, false}
 use mathlib.Core.List.{List, [], _∷_, _++_}
 use lib.ListN.{getD, take, drop}
 use Rattle.meaning.specs.declared.State.{State}
+use Rattle.numbers.specs.declared.Lookup.{Lookup}
+use Rattle.numbers.specs.declared.Lookup.the-variants.{Has, OneLeft, NoneLeft, Misfit}
 use Rattle.monitor.specs.declared.Figures.{Figures}
 use Rattle.monitor.specs.Said.{whole}
 use Rattle.meaning.specs.declared.Answer.{Answer}
@@ -29,9 +31,21 @@ unfoldable pub bit : Bool → ℕ
 bit true = 1
 bit false = 0
 
--- An answer is 6 numbers: the refusal's number and place, then 0 and 0; or 0, and of a verdict yes or no, the kept nodes and the room;
--- and last the visits of the complements and of the sweep.
-unfoldable pub packedAnswer : Answer → ℕ → ℕ → List ℕ
-packedAnswer Started complements swept = 0 ∷ 0 ∷ 0 ∷ 0 ∷ complements ∷ swept ∷ []
-packedAnswer (Verdict y kept room) complements swept = 0 ∷ bit y ∷ kept ∷ room ∷ complements ∷ swept ∷ []
-packedAnswer (Refused n p) complements swept = n ∷ p ∷ 0 ∷ 0 ∷ complements ∷ swept ∷ []
+-- The first 6 numbers of an answer: the refusal's number and place, then 0 and 0; or 0, and of a verdict yes or no, the kept nodes and
+-- the room; and then the visits of the complements and of the sweep.
+unfoldable pub firstSix : Answer → ℕ → ℕ → List ℕ
+firstSix Started complements swept = 0 ∷ 0 ∷ 0 ∷ 0 ∷ complements ∷ swept ∷ []
+firstSix (Verdict y kept room) complements swept = 0 ∷ bit y ∷ kept ∷ room ∷ complements ∷ swept ∷ []
+firstSix (Refused n p) complements swept = n ∷ p ∷ 0 ∷ 0 ∷ complements ∷ swept ∷ []
+
+-- An answer is 10 numbers: behind those it has, for each variable, how many values were newly numbered.
+unfoldable pub packedAnswer : Answer → ℕ → ℕ → List ℕ → List ℕ
+packedAnswer a complements swept numbered = firstSix a complements swept ++ numbered
+
+-- What looking a value up tells is 2 numbers: 0 and the value's number; 1 and 0, where it has none and one is left; 2 and 0, where none
+-- is left; 3 and 0, where there is nothing to look in.
+unfoldable pub packedLookup : Lookup → List ℕ
+packedLookup (Has n) = 0 ∷ n .0 ∷ []
+packedLookup OneLeft = 1 ∷ 0 ∷ []
+packedLookup NoneLeft = 2 ∷ 0 ∷ []
+packedLookup Misfit = 3 ∷ 0 ∷ []

@@ -1,12 +1,13 @@
-// The monitor for programs in C and Rust that link it: the two calls, with the state as 71 numbers, the answer as 6 and a fact as 5.
-// Both calls are total. How numbers are laid out is in specs/Packing.antt, what each call gives back and leaves in specs/Calls.antt.
+// The monitor for programs in C and Rust that link it: start, event and lookup, with the state as 71 numbers, the answer of the first
+// two as 10 and that of the third as 2, and a fact as 5. All calls are total. How numbers are laid out is in specs/Packing.antt, what each call gives back and leaves in specs/Calls.antt.
 mod happening;
 mod packing;
 
+use meaning::Value;
 use monitor::Figures;
-ghost use Rattle.linked.specs.Calls.{LinkedStart, LinkedEvent};
+ghost use Rattle.linked.specs.Calls.{LinkedStart, LinkedEvent, LinkedLookup};
 
-// Start. False, with nothing written, where the state has not 71 numbers or the answer not 6.
+// Start. False, with nothing written, where the state has not 71 numbers or the answer not 10.
 #[no_mangle]
 pub extern "C" fn moheguzari_start(
     k: u32,
@@ -21,7 +22,7 @@ pub extern "C" fn moheguzari_start(
     if state.len() != 71 {
         return false;
     }
-    if answer.len() != 6 {
+    if answer.len() != 10 {
         return false;
     }
     let turn = monitor::start(k, rows, nodes, values);
@@ -36,12 +37,12 @@ pub extern "C" fn moheguzari_start(
         counts,
     };
     packing::pack(figures, refs, state);
-    packing::put(told, 0, 0, answer);
+    packing::put(told, 0, 0, [0; 4], answer);
     true
 }
 
 // Event: its facts, five numbers each: a predicate, its count of values, and three values, of which those past the count are
-// ignored. False, with nothing written, where the facts are no fives, the state has not 71 numbers or the answer not 6.
+// ignored. False, with nothing written, where the facts are no fives, the state has not 71 numbers or the answer not 10.
 #[no_mangle]
 pub extern "C" fn moheguzari_event(
     rows: &[u32],
@@ -60,7 +61,7 @@ pub extern "C" fn moheguzari_event(
     if state.len() != 71 {
         return false;
     }
-    if answer.len() != 6 {
+    if answer.len() != 10 {
         return false;
     }
     let before = packing::figures(state);
@@ -70,6 +71,32 @@ pub extern "C" fn moheguzari_event(
     let after = said.figures;
     let told = said.answer;
     packing::pack(after, refs, state);
-    packing::put(told, said.complements, said.swept, answer);
+    let numbered = said.numbered;
+    packing::put(told, said.complements, said.swept, numbered, answer);
+    true
+}
+
+// Lookup: "Is this lot new to the rule?" Whether a variable of the state has a number for a value, and whether one is left where it has
+// none. False, with nothing written, where the state has not 71 numbers or the answer not 2.
+#[no_mangle]
+pub extern "C" fn moheguzari_lookup(
+    values: &[u32],
+    state: &[u32],
+    variable: u32,
+    value: u32,
+    answer: &mut [u32],
+) -> bool
+    ensures { λ r. ⌜ LinkedLookup (now (values .entry)) (now (state .entry)) variable value (now (answer .entry)) r (now (answer .exit)) ⌝ }
+{
+    if state.len() != 71 {
+        return false;
+    }
+    if answer.len() != 2 {
+        return false;
+    }
+    let figures = packing::figures(state);
+    let counts = figures.counts;
+    let found = numbers::look_up(figures.k, counts, values, variable, Value(value));
+    packing::put_found(found, answer);
     true
 }

@@ -1,12 +1,13 @@
-// How a state and an answer are written as numbers, and a state is read back.
+// How a state, an answer and what looking a value up tells are written as numbers, and a state is read back.
 use meaning::Answer;
 use monitor::Figures;
+use numbers::Lookup;
 ghost use mathlib.Core.Path.{_≡_};
 ghost use Prim.Native.Nat.{_+_, _≤_};
 ghost use mathlib.Core.List.{[], _∷_, _++_};
 ghost use lib.ListN.{length, take, drop};
 ghost use Rattle.monitor.specs.Said.{whole};
-ghost use Rattle.linked.specs.Packing.{packedState, figuresOf, referencesOf, bit, packedAnswer};
+ghost use Rattle.linked.specs.Packing.{packedState, figuresOf, referencesOf, bit, firstSix, packedAnswer, packedLookup};
 
 // Writes all of `from` into `to`, from place `at` on.
 fn copy(from: &[u32], to: &mut [u32], at: usize)
@@ -76,10 +77,10 @@ fn six(numbers: &mut [u32], a: u32, b: u32, c: u32, d: u32, e: u32, f: u32)
     numbers[5] = f;
 }
 
-// Writes an answer as 6 numbers, the visits of the complements and of the sweep last.
-pub fn put(answer: Answer, complements: u32, swept: u32, numbers: &mut [u32])
+// Writes the first 6 numbers of an answer, the visits of the complements and of the sweep last.
+fn put_six(answer: Answer, complements: u32, swept: u32, numbers: &mut [u32])
     requires { ⌜ length (now numbers) ≡ 6 ⌝ }
-    ensures { λ _. ⌜ now (numbers .exit) ≡ packedAnswer answer complements swept ⌝ }
+    ensures { λ _. ⌜ now (numbers .exit) ≡ firstSix answer complements swept ⌝ }
 {
     match answer {
         Answer::Started => six(numbers, 0, 0, 0, 0, complements, swept),
@@ -87,5 +88,36 @@ pub fn put(answer: Answer, complements: u32, swept: u32, numbers: &mut [u32])
             six(numbers, 0, bit_of(yes), kept, room, complements, swept)
         }
         Answer::Refused(number, place) => six(numbers, number, place, 0, 0, complements, swept),
+    }
+}
+
+// Writes an answer as 10 numbers, the counts of newly numbered values last.
+pub fn put(answer: Answer, complements: u32, swept: u32, numbered: [u32; 4], numbers: &mut [u32])
+    requires { ⌜ length (now numbers) ≡ 10 ⌝ }
+    ensures { λ _. ⌜ now (numbers .exit) ≡ packedAnswer answer complements swept numbered ⌝ }
+{
+    put_six(answer, complements, swept, &mut numbers[0..6]);
+    copy(&numbered, numbers, 6);
+}
+
+// Writes two numbers.
+fn two(numbers: &mut [u32], a: u32, b: u32)
+    requires { ⌜ length (now numbers) ≡ 2 ⌝ }
+    ensures { λ _. ⌜ now (numbers .exit) ≡ a ∷ b ∷ [] ⌝ }
+{
+    numbers[0] = a;
+    numbers[1] = b;
+}
+
+// Writes what looking a value up tells as 2 numbers.
+pub fn put_found(found: Lookup, numbers: &mut [u32])
+    requires { ⌜ length (now numbers) ≡ 2 ⌝ }
+    ensures { λ _. ⌜ now (numbers .exit) ≡ packedLookup found ⌝ }
+{
+    match found {
+        Lookup::Has(n) => two(numbers, 0, n.0),
+        Lookup::OneLeft => two(numbers, 1, 0),
+        Lookup::NoneLeft => two(numbers, 2, 0),
+        Lookup::Misfit => two(numbers, 3, 0),
     }
 }

@@ -9,3 +9,4 @@ pub mod WorkLaws
 pub mod SaidLaws
 pub mod EventLaws
 pub mod WorkedLaws
+pub mod NumberedLaws

@@ -54,10 +54,10 @@ formed-turn Good f refs n p t e = kept-turn f refs refs n p t e refl
 formed-turn Bad f refs n p t e = kept-turn f refs refs 4 0 t e refl
 formed-turn Unfit f refs n p t e = kept-turn f refs refs 4 0 t e refl
 
-pub taken-turn : (f : Figures) (counts refs refs′ : List ℕ) (kept room : ℕ) (y : Bool) (complements swept : ℕ) (t : Said) → t ≡ takenSaid f counts kept room y complements swept
+pub taken-turn : (f : Figures) (counts refs refs′ : List ℕ) (kept room : ℕ) (y : Bool) (complements swept : ℕ) (numbered : List ℕ) (t : Said) → t ≡ takenSaid f counts kept room y complements swept numbered
     → turnOf t refs′ ≡ takenTurn (whole f refs) counts refs′ kept room y
 unfolding takenTurn takenSaid
-taken-turn f counts refs refs′ kept room y complements swept t e = ap₂ turnOf e refl
+taken-turn f counts refs refs′ kept room y complements swept numbered t e = ap₂ turnOf e refl
 
 -- a refused event tells no visits
 pub kept-looks : (rows : List ℕ) (m : Machine) (e : Event) (f : Figures) (n p : ℕ) (t : Said) → t ≡ refusedSaid f n p → Looks rows m e (t .answer) (t .complements) (t .swept)
@@ -71,11 +71,11 @@ formed-looks rows m e Bad f n p t q = kept-looks rows m e f 4 0 t q
 formed-looks rows m e Unfit f n p t q = kept-looks rows m e f 4 0 t q
 
 -- one that is taken tells those of its plan
-pub taken-looks : (rows : List ℕ) (m : Machine) (e : Event) (f : Figures) (counts : List ℕ) (kept room : ℕ) (y : Bool) (complements swept : ℕ) (t : Said)
-    → t ≡ takenSaid f counts kept room y complements swept
+pub taken-looks : (rows : List ℕ) (m : Machine) (e : Event) (f : Figures) (counts : List ℕ) (kept room : ℕ) (y : Bool) (complements swept : ℕ) (numbered : List ℕ) (t : Said)
+    → t ≡ takenSaid f counts kept room y complements swept numbered
     → Visited (m .state .k) (length (ruleOf rows)) (eventPlan rows m e) (m .state .refs) (m .state .kept) (m .nodes) kept complements swept → Looks rows m e (t .answer) (t .complements) (t .swept)
 unfolding takenSaid
-taken-looks rows m e f counts kept room y complements swept t q v = rw q (record { tells = v })
+taken-looks rows m e f counts kept room y complements swept numbered t q v = rw q (record { tells = v })
 
 -- the visits do not ask what stands in the work slice
 pub looks-same : (rows : List ℕ) (s : State) (nodes values w w′ : List ℕ) (e : Event) (a : Answer) (complements swept : ℕ) → Looks rows (machine s nodes values w) e a complements swept

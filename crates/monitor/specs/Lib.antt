@@ -3,5 +3,6 @@ pub mod Decisions
 pub mod Calls
 pub mod Said
 pub mod Visits
+pub mod Numbered
 pub mod Events
 pub mod Runs

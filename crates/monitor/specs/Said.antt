@@ -2,6 +2,7 @@
 use Prim.Native.Nat.{ℕ}
 use mathlib.Core.Bool.{Bool}
 use mathlib.Core.List.{List}
+use lib.ListN.{replicate}
 use Rattle.meaning.specs.declared.State.{State}
 use Rattle.meaning.specs.declared.Turn.{Turn}
 use Rattle.meaning.specs.declared.Answer.the-variants.{Refused, Verdict}
@@ -18,13 +19,14 @@ turnOf t refs = record { state = whole (t .figures) refs; answer = t .answer }
 
 -- what is said of a refused event: "A refused event returns the state it got"
 unfoldable pub refusedSaid : Figures → ℕ → ℕ → Said
-refusedSaid f number place = record { figures = f; answer = Refused number place; complements = 0; swept = 0 }
+refusedSaid f number place = record { figures = f; answer = Refused number place; complements = 0; swept = 0; numbered = replicate 4 0 }
 
 -- what is said of an event that is taken
-unfoldable pub takenSaid : Figures → List ℕ → ℕ → ℕ → Bool → ℕ → ℕ → Said
-takenSaid f counts kept room y complements swept = record {
+unfoldable pub takenSaid : Figures → List ℕ → ℕ → ℕ → Bool → ℕ → ℕ → List ℕ → Said
+takenSaid f counts kept room y complements swept numbered = record {
   figures = record { k = f .k; rows = f .rows; kept = kept; counts = counts };
   answer = Verdict y kept room;
   complements = complements;
   swept = swept;
+  numbered = numbered;
 }

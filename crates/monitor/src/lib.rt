@@ -14,6 +14,7 @@ ghost use Rattle.meaning.specs.Outcome.{stateOf};
 ghost use Rattle.monitor.specs.Calls.{refusedTurn, startedTurn, machine, Starts, Happens};
 ghost use Rattle.monitor.specs.Said.{whole, turnOf, refusedSaid};
 ghost use Rattle.monitor.specs.Visits.{Looks};
+ghost use Rattle.monitor.specs.Numbered.{Numbers};
 
 // What is done with a call: it is taken, or refused with a number and a place.
 enum Decision {
@@ -76,12 +77,14 @@ pub struct Figures {
     pub counts: [u32; 4],
 }
 
-// What an event on lent references gives back: the figures after it, the answer, and the visits of its complements and of its sweep.
+// What an event on lent references gives back: the figures after it, the answer, the visits of its complements and of its sweep, and for
+// each variable how many values it newly numbered.
 pub struct Said {
     pub figures: Figures,
     pub answer: Answer,
     pub complements: u32,
     pub swept: u32,
+    pub numbered: [u32; 4],
 }
 
 // What is said of a refused event: the figures are those that it got.
@@ -93,6 +96,7 @@ fn refused(figures: Figures, number: u32, place: u32) -> Said
         answer: Answer::Refused(number, place),
         complements: 0,
         swept: 0,
+        numbered: [0; 4],
     }
 }
 
@@ -110,6 +114,7 @@ pub fn event_on(
     requires { ⌜ (length (figures .counts) ≡ 4) × (length (now refs) ≡ 64) ⌝ }
     ensures { λ t. ⌜ Happens (now (rows .entry)) (machine (whole figures (now (refs .entry))) (now (nodes .entry)) (now (values .entry)) (now (work .entry))) event (turnOf t (now (refs .exit))) (now (nodes .exit)) (now (values .exit)) (now (work .exit)) ⌝ }
     ensures { λ t. ⌜ Looks (now (rows .entry)) (machine (whole figures (now (refs .entry))) (now (nodes .entry)) (now (values .entry)) (now (work .entry))) event (t .answer) (t .complements) (t .swept) ⌝ }
+    ensures { λ t. ⌜ Numbers (now (rows .entry)) (machine (whole figures (now (refs .entry))) (now (nodes .entry)) (now (values .entry)) (now (work .entry))) event (t .answer) (t .numbered) ⌝ }
 {
     let rule = rule::check(rows);
     let checked = rule.checked;

@@ -16,6 +16,7 @@ ghost use Rattle.diagram.specs.Steps.{formedOutcome};
 ghost use Rattle.monitor.specs.Calls.{machine, Happens};
 ghost use Rattle.monitor.specs.Said.{whole, turnOf, takenSaid};
 ghost use Rattle.monitor.specs.Visits.{Looks};
+ghost use Rattle.monitor.specs.Numbered.{Numbers, Grown, growth};
 ghost use Rattle.monitor.specs.Events.{formedSaid, Listed, Asking};
 
 // Refuses an event, unless its diagrams are not well kept: refusal 4 comes first.
@@ -48,6 +49,18 @@ fn refused_formed(
     }
 }
 
+// By how much each count grew.
+fn newly(before: [u32; 4], after: [u32; 4]) -> [u32; 4]
+    requires { ⌜ Grown before after ⌝ }
+    ensures { λ r. ⌜ r ≡ growth before after ⌝ }
+{
+    let a = after[0] - before[0];
+    let b = after[1] - before[1];
+    let c = after[2] - before[2];
+    let d = after[3] - before[3];
+    [a, b, c, d]
+}
+
 // What is said of an event that is taken. The verdict is read off the last row's reference.
 fn taken(
     figures: Figures,
@@ -57,9 +70,10 @@ fn taken(
     room: u32,
     complements: u32,
     swept: u32,
+    numbered: [u32; 4],
 ) -> Said
     requires { ⌜ (0 < figures .rows) × (figures .rows ≤ 64) ⌝ }
-    ensures { λ t. ⌜ t ≡ takenSaid figures counts kept room (eqb (getD (now (refs .entry)) (figures .rows - 1) 0) 1) complements swept ⌝ }
+    ensures { λ t. ⌜ t ≡ takenSaid figures counts kept room (eqb (getD (now (refs .entry)) (figures .rows - 1) 0) 1) complements swept numbered ⌝ }
 {
     let last = (figures.rows - 1) as usize;
     let yes = refs[last] == 1;
@@ -73,6 +87,7 @@ fn taken(
         answer: Answer::Verdict(yes, kept, room),
         complements,
         swept,
+        numbered,
     }
 }
 
@@ -91,6 +106,7 @@ fn work_on(
     requires { ⌜ Asking (now rows) (now free) (machine (whole figures (now refs)) (now nodes) (now values) (now work)) event asked ⌝ }
     ensures { λ t. ⌜ Happens (now (rows .entry)) (machine (whole figures (now (refs .entry))) (now (nodes .entry)) (now (values .entry)) (now (work .entry))) event (turnOf t (now (refs .exit))) (now (nodes .exit)) (now (values .exit)) (now (work .exit)) ⌝ }
     ensures { λ t. ⌜ Looks (now (rows .entry)) (machine (whole figures (now (refs .entry))) (now (nodes .entry)) (now (values .entry)) (now (work .entry))) event (t .answer) (t .complements) (t .swept) ⌝ }
+    ensures { λ t. ⌜ Numbers (now (rows .entry)) (machine (whole figures (now (refs .entry))) (now (nodes .entry)) (now (values .entry)) (now (work .entry))) event (t .answer) (t .numbered) ⌝ }
 {
     let given = asked.given;
     let stepped = stepping::step(
@@ -110,6 +126,7 @@ fn work_on(
             let old = figures.counts;
             lists::write_fresh(figures.k, old, asked, values);
             let counts = asked.counts;
+            let numbered = newly(old, counts);
             taken(
                 figures,
                 counts,
@@ -118,6 +135,7 @@ fn work_on(
                 room,
                 stepped.complements,
                 stepped.swept,
+                numbered,
             )
         }
         Told::Full => refused(figures, 7, 0),
@@ -140,6 +158,7 @@ pub fn judged(
     requires { ⌜ Listed (now rows) (now free) (machine (whole figures (now refs)) (now nodes) (now values) (now work)) ⌝ }
     ensures { λ t. ⌜ Happens (now (rows .entry)) (machine (whole figures (now (refs .entry))) (now (nodes .entry)) (now (values .entry)) (now (work .entry))) event (turnOf t (now (refs .exit))) (now (nodes .exit)) (now (values .exit)) (now (work .exit)) ⌝ }
     ensures { λ t. ⌜ Looks (now (rows .entry)) (machine (whole figures (now (refs .entry))) (now (nodes .entry)) (now (values .entry)) (now (work .entry))) event (t .answer) (t .complements) (t .swept) ⌝ }
+    ensures { λ t. ⌜ Numbers (now (rows .entry)) (machine (whole figures (now (refs .entry))) (now (nodes .entry)) (now (values .entry)) (now (work .entry))) event (t .answer) (t .numbered) ⌝ }
 {
     if !rule::agrees(rows, event) {
         return refused_formed(figures, refs, free, nodes, work, 5, 0);

@@ -3,6 +3,7 @@ pub mod FitLaws
 pub mod MatchingLaws
 pub mod PlaceLaws
 pub mod PartLaws
+pub mod LookLaws
 pub mod TallyLaws
 pub mod WalkLaws
 pub mod SheetLaws

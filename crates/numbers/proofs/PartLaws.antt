@@ -25,11 +25,7 @@ part-size m before values p v hv =
 
 -- what was found of y in the part of v, and then among the fresh values
 module _ (m : ℕ) (before values counts fresh : List ℕ) (v y old : ℕ) (p : Parted m before values) (hv : v < 4)
-    (e : old ≡ numberIn (take (v * m + getD before v 0 - v * m) (drop (v * m) values)) y) where
-  old-is : old ≡ numberIn (partOf m before values v) y
-  unfolding partOf
-  old-is = let z : v * m + getD before v 0 - v * m ≡ getD before v 0 = omega arith in rw z at e
-
+    (old-is : old ≡ numberIn (partOf m before values v) y) where
   pub known-old : (old ≡ 4294967295 → ⊥) → old ≡ numberIn (withFresh before counts fresh (partOf m before values) v) y
   unfolding withFresh
   known-old h =

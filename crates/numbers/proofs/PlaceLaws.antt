@@ -16,7 +16,7 @@ use Rattle.meaning.proofs.ValuesLaws.{Grows, Placed, here, nowhere, placed}
 use Rattle.numbers.specs.Asking.{numberIn}
 
 -- the first place of a value is its place
-place-first : (xs : List ℕ) (y i : ℕ) → i < length xs → getD xs i 0 ≡ y → ((k : ℕ) → k < i → getD xs k 0 ≡ y → ⊥) → place xs y ≡ i
+pub place-first : (xs : List ℕ) (y i : ℕ) → i < length xs → getD xs i 0 ≡ y → ((k : ℕ) → k < i → getD xs k 0 ≡ y → ⊥) → place xs y ≡ i
 unfolding place
 place-first [] y i h e none = absurd (omega arith)
 place-first (x ∷ xs) y zero h e none = rw (eq-eqb x y e)

@@ -1,6 +1,9 @@
 // What an event asks: fact by fact, the walk over the rows, and the numbers that it gives out. Nothing is written to the value slice here.
 // What each function promises is in specs/Asking.antt.
 use super::Asked;
+use super::Lookup;
+use super::looking::look_in;
+use super::looking::look_part;
 use super::matching::matches;
 use super::most;
 use super::value_at;
@@ -16,6 +19,7 @@ ghost use Rattle.meaning.specs.Numbering;
 ghost use Rattle.meaning.specs.Numbering.{askArguments, askRows};
 ghost use Rattle.meaning.specs.Outcome.{factOf};
 ghost use Rattle.numbers.specs.Matching.{Sized, argumentsOf};
+ghost use Rattle.numbers.specs.Looking.{numberTold};
 ghost use Rattle.numbers.specs.Asking.{numberIn, Parted, partOf, withFresh, bare, sheet, nothingGiven, Steady, Carried, Pair, askOne, AtPlace, AtPlaces, Asking, AskedBy, NextMatch, Put, Askable, Asks};
 
 // Where a value has no number.
@@ -28,19 +32,16 @@ struct Noted {
     numbers: [Number; 12],
 }
 
-// The place of y in a list, or `NONE`.
-fn find(list: &[u32], y: Value) -> Number
-    requires { ⌜ length (now list) ≤ 1023 ⌝ }
-    ensures { λ r. ⌜ r .0 ≡ numberIn (now (list .entry)) (y .0) ⌝ }
+// The number that looking a value up told, or `NONE`.
+fn number_told(found: Lookup) -> Number
+    ensures { λ r. ⌜ r .0 ≡ numberTold found ⌝ }
 {
-    let mut i = 0;
-    while i < list.len() {
-        if list[i] == y.0 {
-            return Number(i as u32);
-        }
-        i += 1;
+    match found {
+        Lookup::Has(n) => n,
+        Lookup::OneLeft => Number(NONE),
+        Lookup::NoneLeft => Number(NONE),
+        Lookup::Misfit => Number(NONE),
     }
-    Number(NONE)
 }
 
 // The number of y among the values of variable v, those of this event included, or `NONE`.
@@ -56,15 +57,13 @@ fn known(
     requires { ⌜ (length (now fresh) ≡ 96) × Parted m before (now values) × (v < 4) × (getD before v 0 ≤ getD counts v 0) × (getD counts v 0 ≤ getD before v 0 + 24) ⌝ }
     ensures { λ r. ⌜ r .0 ≡ numberIn (withFresh before counts (now (fresh .entry)) (partOf m before (now (values .entry))) v) (y .0) ⌝ }
 {
-    let at = v * m;
-    let end = at + before[v] as usize;
-    let old = find(&values[at..end], y);
+    let old = number_told(look_part(m, before, values, v, y));
     if old.0 != NONE {
         return old;
     }
     let from = 24 * v;
     let to = from + (counts[v] - before[v]) as usize;
-    let new = find(&fresh[from..to], y);
+    let new = number_told(look_in(&fresh[from..to], 24, y));
     if new.0 == NONE {
         return new;
     }

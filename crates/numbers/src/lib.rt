@@ -1,9 +1,11 @@
-// Numbers for values: which atoms match a fact, and which numbers an event asks for. Nothing is written to the value slice here.
+// Numbers for values: looking a value up, which atoms match a fact, and which numbers an event asks for. Nothing is written to the value slice here.
 // What each function promises is in specs/; the lists themselves are those of `meaning`.
 pub mod asking; // asking.rt: what an event asks
+pub mod looking; // looking.rt: a value's number, and whether one is left
 pub mod matching; // matching.rt: the atoms that match a fact
 
 pub use asking::ask;
+pub use looking::look_up;
 use making::Number;
 pub use matching::matches;
 use meaning::Fact;
@@ -24,6 +26,15 @@ pub struct Asked {
     pub counts: [u32; 4],
     pub fresh: [Value; 96],
     pub given: [u32; 96],
+}
+
+// What looking a value up tells: it has this number; it has none, and one is left; it has none, and none is left; or there is nothing
+// to look in, because k, the variable, the count or the length of the value slice is none that a state has.
+pub enum Lookup {
+    Has(Number),
+    OneLeft,
+    NoneLeft,
+    Misfit,
 }
 
 // The most values of a variable that have numbers. The caller has checked k (refusal 1).

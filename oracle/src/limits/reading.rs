@@ -161,6 +161,8 @@ fn answer(rest: &str) -> Result<Answer, String> {
             yes: verdict == "yes",
             kept: one(kept)?,
             room: one(room)?,
+            // Told by the counts that are written: see `running`.
+            numbered: [0; VARIABLES],
         }),
         _ => Err(format!("'{rest}' is no answer")),
     }

@@ -14,10 +14,16 @@ pub fn run(case: &Written, monitor: &mut dyn Monitor) -> Result<usize, String> {
     let mut now = before(case.lent);
     for step in &case.steps {
         now.work = marked(case.lent.work);
-        let wanted = step.after.over(&now);
+        let mut wanted = step.after.over(&now);
         if step.doing == Doing::Given {
             now = wanted;
             continue;
+        }
+        // What an event newly numbered is told by the counts that are written.
+        let counts = wanted.state.counts;
+        if let Answer::Verdict { numbered, .. } = &mut wanted.answer {
+            *numbered =
+                std::array::from_fn(|variable| counts[variable] - now.state.counts[variable]);
         }
         let differs = |what| format!("{}: {}: {what}", step.line, case.name);
         let left = called(case, &now, &step.doing, monitor).map_err(differs)?;

@@ -85,7 +85,16 @@ pub fn at_event(
                 "event on a longer work slice"
             });
             past_slices(coverage, handed, state, &rule, event, answer);
-            if let Answer::Verdict { yes, kept, .. } = answer {
+            if let Answer::Verdict {
+                yes,
+                kept,
+                numbered,
+                ..
+            } = answer
+            {
+                if numbered.iter().filter(|&&count| count > 0).count() > 1 {
+                    coverage.add("verdict that newly numbers values of two variables");
+                }
                 verdict(coverage, state, fresh, yes);
                 rule_of_verdict(coverage, state.k, &rule);
                 if kept < state.kept {

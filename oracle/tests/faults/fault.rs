@@ -47,6 +47,11 @@ pub enum Fault {
     UnfitFactsLeftOut,
     FirstFactAloneJudged,
     FactsJudgedOneByOne,
+    // What is told of numbers.
+    CountsOfAnotherVariable,
+    OneLeftToldAsNoneLeft,
+    LookupInAnotherList,
+    LookupPastTheCount,
     // Room and kept nodes.
     RoomOneMore,
     RoomAtCountRefused,
@@ -111,6 +116,10 @@ impl Fault {
             FirstEventRepeated,
             AlwaysYes,
             AlwaysNo,
+            CountsOfAnotherVariable,
+            OneLeftToldAsNoneLeft,
+            LookupInAnotherList,
+            LookupPastTheCount,
             RoomOneMore,
             RoomAtCountRefused,
             RoomWithoutBefore,

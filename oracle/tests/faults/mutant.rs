@@ -1,7 +1,7 @@
-//! The oracle's two calls with a fault in them.
+//! The oracle's calls with a fault in them.
 
-use oracle::event::{Answer, Event, Fact, State, MOST_FACTS};
-use oracle::monitor::{event, start, Monitor};
+use oracle::event::{Answer, Event, Fact, Found, State, MOST_FACTS};
+use oracle::monitor::{event, look_up, start, Monitor};
 use oracle::numbering::Lists;
 use oracle::refusals::{at_event, at_start, unfit, work_used};
 use oracle::rows::{Rule, FIELDS};
@@ -83,6 +83,9 @@ impl Monitor for Mutant {
         match (self.fault, &mut answer) {
             (Fault::AlwaysYes, Answer::Verdict { yes, .. }) => *yes = true,
             (Fault::AlwaysNo, Answer::Verdict { yes, .. }) => *yes = false,
+            (Fault::CountsOfAnotherVariable, Answer::Verdict { numbered, .. }) => {
+                numbered.rotate_left(1)
+            }
             (Fault::EveryEventRefused, _) => {
                 answer = Answer::Refused {
                     number: 5,
@@ -143,6 +146,21 @@ impl Monitor for Mutant {
         }
         (next, answer)
     }
+
+    fn lookup(&mut self, state: &State, values: &[u32], variable: u32, value: u32) -> Found {
+        let found = look_up(state, values, variable, value);
+        match (self.fault, found) {
+            (Fault::OneLeftToldAsNoneLeft, Found::OneLeft) => Found::NoneLeft,
+            (Fault::LookupInAnotherList, Found::Has(_) | Found::OneLeft | Found::NoneLeft) => {
+                look_up(state, values, variable ^ 1, value)
+            }
+            // Where the rest is 0, so is the value that is found.
+            (Fault::LookupPastTheCount, Found::OneLeft) if value == 0 => {
+                Found::Has(state.counts[variable as usize])
+            }
+            _ => found,
+        }
+    }
 }
 
 impl Mutant {
@@ -193,6 +211,7 @@ impl Mutant {
             yes: false,
             kept: call.state.kept,
             room: call.state.kept,
+            numbered: [0; 4],
         };
         let refused = |number, place| Some(Answer::Refused { number, place });
         let rule = Rule::read(call.rows);

@@ -262,6 +262,9 @@ impl Step<'_> {
                 yes,
                 kept: state.kept,
                 room,
+                numbered: std::array::from_fn(|v| {
+                    state.counts[v].wrapping_sub(self.state.counts[v])
+                }),
             },
             nodes,
             lists,

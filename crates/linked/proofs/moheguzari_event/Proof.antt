@@ -35,27 +35,27 @@ pack-requires : tie.Need-pack-requires
 pack-requires c κs = c .before .before .before .before .before .before .before .before .before .before .before .before .before .before .before .before .before .before .before .if2 .left
 
 put-requires : tie.Need-put-requires
-put-requires c κs = c .before .before .before .before .before .before .before .before .before .before .before .before .before .before .before .before .before .before .before .before .before .before .if3 .left
+put-requires c κs = c .before .before .before .before .before .before .before .before .before .before .before .before .before .before .before .before .before .before .before .before .before .before .before .if3 .left
 
 same-length : tie.Need-same-length
-same-length c = c .before .before .before .before .before .before .before .before .before .before .before .before .before .before .before .event-on .kept .1 .1 .1 .0
+same-length c = c .before .before .before .before .before .before .before .before .before .before .before .before .before .before .before .before .event-on .kept .1 .1 .1 .0
 
 same-length-2 : tie.Need-same-length-2
-same-length-2 c = c .before .before .before .before .before .before .before .before .before .before .before .before .before .before .before .event-on .kept .1 .1 .1 .1 .0
+same-length-2 c = c .before .before .before .before .before .before .before .before .before .before .before .before .before .before .before .before .event-on .kept .1 .1 .1 .1 .0
 
 same-length-3 : tie.Need-same-length-3
-same-length-3 c = c .before .before .before .before .before .before .before .before .before .before .before .before .before .before .before .event-on .kept .1 .1 .1 .1 .1 .0
+same-length-3 c = c .before .before .before .before .before .before .before .before .before .before .before .before .before .before .before .before .event-on .kept .1 .1 .1 .1 .1 .0
 
 same-length-4 : tie.Need-same-length-4
-same-length-4 c = c .before .before .before .before .before .before .pack .kept .1 .1 .0
+same-length-4 c = c .before .before .before .before .before .before .before .pack .kept .1 .1 .0
 
 same-length-5 : tie.Need-same-length-5
-same-length-5 c = c .before .before .put .kept .1 .1 .1 .0
+same-length-5 c = c .before .before .put .kept .1 .1 .1 .1 .0
 
 returns-4 : tie.Need-returns-4
 returns-4 c =
     let put = c .before .before in
-    let packed = put .before .before .before .before in
+    let packed = put .before .before .before .before .before in
     let said = packed .before .before .before .before .before .before .before .before .before in
     let happening = said .before .before .before .before .before in
     let refs = happening .before in
@@ -63,9 +63,9 @@ returns-4 c =
     let answer = before .before .before in
     let state = answer .before in
     let facts = state .before in
-    event-made _ _ _ _ _ _ _ (whole (before .figures .result) (refs .references .result)) _ (turnOf (said .event-on .result) (said .event-on .last .1 .0)) _ _ _ _ _ _ _
+    event-made _ _ _ _ _ _ _ (whole (before .figures .result) (refs .references .result)) _ (turnOf (said .event-on .result) (said .event-on .last .1 .0)) _ _ _ _ _ _ _ _
     (facts .if1 .left) (state .if2 .left) (answer .if3 .left) (state-read _ _ _ (before .figures .ensures) (refs .references .ensures)) (happening .event .ensures)
-    (said .event-on .ensures .0) (said .event-on .ensures .1) (packed .pack .ensures) (put .put .ensures)
+    (said .event-on .ensures .0) (said .event-on .ensures .1 .0) (said .event-on .ensures .1 .1) (packed .pack .ensures) (put .put .ensures)
 
 pub moheguzari-event-spec : {M : Type 1} → statement M
 moheguzari-event-spec =

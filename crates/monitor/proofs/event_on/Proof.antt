@@ -8,6 +8,7 @@ use Rattle.monitor.specs.Calls.{machine}
 use Rattle.monitor.specs.Said.{whole}
 use Rattle.monitor.proofs.SaidLaws.{lists-same, kept-turn, kept-looks, looks-same}
 use Rattle.monitor.proofs.EventLaws.{early, passed, too-short, sizes, bad-lists, clears, listed, lengths-right, happens-same}
+use Rattle.monitor.proofs.NumberedLaws.{kept-numbers, numbers-same}
 use Rattle.monitor.proofs.event_on.Statement.{statement}
 use Rattle.monitor.proofs.event_on.Tie as tie
 
@@ -33,7 +34,7 @@ returns : tie.Need-returns
 returns c =
     let s = c .before .before .before .before .before .before .before .before .before .before .before .before in
     let m = machine (whole (s .args .figures) (s .args .refs .now)) (s .args .nodes .now) (s .args .values .now) (s .args .work .now) in
-    (early _ m _ _ _ (c .before .before .before .before .before .before .before .check .ensures .found) (c .before .before .before .before .judge .ensures) _ _ _ _ _ _ (c .before .before .decision .given .1) (kept-turn _ _ _ _ _ _ (c .refused .ensures) refl) refl refl refl, kept-looks _ m _ _ _ _ _ (c .refused .ensures))
+    (early _ m _ _ _ (c .before .before .before .before .before .before .before .check .ensures .found) (c .before .before .before .before .judge .ensures) _ _ _ _ _ _ (c .before .before .decision .given .1) (kept-turn _ _ _ _ _ _ (c .refused .ensures) refl) refl refl refl, (kept-looks _ m _ _ _ _ _ (c .refused .ensures), kept-numbers _ m _ _ _ _ _ (c .refused .ensures)))
 
 enum-told : tie.Need-enum-told
 enum-told c = search needs
@@ -58,7 +59,7 @@ returns-2 c =
     let told = c .before .before in
     let s = told .before .before .before .before .before .before .before .before .before .before in
     let m = machine (whole (s .args .figures) (s .args .refs .now)) (s .args .nodes .now) (s .args .values .now) (s .args .work .now) in
-    (too-short _ m _ (passed _ m (s .args .event) _ _ (told .before .before .before .before .before .check .ensures .found) (told .before .before .judge .ensures) (told .enum-told .given .1)) _ _ _ _ (c .before .if1 .taken) (kept-turn _ _ _ _ _ _ (c .refused2 .ensures) refl) refl refl refl, kept-looks _ m _ _ _ _ _ (c .refused2 .ensures))
+    (too-short _ m _ (passed _ m (s .args .event) _ _ (told .before .before .before .before .before .check .ensures .found) (told .before .before .judge .ensures) (told .enum-told .given .1)) _ _ _ _ (c .before .if1 .taken) (kept-turn _ _ _ _ _ _ (c .refused2 .ensures) refl) refl refl refl, (kept-looks _ m _ _ _ _ _ (c .refused2 .ensures), kept-numbers _ m _ _ _ _ _ (c .refused2 .ensures)))
 
 lists-right-requires : tie.Need-lists-right-requires
 lists-right-requires c κs =
@@ -103,7 +104,7 @@ returns-3 c =
     let m = machine (whole (s .args .figures) (s .args .refs .now)) (s .args .nodes .now) (s .args .values .now) (s .args .work .now) in (
       bad-lists _ m _ (passed _ m (s .args .event) _ _ (told .before .before .before .before .before .check .ensures .found) (told .before .before .judge .ensures) (told .enum-told .given .1)) _ _ _ _ (long .if1 .left) (lists-same (s .args .figures) _ [] _ _ ∙ sym (lists .lists-right .ensures .0) ∙ not-true _ (test .if2 .taken)) (kept-turn _ _ _ _ _ _ (c .refused3 .ensures) refl) refl refl
           (clears (s .args .nodes .now) _ _ _ _ refl (long .if1 .left) (lists .lists-right .ensures .1) (zero .zero .ensures)),
-      kept-looks _ m _ _ _ _ _ (c .refused3 .ensures),
+      (kept-looks _ m _ _ _ _ _ (c .refused3 .ensures), kept-numbers _ m _ _ _ _ _ (c .refused3 .ensures)),
     )
 
 judged-requires : tie.Need-judged-requires
@@ -136,7 +137,7 @@ returns-4 c =
     let s = told .before .before .before .before .before .before .before .before .before .before in
     let m = machine (whole (s .args .figures) (s .args .refs .now)) (s .args .nodes .now) (s .args .values .now) (s .args .work .now) in
     let p = passed _ m (s .args .event) _ _ (told .before .before .before .before .before .check .ensures .found) (told .before .before .judge .ensures) (told .enum-told .given .1) in
-    (happens-same _ _ _ _ _ _ _ (lists .lists-right .ensures .1) (p .0) (p .1) (lengths-right _ m (s .args .event) p (long .if1 .left)) _ _ _ _ (judged .judged .ensures .0), looks-same _ _ _ _ _ _ _ _ _ _ (judged .judged .ensures .1))
+    (happens-same _ _ _ _ _ _ _ (lists .lists-right .ensures .1) (p .0) (p .1) (lengths-right _ m (s .args .event) p (long .if1 .left)) _ _ _ _ (judged .judged .ensures .0), (looks-same _ _ _ _ _ _ _ _ _ _ (judged .judged .ensures .1 .0), numbers-same _ _ _ _ _ _ _ _ _ (judged .judged .ensures .1 .1)))
 
 pub event-on-spec : {M : Type 1} → statement M
 event-on-spec =

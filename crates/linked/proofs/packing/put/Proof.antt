@@ -1,74 +1,35 @@
--- `packing::put` meets its contract: each arm by its variant. Assumes nothing.
-use mathlib.Core.Path.{ap, sym, _∙_}
-use Rattle.meaning.specs.declared.Answer.{Answer}
-use Rattle.linked.specs.Packing.{packedAnswer}
-use Rattle.linked.proofs.PackingLaws.{verdict-put}
+-- `packing::put` meets its contract: six numbers, and four behind them. Assumes nothing.
+use mathlib.Core.Path.{refl}
+use Rattle.linked.proofs.PackingLaws.{answer-written}
 use borrow.Author.Needs.{needs}
 use Rattle.linked.proofs.packing.put.Statement.{statement}
 use Rattle.linked.proofs.packing.put.Tie as tie
 
-enum-told : tie.Need-enum-told
-enum-told c = search needs
+sub-put-six : tie.Need-sub-put-six
+sub-put-six c = search needs
 
-six-requires : tie.Need-six-requires
-six-requires c κs = search needs
+part-put-six-start : tie.Need-part-put-six-start
+part-put-six-start c = search needs
 
-enum-known-answer : tie.Need-enum-known-answer
-enum-known-answer c = search needs
+part-put-six-end : tie.Need-part-put-six-end
+part-put-six-end c = search needs
 
-bit-of-requires : tie.Need-bit-of-requires
-bit-of-requires c κs = search needs
+put-six-requires : tie.Need-put-six-requires
+put-six-requires c κs = search needs
 
-six-requires-2 : tie.Need-six-requires-2
-six-requires-2 c κs = search needs
+slice-aggregate-copy : tie.Need-slice-aggregate-copy
+slice-aggregate-copy c = search needs
 
-enum-known-answer-2 : tie.Need-enum-known-answer-2
-enum-known-answer-2 c = search needs
-
-six-requires-3 : tie.Need-six-requires-3
-six-requires-3 c κs = search needs
+copy-requires : tie.Need-copy-requires
+copy-requires c κs = search needs
 
 same-length : tie.Need-same-length
 same-length c = search needs
 
 returns : tie.Need-returns
-unfolding packedAnswer
 returns c =
-    let s = c .before .before .before .before .before .before .before in
-    c .before .before .six .ensures ∙ sym (ap (λ (x : Answer). packedAnswer x (s .args .complements) (s .args .swept)) (c .before .before .before .before .enum-told .given .1))
-
-same-length-2 : tie.Need-same-length-2
-same-length-2 c = search needs
-
-returns-2 : tie.Need-returns-2
-returns-2 c =
-    let f = c .before .before in
-    verdict-put _ _ _ _ _ _ _ _ (f .six2 .ensures) (f .before .bit-of .ensures) (f .before .before .before .before .answer .given .1)
-
-same-length-3 : tie.Need-same-length-3
-same-length-3 c = search needs
-
-returns-3 : tie.Need-returns-3
-unfolding packedAnswer
-returns-3 c =
-    let s = c .before .before .before .before .before .before .before .before in
-    let f = c .before .before in
-    f .six3 .ensures ∙ sym (ap (λ (x : Answer). packedAnswer x (s .args .complements) (s .args .swept)) (f .before .before .before .answer2 .given .1))
+    let s = c .before .before .before .before .before .before .before .before .before .before in
+    answer-written _ _ _ _ (s .args .numbers .now) _ _ _ (s .pre) (s .good .1 .1 .1 .0 .1 .0 .1) (c .before .before .before .before .before .before .before .put-six .ensures) refl (c .before .before .copy .ensures)
 
 pub put-spec : {M : Type 1} → statement M
-put-spec =
-    tie.close
-    (tie.spec
-    enum-told
-    six-requires
-    enum-known-answer
-    bit-of-requires
-    six-requires-2
-    enum-known-answer-2
-    six-requires-3
-    same-length
-    returns
-    same-length-2
-    returns-2
-    same-length-3
-    returns-3)
+put-spec = tie.close (tie.spec sub-put-six part-put-six-start part-put-six-end put-six-requires slice-aggregate-copy copy-requires same-length returns)

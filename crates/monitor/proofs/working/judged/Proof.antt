@@ -6,6 +6,7 @@ use borrow.Author.Tests.{not-true, not-false}
 use Rattle.monitor.proofs.StartLaws.{k-small}
 use Rattle.monitor.proofs.SaidLaws.{formed-turn, formed-looks}
 use Rattle.monitor.proofs.WorkedLaws.{askable, asking, refuses-5, refuses-6}
+use Rattle.monitor.proofs.NumberedLaws.{formed-numbers}
 use Rattle.monitor.proofs.working.judged.Statement.{statement}
 use Rattle.monitor.proofs.working.judged.Tie as tie
 
@@ -29,7 +30,7 @@ returns c =
     let s = first .before .before .before .before .before in (
       refuses-5 _ _ _ _ (s .pre) (sym (first .agrees .ensures) ∙ not-true _ (test .if1 .taken)) _ _ _ _
           (formed-turn _ _ _ _ _ _ (refused .refused-formed .ensures .0)) (refused .refused-formed .ensures .1) refl refl,
-      formed-looks _ _ _ _ _ _ _ _ (refused .refused-formed .ensures .0),
+      (formed-looks _ _ _ _ _ _ _ _ (refused .refused-formed .ensures .0), formed-numbers _ _ _ _ _ _ _ _ (refused .refused-formed .ensures .0)),
     )
 
 ask-requires : tie.Need-ask-requires
@@ -64,7 +65,7 @@ returns-2 c =
     let s = first .before .before .before .before .before in (
       refuses-6 _ _ _ _ (s .pre) _ (ask .ask .ensures) (sym (first .agrees .ensures) ∙ not-false _ (test .if1 .left)) _ (short .before .shortest .ensures) (short .if2 .taken) _ _ _ _
           (formed-turn _ _ _ _ _ _ (refused .refused-formed2 .ensures .0)) (refused .refused-formed2 .ensures .1) refl refl,
-      formed-looks _ _ _ _ _ _ _ _ (refused .refused-formed2 .ensures .0),
+      (formed-looks _ _ _ _ _ _ _ _ (refused .refused-formed2 .ensures .0), formed-numbers _ _ _ _ _ _ _ _ (refused .refused-formed2 .ensures .0)),
     )
 
 work-on-requires : tie.Need-work-on-requires

@@ -4,6 +4,7 @@ use lib.ListN.{length, length-map}
 use borrow.Author.Needs.{needs}
 use Rattle.monitor.proofs.SaidLaws.{kept-turn, taken-turn, kept-looks, taken-looks}
 use Rattle.monitor.proofs.WorkedLaws.{few-facts, rows-few, writes, takes, refuses-full, refuses-bad, never-unfit, looks}
+use Rattle.monitor.proofs.NumberedLaws.{kept-numbers, grown, taken-numbers}
 use Rattle.monitor.proofs.working.work_on.Statement.{statement}
 use Rattle.monitor.proofs.working.work_on.Tie as tie
 
@@ -20,8 +21,11 @@ write-fresh-requires c κs =
     let did = step .step .ensures in
     writes _ _ _ _ _ (step .before .before .before .before .before .before .before .before .before .before .pre) _ _ _ _ (did .0) _ _ (told .told .given .1)
 
+newly-requires : tie.Need-newly-requires
+newly-requires c κs = grown _ _ _ _ _ (c .before .before .before .before .before .before .before .before .before .before .before .before .before .before .before .before .before .before .before .before .before .before .before .pre)
+
 taken-requires : tie.Need-taken-requires
-taken-requires c κs = rows-few _ _ _ _ _ (c .before .before .before .before .before .before .before .before .before .before .before .before .before .before .before .before .before .before .before .before .before .before .before .before .pre)
+taken-requires c κs = rows-few _ _ _ _ _ (c .before .before .before .before .before .before .before .before .before .before .before .before .before .before .before .before .before .before .before .before .before .before .before .before .before .pre)
 
 enum-told : tie.Need-enum-told
 enum-told c = search needs
@@ -52,14 +56,14 @@ same-length-3 c = search needs
 
 returns : tie.Need-returns
 returns c =
-    let told = c .before .before .before .before .before .before .before .before .before in
+    let told = c .before .before .before .before .before .before .before .before .before .before in
     let step = told .before .before .before .before .before .before in
     let s = step .before .before .before .before .before .before .before .before .before .before in
     let did = step .step .ensures in
     let four : length (s .args .asked .counts) ≡ 4 = sym (length-map (s .args .asked .counts) _) ∙ s .good .1 .1 .1 .1 .1 .1 .1 .1 .0 .1 .1 .0 .1 .0 .1 in (
       takes _ _ _ _ _ (s .pre) _ _ _ _ (did .0) _ _ (told .told .given .1) four _ _
-          (taken-turn _ _ _ _ _ _ _ _ _ _ (c .taken .ensures)) (c .before .before .before .before .before .write-fresh .ensures),
-      taken-looks _ _ _ _ _ _ _ _ _ _ _ (c .taken .ensures) (looks _ _ _ _ _ (s .pre) _ _ _ _ (did .0) _ _ (told .told .given .1) _ _ (did .1)),
+          (taken-turn _ _ _ _ _ _ _ _ _ _ _ (c .taken .ensures)) (c .before .before .before .before .before .before .write-fresh .ensures),
+      (taken-looks _ _ _ _ _ _ _ _ _ _ _ _ (c .taken .ensures) (looks _ _ _ _ _ (s .pre) _ _ _ _ (did .0) _ _ (told .told .given .1) _ _ (did .1)), taken-numbers _ _ _ _ _ (s .pre) _ _ _ _ _ _ _ _ _ (c .taken .ensures) (c .before .before .newly .ensures)),
     )
 
 same-length-4 : tie.Need-same-length-4
@@ -73,7 +77,7 @@ returns-2 c =
     let step = c .before .before .before .before .before .before .before in
     let did = step .step .ensures in (
       refuses-full _ _ _ _ _ (step .before .before .before .before .before .before .before .before .before .before .pre) _ _ _ _ (did .0) _ _ (c .before .enum-told .given .1) (kept-turn _ _ _ _ _ _ (c .refused .ensures)) refl,
-      kept-looks _ _ _ _ _ _ _ (c .refused .ensures),
+      (kept-looks _ _ _ _ _ _ _ (c .refused .ensures), kept-numbers _ _ _ _ _ _ _ (c .refused .ensures)),
     )
 
 same-length-6 : tie.Need-same-length-6
@@ -87,7 +91,7 @@ returns-3 c =
     let step = c .before .before .before .before .before .before .before in
     let did = step .step .ensures in (
       refuses-bad _ _ _ _ _ (step .before .before .before .before .before .before .before .before .before .before .pre) _ _ _ _ (did .0) _ _ (c .before .enum-told2 .given .1) (kept-turn _ _ _ _ _ _ (c .refused2 .ensures)) refl,
-      kept-looks _ _ _ _ _ _ _ (c .refused2 .ensures),
+      (kept-looks _ _ _ _ _ _ _ (c .refused2 .ensures), kept-numbers _ _ _ _ _ _ _ (c .refused2 .ensures)),
     )
 
 same-length-8 : tie.Need-same-length-8
@@ -109,6 +113,7 @@ work-on-spec =
     step-requires
     enum-known-told
     write-fresh-requires
+    newly-requires
     taken-requires
     enum-told
     refused-requires

@@ -1,54 +1,26 @@
--- `known` meets its contract: the list is searched, and then the fresh values. Assumes nothing.
-use Prim.Native.Nat.{_+_, _*_, _≤_}
+-- `known` meets its contract: the variable's list is looked in, and then the fresh values. Assumes nothing.
 use mathlib.Core.Path.{_∙_}
 use native.Mathlib.Omega.{arith}
-use lib.ListN.{getD, length-take}
-use Rattle.numbers.proofs.PartLaws.{part-inside, known-old, known-none, new-low, known-new}
+use lib.ListN.{length-take}
+use Rattle.numbers.proofs.PartLaws.{known-old, known-none, new-low, known-new}
+use Rattle.numbers.proofs.LookLaws.{told-is}
 use borrow.Author.Needs.{needs}
 use Rattle.numbers.proofs.asking.known.Statement.{statement}
 use Rattle.numbers.proofs.asking.known.Tie as tie
 
--- the part of v ends within the value slice
-within : (s : tie.Start) → s .args .v * s .args .m + getD (s .args .t2) (s .args .v) 0 ≤ 4 * s .args .m
-within s = part-inside (s .args .v) (s .args .m) (getD (s .args .t2) (s .args .v) 0) (s .pre .2) (s .pre .1 .counts-fit (s .args .v) (s .pre .2))
+look-part-requires : tie.Need-look-part-requires
+look-part-requires c κs =
+    let s = c .before .before in
+    (s .pre .1 .small, s .pre .1 .whole, s .pre .2, s .pre .1 .counts-fit (s .args .v) (s .pre .2))
 
-mul-at : tie.Need-mul-at
-mul-at c = let s = c .before .before in omega (arith, within s, s .pre .1 .small)
-
-mul-end : tie.Need-mul-end
-mul-end c = search needs
-
-array-read-end : tie.Need-array-read-end
-array-read-end c = search needs
-
-cast-end : tie.Need-cast-end
-cast-end c = search needs
-
-add-end : tie.Need-add-end
-add-end c = let s = c .before .before in omega (arith, within s, s .pre .1 .small)
-
-mul-find : tie.Need-mul-find
-mul-find c = let s = c .before .before in omega (arith, within s, s .pre .1 .small)
-
-sub-find : tie.Need-sub-find
-sub-find c = search needs
-
-part-find-start : tie.Need-part-find-start
-part-find-start c = search needs
-
-part-find-end : tie.Need-part-find-end
-part-find-end c = let s = c .before .before in omega (arith, within s, s .pre .1 .whole)
-
-find-requires : tie.Need-find-requires
-find-requires c κs =
-    let s = c .before .before .before in
-    rw length-take (omega (arith, s .pre .1 .counts-fit (s .args .v) (s .pre .2), s .pre .1 .small))
+number-told-requires : tie.Need-number-told-requires
+number-told-requires c κs = search needs
 
 returns : tie.Need-returns
 returns c =
     let s = c .before .before .before .before .before .before in
     let a = s .args in
-    known-old (a .m) (a .t2) (a .values .now) (a .t3) (a .fresh .now) (a .v) (a .y .0) (c .before .before .find .result .0) (s .pre .1) (s .pre .2) (c .before .before .find .ensures) (c .if1 .taken)
+    known-old (a .m) (a .t2) (a .values .now) (a .t3) (a .fresh .now) (a .v) (a .y .0) (c .before .before .number-told .result .0) (s .pre .1) (s .pre .2) (told-is _ _ _ _ _ (c .before .before .before .look-part .ensures) (c .before .before .number-told .ensures)) (c .if1 .taken)
 
 mul-from : tie.Need-mul-from
 mul-from c = search needs
@@ -74,64 +46,59 @@ cast-to c = let s = c .before .before .before .before .before .before in omega (
 add-to : tie.Need-add-to
 add-to c = let s = c .before .before .before .before .before .before in omega (arith, s .pre .4)
 
-mul-find-2 : tie.Need-mul-find-2
-mul-find-2 c = search needs
+mul-look-in : tie.Need-mul-look-in
+mul-look-in c = search needs
 
-sub-find-2 : tie.Need-sub-find-2
-sub-find-2 c = search needs
+sub-look-in : tie.Need-sub-look-in
+sub-look-in c = search needs
 
-part-find-start-2 : tie.Need-part-find-start-2
-part-find-start-2 c = search needs
+part-look-in-start : tie.Need-part-look-in-start
+part-look-in-start c = search needs
 
-part-find-end-2 : tie.Need-part-find-end-2
-part-find-end-2 c =
+part-look-in-end : tie.Need-part-look-in-end
+part-look-in-end c =
     let s = c .before .before .before .before .before .before in
     omega (arith, s .pre .4, s .pre .0)
 
-find-requires-2 : tie.Need-find-requires-2
-find-requires-2 c κs =
+look-in-requires : tie.Need-look-in-requires
+look-in-requires c κs =
     let s = c .before .before .before .before .before .before .before in
     rw length-take (omega (arith, s .pre .4))
 
+number-told-requires-2 : tie.Need-number-told-requires-2
+number-told-requires-2 c κs = search needs
+
 returns-2 : tie.Need-returns-2
 returns-2 c =
-    let s = c .before .before .before .before .before .before .before .before .before .before in
-    let a = s .args in
-    c .if2 .taken ∙ known-none (a .m) (a .t2) (a .values .now) (a .t3) (a .fresh .now) (a .v) (a .y .0) (c .before .before .before .before .before .before .find .result .0) (s .pre .1) (s .pre .2) (c .before .before .before .before .before .before .find .ensures) (c .before .before .before .before .if1 .left) (s .pre .4) (c .before .before .find2 .result .0) (c .before .before .find2 .ensures) (c .if2 .taken)
-
-mul-t31 : tie.Need-mul-t31
-mul-t31 c = search needs
-
-array-read-t30 : tie.Need-array-read-t30
-array-read-t30 c = search needs
-
-add-t19 : tie.Need-add-t19
-add-t19 c =
     let s = c .before .before .before .before .before .before .before .before .before .before .before in
     let a = s .args in
-    let n = new-low (a .m) (a .t2) (a .values .now) (a .t3) (a .fresh .now) (a .v) (a .y .0) (c .before .before .before .before .before .before .before .find .result .0) (s .pre .1) (s .pre .2) (c .before .before .before .before .before .before .before .find .ensures) (c .before .before .before .before .before .if1 .left) (s .pre .4) (c .before .before .before .find2 .result .0) (c .before .before .before .find2 .ensures) (c .before .if2 .left) in
+    c .if2 .taken ∙ known-none (a .m) (a .t2) (a .values .now) (a .t3) (a .fresh .now) (a .v) (a .y .0) (c .before .before .before .before .before .before .before .number-told .result .0) (s .pre .1) (s .pre .2) (told-is _ _ _ _ _ (c .before .before .before .before .before .before .before .before .look-part .ensures) (c .before .before .before .before .before .before .before .number-told .ensures)) (c .before .before .before .before .before .if1 .left) (s .pre .4) (c .before .before .number-told2 .result .0) (told-is _ _ _ _ _ (c .before .before .before .look-in .ensures) (c .before .before .number-told2 .ensures)) (c .if2 .taken)
+
+mul-t17 : tie.Need-mul-t17
+mul-t17 c = search needs
+
+array-read-t25 : tie.Need-array-read-t25
+array-read-t25 c = search needs
+
+add-t24 : tie.Need-add-t24
+add-t24 c =
+    let s = c .before .before .before .before .before .before .before .before .before .before .before .before in
+    let a = s .args in
+    let n = new-low (a .m) (a .t2) (a .values .now) (a .t3) (a .fresh .now) (a .v) (a .y .0) (c .before .before .before .before .before .before .before .before .number-told .result .0) (s .pre .1) (s .pre .2) (told-is _ _ _ _ _ (c .before .before .before .before .before .before .before .before .before .look-part .ensures) (c .before .before .before .before .before .before .before .before .number-told .ensures)) (c .before .before .before .before .before .before .if1 .left) (s .pre .4) (c .before .before .before .number-told2 .result .0) (told-is _ _ _ _ _ (c .before .before .before .before .look-in .ensures) (c .before .before .before .number-told2 .ensures)) (c .before .if2 .left) in
     omega (arith, n, s .pre .1 .counts-fit (a .v) (s .pre .2), s .pre .1 .small)
 
 returns-3 : tie.Need-returns-3
 returns-3 c =
-    let s = c .before .before .before .before .before .before .before .before .before .before .before in
+    let s = c .before .before .before .before .before .before .before .before .before .before .before .before in
     let a = s .args in
-    known-new (a .m) (a .t2) (a .values .now) (a .t3) (a .fresh .now) (a .v) (a .y .0) (c .before .before .before .before .before .before .before .find .result .0) (s .pre .1) (s .pre .2) (c .before .before .before .before .before .before .before .find .ensures) (c .before .before .before .before .before .if1 .left) (s .pre .4) (c .before .before .before .find2 .result .0) (c .before .before .before .find2 .ensures) (c .before .if2 .left)
+    known-new (a .m) (a .t2) (a .values .now) (a .t3) (a .fresh .now) (a .v) (a .y .0) (c .before .before .before .before .before .before .before .before .number-told .result .0) (s .pre .1) (s .pre .2) (told-is _ _ _ _ _ (c .before .before .before .before .before .before .before .before .before .look-part .ensures) (c .before .before .before .before .before .before .before .before .number-told .ensures)) (c .before .before .before .before .before .before .if1 .left) (s .pre .4) (c .before .before .before .number-told2 .result .0) (told-is _ _ _ _ _ (c .before .before .before .before .look-in .ensures) (c .before .before .before .number-told2 .ensures)) (c .before .if2 .left)
 
 pub known-spec : {M : Type 1} → statement M
 known-spec =
     tie.close
     (tie.spec
-    mul-at
-    mul-end
-    array-read-end
-    cast-end
-    add-end
-    mul-find
-    sub-find
-    part-find-start
-    part-find-end
-    find-requires
+    look-part-requires
+    number-told-requires
     returns
     mul-from
     mul-to
@@ -141,13 +108,14 @@ known-spec =
     sub-to
     cast-to
     add-to
-    mul-find-2
-    sub-find-2
-    part-find-start-2
-    part-find-end-2
-    find-requires-2
+    mul-look-in
+    sub-look-in
+    part-look-in-start
+    part-look-in-end
+    look-in-requires
+    number-told-requires-2
     returns-2
-    mul-t31
-    array-read-t30
-    add-t19
+    mul-t17
+    array-read-t25
+    add-t24
     returns-3)
