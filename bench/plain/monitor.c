@@ -12,7 +12,7 @@ struct state {
     uint32_t refs[MOST_ROWS];
 };
 
-enum { STATE = sizeof(struct state) / sizeof(uint32_t), ANSWER = 10, MOST_NODES = 4096, MOST_LEVELS = 40 };
+enum { STATE = sizeof(struct state) / sizeof(uint32_t), ANSWER = 10, FOUND = 2, MOST_NODES = 4096, MOST_LEVELS = 40 };
 enum { FACT = sizeof(struct fact) / sizeof(uint32_t) };
 
 static void say(uint32_t *answer, uint32_t a, uint32_t b, uint32_t c, uint32_t d)
@@ -207,5 +207,28 @@ bool plain_event(const uint32_t *rows, size_t rows_len, uint32_t *nodes, size_t 
     judge(&d, state, &rule, values, &event, answer);
     // A state that is not well formed keeps all its nodes.
     diagrams_close(&d, answer[0] == 4 ? d.count : state->kept);
+    return true;
+}
+
+bool plain_lookup(const uint32_t *values, size_t values_len, const uint32_t *numbers, size_t state_len, uint32_t variable,
+                  uint32_t value, uint32_t *answer, size_t answer_len)
+{
+    if (state_len != STATE || answer_len != FOUND)
+        return false;
+    const struct state *state = (const struct state *)numbers;
+    answer[1] = 0;
+    uint32_t most = state->k >= 1 && state->k <= 10 ? (1u << state->k) - 1 : 0;
+    if (most == 0 || values_len != (size_t)VARIABLES * most || variable >= VARIABLES || state->counts[variable] > most) {
+        answer[0] = 3;
+        return true;
+    }
+    const uint32_t *list = values + variable * most;
+    for (uint32_t n = 0; n < state->counts[variable]; n++)
+        if (list[n] == value) {
+            answer[0] = 0;
+            answer[1] = n;
+            return true;
+        }
+    answer[0] = state->counts[variable] < most ? 1 : 2;
     return true;
 }
