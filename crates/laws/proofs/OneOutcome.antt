@@ -20,9 +20,9 @@ use Rattle.making.specs.Tables.{Added}
 use Rattle.walks.specs.declared.Counted.{Counted}
 use Rattle.walks.specs.declared.Counted.the-variants as counted
 use Rattle.walks.specs.Complements.{Complemented}
-use Rattle.diagram.specs.declared.Instruction.{Instruction}
 use Rattle.diagram.specs.declared.Instruction.the-variants as instruction
-use Rattle.diagram.specs.Works.{Reached, Short, Tolled, RowDone}
+use Rattle.diagram.specs.Steps.{Task, facts, does}
+use Rattle.diagram.specs.Works.{Reached, Short, TolledBy, RowDone}
 
 -- `nodes::chain::holds`
 pub one-held : (ns : List ℕ) (j l a b : ℕ) (x y : Bool) → Holds ns j l a b x → Holds ns j l a b y → x ≡ y
@@ -116,24 +116,23 @@ never-reached {ys = ys} {b = b} u g h =
     omega arith
 
 -- and its visits
-one-toll : (levels : ℕ) (ns xs ys : List ℕ) (n a b r s : ℕ) (news w v u : List ℕ) (c i j : ℕ) (x : Instruction)
-    → Tolled levels ns xs n a r news w v c i x → Tolled levels ns ys n b s news w u c j x → i ≡ j
-one-toll levels ns xs ys n a b r s news w v u c i j instruction.Yes p q = p .none ∙ sym (q .none)
-one-toll levels ns xs ys n a b r s news w v u c i j instruction.No p q = p .none ∙ sym (q .none)
-one-toll levels ns xs ys n a b r s news w v u c i j (instruction.Cube _ _ _ _) p q = p .none ∙ sym (q .none)
-one-toll levels ns xs ys n a b r s news w v u c i j (instruction.And _ _) p q = p .none ∙ sym (q .none)
-one-toll levels ns xs ys n a b r s news w v u c i j (instruction.Not _) p q = sym (p .refines .visits) ∙ q .refines .visits
-one-toll levels ns xs ys n a b r s news w v u c i j (instruction.Since _ _) p q = p .none ∙ sym (q .none)
-one-toll levels ns xs ys n a b r s news w v u c i j (instruction.Old _) p q = p .none ∙ sym (q .none)
-one-toll levels ns xs ys n a b r s news w v u c i j (instruction.Drop _ _) p q = p .none ∙ sym (q .none)
+one-toll : (levels : ℕ) (ns xs ys : List ℕ) (n a b r s : ℕ) (news w v u : List ℕ) (c i j : ℕ) (x : Task)
+    → TolledBy levels ns xs n a r news w v c i x → TolledBy levels ns ys n b s news w u c j x → i ≡ j
+one-toll levels ns xs ys n a b r s news w v u c i j (does instruction.Yes) p q = p .none ∙ sym (q .none)
+one-toll levels ns xs ys n a b r s news w v u c i j (facts _) p q = p .none ∙ sym (q .none)
+one-toll levels ns xs ys n a b r s news w v u c i j (does (instruction.And _ _)) p q = p .none ∙ sym (q .none)
+one-toll levels ns xs ys n a b r s news w v u c i j (does (instruction.Not _)) p q = sym (p .refines .visits) ∙ q .refines .visits
+one-toll levels ns xs ys n a b r s news w v u c i j (does (instruction.Since _ _)) p q = p .none ∙ sym (q .none)
+one-toll levels ns xs ys n a b r s news w v u c i j (does (instruction.Old _)) p q = p .none ∙ sym (q .none)
+one-toll levels ns xs ys n a b r s news w v u c i j (does (instruction.Drop _ _)) p q = p .none ∙ sym (q .none)
 
 -- the nodes are one where there was room
 abbrev pub SameNodes : Counted → List ℕ → List ℕ → Type 0
 SameNodes counted.Full xs ys = Unit {0}
 SameNodes (counted.At a r v) xs ys = xs ≡ ys
 
--- `row`: the answer with its visits, and the node slice where there was room
-pub one-row : (k : ℕ) (ns xs ys : List ℕ) (n : ℕ) (olds news : List ℕ) (i : ℕ) (x : Instruction) (w v u : List ℕ) (c slots : ℕ) (p q : Counted)
+-- `row`, and an atom's turns: the answer with its visits, and the node slice where there was room
+pub one-row : (k : ℕ) (ns xs ys : List ℕ) (n : ℕ) (olds news : List ℕ) (i : ℕ) (x : Task) (w v u : List ℕ) (c slots : ℕ) (p q : Counted)
     → RowDone k ns xs n olds news i x w v c slots p → RowDone k ns ys n olds news i x w u c slots q → (p ≡ q) × SameNodes p xs ys
 one-row k ns xs ys n olds news i x w v u c slots counted.Full counted.Full f g = (refl, tt)
 one-row k ns xs ys n olds news i x w v u c slots counted.Full (counted.At b s j) f g = absurd (never-reached (g .1 .shelf .table) f (g .0))
