@@ -8,7 +8,8 @@ use Rattle.trees.specs.Bits.{Function}
 use Rattle.trees.specs.Tree.{Tree, off, treeOf}
 use Rattle.trees.specs.Table.{addTrees, refOf, show, treesOf}
 use Rattle.trees.specs.Kept.{diagrams}
-use Rattle.visits.specs.Visits.{nodeCount, complement, sweeps}
+use Rattle.trees.specs.Sizes.{nodeCount}
+use Rattle.visits.specs.Visits.{complement, sweeps}
 use Rattle.diagram.specs.declared.Instruction.{Instruction}
 use Rattle.diagram.specs.declared.Instruction.the-variants.{Yes, And, Not, Since, Old, Drop}
 use Rattle.diagram.specs.declared.Told.{Told}

@@ -16,7 +16,8 @@ use Rattle.diagram.specs.declared.Instruction.{Instruction}
 use Rattle.diagram.specs.declared.Instruction.the-variants.{Yes, And, Not, Since, Old, Drop}
 use Rattle.diagram.specs.declared.Turn.{Turn}
 use Rattle.diagram.specs.declared.Turn.the-variants.{Miss, Hit}
-use Rattle.visits.specs.Visits.{nodeCount, complement, Refines}
+use Rattle.trees.specs.Sizes.{nodeCount}
+use Rattle.visits.specs.Visits.{complement, Refines}
 use Rattle.nodes.specs.Nodes.{Table, Front, Rest, To}
 use Rattle.making.specs.Cubes.{Over, SameShape}
 use Rattle.walks.specs.Walks.{Within}

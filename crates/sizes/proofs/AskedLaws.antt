@@ -12,7 +12,8 @@ use Rattle.trees.specs.Kept.{diagrams, WellKept}
 use Rattle.trees.proofs.CanonicalLaws.{kept-back, kept-one}
 use Rattle.trees.proofs.LayoutLaws.{layout-diagrams}
 use Rattle.nodes.specs.Nodes.{Table}
-use Rattle.sizes.specs.Sizes.{sizesOf, Leading}
+use Rattle.trees.specs.Sizes.{sizesOf}
+use Rattle.sizes.specs.Leading.{Leading}
 
 module _ (free : ℕ → ℕ → Bool) (C n : ℕ) (refs : List ℕ) (kept : ℕ) (ns : List ℕ) (w : WellKept free C n refs kept ns) where
   pub kept-table : length ns ≡ 3 * C → C ≤ 4096 → Table ns kept

@@ -6,7 +6,7 @@ use lib.ListN.{take}
 use Rattle.trees.specs.Tree.{same}
 use Rattle.trees.specs.Table.{mem, push, addTree, at, nodeAt, treesOf}
 use Rattle.trees.specs.Kept.{diagrams}
-use Rattle.sizes.specs.Sizes.{sizesOf}
+use Rattle.trees.specs.Sizes.{sizesOf}
 
 -- three nodes: the last leads to both others, and the second to the first
 abbrev shared : List ℕ

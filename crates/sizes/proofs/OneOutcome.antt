@@ -6,7 +6,7 @@ use mathlib.Core.Bool.{Bool, true, false}
 use mathlib.Core.List.{List}
 use Rattle.trees.specs.Kept.{diagrams}
 use Rattle.nodes.specs.Nodes.{Decides}
-use Rattle.sizes.specs.Sizes.{sizesOf}
+use Rattle.trees.specs.Sizes.{sizesOf}
 
 pub one-sizes : (ns : List ℕ) (kept : ℕ) (refs : List ℕ) (count : ℕ) (xs ys : List ℕ) → xs ≡ sizesOf (diagrams ns kept refs count) → ys ≡ sizesOf (diagrams ns kept refs count) → xs ≡ ys
 one-sizes ns kept refs count xs ys p q = p ∙ sym q

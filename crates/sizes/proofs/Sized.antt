@@ -6,7 +6,7 @@ use mathlib.Core.List.{List, []}
 use mathlib.Core.Logic.{_⊎_, inl, inr, ⊎-elim}
 use native.Mathlib.Omega.{arith}
 use lib.ListN.{length, getD}
-use Rattle.trees.specs.Tree.{Tree, off, node, same}
+use Rattle.trees.specs.Tree.{Tree, off, same}
 use Rattle.trees.specs.Table.{mem, push, addTree, at, treesOf}
 use Rattle.trees.proofs.Tests.{bool, false-true, not-true, or-cases}
 use Rattle.trees.proofs.TreeLaws.{same-true}
@@ -14,7 +14,7 @@ use Rattle.trees.proofs.TableLaws.{Has, push-in, push-out, closed-nil, closed-a
 use Rattle.trees.proofs.ShowLaws.{sound-nil, sound-add}
 use Rattle.trees.proofs.RoomLaws.{table-le}
 use Rattle.trees.proofs.ReadLaws.{Back, One}
-use Rattle.visits.specs.Visits.{nodeCount}
+use Rattle.trees.specs.Sizes.{nodeCount}
 use Rattle.visits.proofs.CountLaws.{countBelow, count-le, chosen, chosen-length, chosen-mem}
 use Rattle.visits.proofs.GrowthLaws.{mem-snoc}
 use Rattle.visits.proofs.VisitLaws.{split}

@@ -2,20 +2,21 @@
 use Prim.Native.Nat.{ℕ, zero, suc, _+_, _-_, _≤_, _<_}
 use mathlib.Core.Path.{_≡_, refl, sym, ap, _∙_}
 use mathlib.Core.Bool.{false}
-use mathlib.Core.List.{List, [], _∷_, map}
+use mathlib.Core.List.{List, [], _∷_}
 use mathlib.Core.Logic.{⊎-elim}
 use native.Mathlib.Omega.{arith}
-use lib.ListN.{length, getD, take, replicate, length-append, length-map, length-replicate, getD-replicate, List·getD-eq-default, List·getD-append, List·getD-map}
+use lib.ListN.{length, getD, take, replicate, length-map, length-replicate, getD-replicate, List·getD-eq-default, List·getD-map}
 use lib.Seq.{ext-getD, getD-take, length-take-le}
 use Rattle.trees.specs.Tree.{Tree, off}
 use Rattle.trees.specs.Table.{addTree, at, treesOf}
 use Rattle.trees.specs.Kept.{diagrams}
 use Rattle.trees.proofs.Tests.{lt-or-ge}
-use Rattle.trees.proofs.CanonicalLaws.{zeros-at, zeros-past}
+use Rattle.trees.proofs.CanonicalLaws.{zeros-at}
+use Rattle.trees.proofs.SizesLaws.{sizes-length, sizes-at, sizes-past}
 use Rattle.nodes.specs.Nodes.{Table}
-use Rattle.visits.specs.Visits.{nodeCount}
+use Rattle.trees.specs.Sizes.{nodeCount, sizesOf}
 use Rattle.visits.proofs.CountLaws.{count-most}
-use Rattle.sizes.specs.Sizes.{sizesOf, Leading}
+use Rattle.sizes.specs.Leading.{Leading}
 use Rattle.sizes.specs.Words.{Word, none, given, down, marked, Sized}
 use Rattle.sizes.proofs.Sized.{sized}
 
@@ -37,23 +38,6 @@ at-most ns kept t r h =
   where
     empty : (j k : ℕ) → getD (replicate kept none) j none k ≡ false
     empty j k = ⊎-elim (λ h. ap (λ (x : Word). x k) (getD-replicate kept j none none h)) (λ h. ap (λ (x : Word). x k) (List·getD-eq-default (replicate kept none) none (rw length-replicate h))) (lt-or-ge j kept)
-
--- there are 64 sizes
-pub sizes-length : (ds : List Tree) → length ds ≤ 64 → length (sizesOf ds) ≡ 64
-unfolding sizesOf
-sizes-length ds h = rw (length-append, length-map, length-replicate) (omega arith)
-
--- of each row, the count of its diagram's nodes
-pub sizes-at : (ds : List Tree) (i : ℕ) → i < length ds → getD (sizesOf ds) i 0 ≡ nodeCount (getD ds i off)
-unfolding sizesOf addTree
-sizes-at ds i h =
-    let e = length-map ds nodeCount in
-    List·getD-append (map nodeCount ds) (replicate (64 - length ds) 0) 0 i (omega arith) ∙ List·getD-map nodeCount ds i off
-
--- past the rows, 0
-pub sizes-past : (ds : List Tree) (i : ℕ) → length ds ≤ i → getD (sizesOf ds) i 0 ≡ 0
-unfolding sizesOf
-sizes-past ds i h = let e = length-map ds nodeCount in zeros-past (map nodeCount ds) (64 - length ds) i (omega arith)
 
 module _ (ns : List ℕ) (kept : ℕ) (refs : List ℕ) (count : ℕ) (l : Leading refs count kept) where
   ds : List Tree

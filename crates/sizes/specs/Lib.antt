@@ -1,3 +1,3 @@
--- What sizes are, and how one pass over the kept nodes finds them.
-pub mod Sizes
+-- What is asked of references, and how one pass over the kept nodes finds sizes.
+pub mod Leading
 pub mod Words

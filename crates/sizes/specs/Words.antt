@@ -7,7 +7,7 @@ use lib.Dec.{eqb}
 use lib.ListN.{length, getD, set}
 use Rattle.trees.specs.Bits.{bit}
 use Rattle.trees.specs.Table.{at, treesOf}
-use Rattle.visits.specs.Visits.{nodeCount}
+use Rattle.trees.specs.Sizes.{nodeCount}
 use Rattle.visits.proofs.CountLaws.{countBelow}
 
 -- a word of rows: whether row i is in it

@@ -7,8 +7,9 @@ ghost use mathlib.Core.List.{map};
 ghost use Prim.Native.Nat.{ℕ, _+_, _*_, _-_, _<_, _≤_};
 ghost use lib.ListN.{length, getD, replicate};
 ghost use Rattle.trees.specs.Kept.{diagrams};
+ghost use Rattle.trees.specs.Sizes.{sizesOf};
 ghost use Rattle.nodes.specs.Nodes.{Table, Rest, Decides};
-ghost use Rattle.sizes.specs.Sizes.{sizesOf, Leading};
+ghost use Rattle.sizes.specs.Leading.{Leading};
 ghost use Rattle.sizes.specs.Words.{hasRow, give, given, Counts, Pushed, Sized};
 use nodes::zero;
 

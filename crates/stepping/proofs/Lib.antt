@@ -4,6 +4,7 @@ pub mod PlanLaws
 pub mod FitLaws
 pub mod ClearLaws
 pub mod LendLaws
+pub mod SizeLaws
 pub mod OutcomeLaws
 pub mod CaseLaws
 pub mod CountLaws

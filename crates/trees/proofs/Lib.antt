@@ -9,5 +9,6 @@ pub mod RoomLaws
 pub mod KeptLaws
 pub mod ReadLaws
 pub mod CanonicalLaws
+pub mod SizesLaws
 pub mod LayoutLaws
 pub mod IgnoreLaws

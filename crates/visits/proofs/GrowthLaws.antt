@@ -11,7 +11,7 @@ use Rattle.trees.specs.Table.{mem, push, addTree}
 use Rattle.trees.proofs.Tests.{bool, false-true, not-true, or-cases, or-l, or-r}
 use Rattle.trees.proofs.TreeLaws.{same-true, same-eq}
 use Rattle.trees.proofs.TableLaws.{push-in, push-out}
-use Rattle.visits.specs.Visits.{nodeCount}
+use Rattle.trees.specs.Sizes.{nodeCount}
 
 or-false : (b : Bool) → (b || false) ≡ b
 or-false true = refl

@@ -14,7 +14,8 @@ use Rattle.trees.specs.Tree.{Tree, node, Fine}
 use Rattle.trees.specs.Table.{mem, addTree, at, nodeAt, treesOf}
 use Rattle.trees.proofs.TreeLaws.{node-fine}
 use Rattle.trees.proofs.ReadLaws.{Back, One, at-node}
-use Rattle.visits.specs.Visits.{nodeCount, Went, stop, recall, visit, keep, walk}
+use Rattle.trees.specs.Sizes.{nodeCount}
+use Rattle.visits.specs.Visits.{Went, stop, recall, visit, keep, walk}
 use Rattle.visits.proofs.GrowthLaws.{mem-add, mem-old, mem-new, add-most}
 use Rattle.visits.proofs.CountLaws.{countBelow, count-most, count-more, count-le, chosen, chosen-length, chosen-mem}
 

@@ -9,7 +9,8 @@ use Rattle.trees.specs.Tree.{Tree, Fine, notT}
 use Rattle.trees.specs.Table.{addTrees, at, treesOf}
 use Rattle.trees.proofs.TableLaws.{Closed}
 use Rattle.trees.proofs.ReadLaws.{Back, One}
-use Rattle.visits.specs.Visits.{nodeCount, complement, sweep, sweeps, Right, Answered, AnsweredAll}
+use Rattle.trees.specs.Sizes.{nodeCount}
+use Rattle.visits.specs.Visits.{complement, sweep, sweeps, Right, Answered, AnsweredAll}
 use Rattle.visits.proofs.VisitLaws.{walk-most}
 use Rattle.visits.proofs.AnswerLaws.{walk-answers}
 use Rattle.visits.proofs.AskedLaws.{complement-asks, sweep-asks}

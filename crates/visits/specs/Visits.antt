@@ -8,10 +8,6 @@ use lib.ListN.{length, getD, set}
 use Rattle.trees.specs.Tree.{Tree, mk}
 use Rattle.trees.specs.Table.{addTree, addTrees, at, refOf, treesOf, Ref}
 
--- how many nodes a diagram has, each counted once
-abbrev pub nodeCount : Tree → ℕ
-nodeCount d = length (addTree [] d)
-
 -- what a walk leaves: the table that it adds to, its notes, its answer, and how many visits it made
 pub record Went : Type 0 where
   pub table : List Tree

@@ -3,7 +3,7 @@ use Prim.Native.Nat.{ℕ, _+_, _*_, _-_, _≤_}
 use mathlib.Core.List.{List}
 use native.Mathlib.Omega.{arith}
 use Rattle.trees.specs.Table.{at, treesOf}
-use Rattle.visits.specs.Visits.{nodeCount}
+use Rattle.trees.specs.Sizes.{nodeCount}
 use Rattle.visits.proofs.Visited.{complement-visits}
 use Rattle.walks.specs.declared.Counted.the-variants.{At}
 use Rattle.walks.specs.Walks.{Within}

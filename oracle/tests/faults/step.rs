@@ -251,6 +251,7 @@ impl Step<'_> {
         let mut state = State {
             kept: nodes.len() as u32 / 3,
             refs: State::ZERO.refs,
+            sizes: self.sizes(&nodes, &references),
             counts: lists.counts(),
             ..*self.state
         };
