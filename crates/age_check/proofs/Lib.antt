@@ -1,0 +1,3 @@
+-- The laws of the marks.
+pub mod MarkLaws
+pub mod OneOutcome

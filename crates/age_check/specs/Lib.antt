@@ -1,0 +1,2 @@
+-- What the check of age diagrams promises.
+pub mod Marks

@@ -1,0 +1,2 @@
+-- What ages are.
+pub mod Ages
