@@ -127,7 +127,7 @@ static struct figures measure(void)
 
 // ---- the tables
 
-static const char *const names[] = {"lots-512", "lots-4096", "questioned-512", "questioned-4096", "access", "pairs", "join", "small", "moments", "rows-64"};
+static const char *const names[] = {"lots-512", "lots-4096", "questioned-512", "questioned-4096", "access", "pairs", "join", "small", "moments"};
 enum { WORKLOADS = sizeof names / sizeof names[0] };
 
 static const char *set_workload(const char *name)
@@ -160,9 +160,6 @@ static const char *set_workload(const char *name)
     } else if (strcmp(name, "moments") == 0) {
         workload_moments(&work, 10, 512, 1000, 8, 2000);
         says = "rule K, 1,000 lots, 8 facts an event";
-    } else if (strcmp(name, "rows-64") == 0) {
-        workload_rows(&work, 7, 512, 64, 100, 0, 2000);
-        says = "rule K with rows added, 64 rows, 100 lots";
     }
     snprintf(work.name, sizeof work.name, "%s", name);
     return says;
@@ -253,12 +250,7 @@ static void growth_tables(void)
     }
     growth_head("Rows (k = 7, C = 512, 100 lots)");
     for (size_t i = 0; i < sizeof rows / sizeof rows[0]; i++) {
-        workload_rows(&work, 7, 512, rows[i], 100, 0, 500);
-        growth_row(rows[i]);
-    }
-    growth_head("Rows (k = 10, C = 512, 1,000 lots, a third in question)");
-    for (size_t i = 0; i < sizeof rows / sizeof rows[0]; i++) {
-        workload_rows(&work, 10, 512, rows[i], 1000, 400, 500);
+        workload_rows(&work, 7, 512, rows[i], 500);
         growth_row(rows[i]);
     }
     growth_head("C (rule K, k = 3, 6 lots)");

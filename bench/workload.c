@@ -166,7 +166,7 @@ void workload_moments(struct workload *w, uint32_t k, uint32_t capacity, uint32_
     }
 }
 
-void workload_rows(struct workload *w, uint32_t k, uint32_t capacity, uint32_t rows, uint32_t lots, uint32_t asked, uint32_t timed)
+void workload_rows(struct workload *w, uint32_t k, uint32_t capacity, uint32_t rows, uint32_t timed)
 {
     begin(w, k, capacity);
     uint32_t shelved = atom(w, SHELVED, 1, 0);
@@ -174,7 +174,7 @@ void workload_rows(struct workload *w, uint32_t k, uint32_t capacity, uint32_t r
     while (w->row_count + 3 < rows)
         below = row(w, NOT, below, 0);
     never(w, row(w, AND, shelved, below), 1);
-    lots_events(w, lots, asked, asked == 0 ? lots / 50 + 1 : lots, timed);
+    lots_events(w, 100, 0, 3, timed);
 }
 
 enum { OPEN = 1, CLOSE, WRITE };

@@ -42,7 +42,7 @@ void workload_pairs(struct workload *w, uint32_t k, uint32_t capacity, uint32_t 
 void workload_join(struct workload *w, uint32_t k, uint32_t capacity, uint32_t exceptions, uint32_t timed);
 // Many listed values, in steps, in each of three lists, and next to no nodes.
 void workload_values(struct workload *w, uint32_t k, uint32_t capacity, uint32_t values, uint32_t step, uint32_t timed);
-// Rule K with rows added up to a count, and so many lots asked about at first.
-void workload_rows(struct workload *w, uint32_t k, uint32_t capacity, uint32_t rows, uint32_t lots, uint32_t asked, uint32_t timed);
+// Rule K with rows added up to a count.
+void workload_rows(struct workload *w, uint32_t k, uint32_t capacity, uint32_t rows, uint32_t timed);
 
 #endif

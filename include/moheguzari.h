@@ -46,7 +46,6 @@ extern "C" {
 #define MOHEGUZARI_STATE 135
 #define MOHEGUZARI_ANSWER 10
 #define MOHEGUZARI_FOUND 2
-#define MOHEGUZARI_SIZES 71 /* where the 64 sizes begin in a state: state[MOHEGUZARI_SIZES + row] */
 #define MOHEGUZARI_ROWS(n) (9 * (size_t)(n))
 #define MOHEGUZARI_FACTS(n) (5 * (size_t)(n))
 #define MOHEGUZARI_MOST_FACTS 8

@@ -183,41 +183,6 @@ uint32_t diagrams_sweep(struct diagrams *d, uint32_t *refs, uint32_t rows)
     return kept;
 }
 
-// ---- the sizes
-
-// The word of a node: the rows whose diagrams it belongs to. The slice need not be aligned for words.
-static uint64_t word_of(const uint32_t *words, uint32_t r)
-{
-    uint64_t word;
-    memcpy(&word, words + 2 * (r - 2), sizeof word);
-    return word;
-}
-
-static void give(uint32_t *words, uint32_t r, uint64_t rows)
-{
-    if (r < 2)
-        return;
-    uint64_t word = word_of(words, r) | rows;
-    memcpy(words + 2 * (r - 2), &word, sizeof word);
-}
-
-void diagrams_sizes(struct diagrams *d, uint32_t kept, const uint32_t *refs, uint32_t rows, uint32_t *sizes)
-{
-    uint32_t *words = (uint32_t *)d->swept;
-    memset(words, 0, kept * sizeof(uint64_t));
-    memset(sizes, 0, rows * sizeof *sizes);
-    for (uint32_t i = 0; i < rows; i++)
-        give(words, refs[i], (uint64_t)1 << i);
-    // Children stand before parents, so a word is complete when it is reached.
-    for (uint32_t r = kept + 1; r > 1; r--) {
-        uint64_t word = word_of(words, r);
-        give(words, d->nodes[r - 2].low, word);
-        give(words, d->nodes[r - 2].high, word);
-        for (; word != 0; word &= word - 1)
-            sizes[__builtin_ctzll(word)]++;
-    }
-}
-
 // ---- the operations: easy cases, a look at what is remembered, the low side, the high side, the node
 
 static struct result *place_of(struct diagrams *d, uint32_t a, uint32_t b, uint32_t c)

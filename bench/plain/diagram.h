@@ -68,10 +68,6 @@ uint32_t diagrams_without(struct diagrams *d, uint32_t level, uint32_t p);
 // Makes the nodes the canonical table of the rows' diagrams, and refs their references there. Gives the count of nodes.
 uint32_t diagrams_sweep(struct diagrams *d, uint32_t *refs, uint32_t rows);
 
-// How many of the kept nodes each row's reference leads to, a node that several rows share counting in each. What it works in is free
-// before the sweep and after it.
-void diagrams_sizes(struct diagrams *d, uint32_t kept, const uint32_t *refs, uint32_t rows, uint32_t *sizes);
-
 // Clears the nodes from `kept` on, and what was written to the work slice.
 void diagrams_close(struct diagrams *d, uint32_t kept);
 

@@ -5,12 +5,11 @@
 
 #include <string.h>
 
-// The 135 numbers of a state.
+// The 71 numbers of a state.
 struct state {
     uint32_t k, rows, kept;
     uint32_t counts[VARIABLES];
     uint32_t refs[MOST_ROWS];
-    uint32_t sizes[MOST_ROWS];
 };
 
 enum { STATE = sizeof(struct state) / sizeof(uint32_t), ANSWER = 10, FOUND = 2, MOST_NODES = 4096, MOST_LEVELS = 40 };
@@ -128,14 +127,10 @@ static bool state_right(struct diagrams *d, const struct state *state, const str
     if (state->rows != rule->count)
         return false;
     for (uint32_t i = rule->count; i < MOST_ROWS; i++)
-        if (state->refs[i] != 0 || state->sizes[i] != 0)
+        if (state->refs[i] != 0)
             return false;
-    if (!lists_right((1u << state->k) - 1, state->counts, values) ||
-        !diagrams_take(d, state->kept, state->k, state->refs, rule->free, rule->count))
-        return false;
-    uint32_t sizes[MOST_ROWS];
-    diagrams_sizes(d, state->kept, state->refs, rule->count, sizes);
-    return memcmp(state->sizes, sizes, rule->count * sizeof sizes[0]) == 0;
+    return lists_right((1u << state->k) - 1, state->counts, values) &&
+           diagrams_take(d, state->kept, state->k, state->refs, rule->free, rule->count);
 }
 
 // Whether the list is too long, or a fact in it has more than three values or not as many as the rule's predicate.
@@ -183,7 +178,6 @@ static void judge(struct diagrams *d, struct state *state, const struct rule *ru
     memcpy(state->counts, asked.counts, sizeof state->counts);
     state->kept = diagrams_sweep(d, news, rule->count);
     memcpy(state->refs, news, rule->count * sizeof news[0]);
-    diagrams_sizes(d, state->kept, state->refs, rule->count, state->sizes);
     say(answer, 0, state->refs[rule->count - 1], state->kept, d->count);
     answer[4] = d->complement_visits;
     answer[5] = d->sweep_visits;

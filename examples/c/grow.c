@@ -1,16 +1,15 @@
 /* A table that turns out too small is enlarged in mid-run: zeros are appended to the nodes, a longer work slice is lent, and the refused
- * event is handed in again. State and values stay as they are, and nothing that was known is lost. After each call a panel shows how
- * many nodes each row's diagram has, as it stands ready in the state. What this prints stands in grow.out. */
+ * event is handed in again. State and values stay as they are, and nothing that was known is lost. What it prints stands in grow.out. */
 #include "moheguzari.h"
 
 #include <stdio.h>
 
-enum { K = 2, ROWS = 9, SMALL = 5, LARGE = 64 };
+enum { K = 2, SMALL = 5, LARGE = 64 };
 
 enum { CONFIRMED = 1, QUESTIONED = 2, SHELVED = 3 };
 
 /* Rule K, as in shelf.c: no lot is shelved unless it was confirmed and not questioned since. */
-static const uint32_t rows[MOHEGUZARI_ROWS(ROWS)] = {
+static const uint32_t rows[MOHEGUZARI_ROWS(9)] = {
     2, SHELVED, 1, 0, 0, 0, 0, 0, 0, 2, QUESTIONED, 1, 0, 0, 0, 0, 0, 0, 4, 1, 0, 0, 0, 0, 0, 0, 0,
     2, CONFIRMED, 1, 0, 0, 0, 0, 0, 0, 5, 2, 3, 0, 0, 0, 0, 0, 0, 4, 4, 0, 0, 0, 0, 0, 0, 0,
     3, 0, 5, 0, 0, 0, 0, 0, 0, 7, 0, 6, 0, 0, 0, 0, 0, 0, 4, 7, 0, 0, 0, 0, 0, 0, 0,
@@ -29,16 +28,9 @@ static const struct {
 
 static bool judge(size_t i, size_t c) {
     const uint32_t fact[MOHEGUZARI_FACTS(1)] = {events[i].predicate, 1, events[i].lot};
-    return moheguzari_event(rows, MOHEGUZARI_ROWS(ROWS), nodes, MOHEGUZARI_NODES(c), values, MOHEGUZARI_VALUES(K), work,
+    return moheguzari_event(rows, MOHEGUZARI_ROWS(9), nodes, MOHEGUZARI_NODES(c), values, MOHEGUZARI_VALUES(K), work,
                             MOHEGUZARI_WORK(c), fact, MOHEGUZARI_FACTS(1), state, MOHEGUZARI_STATE, answer,
                             MOHEGUZARI_ANSWER);
-}
-
-/* The panel. A node that several rows share counts in each; after a refused event the sizes are as they were. */
-static void panel(void) {
-    printf("  sizes");
-    for (size_t row = 0; row < ROWS; row++) printf(" %u", state[MOHEGUZARI_SIZES + row]);
-    putchar('\n');
 }
 
 static void tell(size_t i, size_t c) {
@@ -46,12 +38,11 @@ static void tell(size_t i, size_t c) {
         printf("%zu refused %u %u, with room for %zu nodes\n", i + 1, answer[0], answer[1], c);
     else
         printf("%zu %s %u %u\n", i + 1, answer[1] ? "yes" : "no", answer[2], answer[3]);
-    panel();
 }
 
 int main(void) {
     size_t c = SMALL;
-    if (!moheguzari_start(K, rows, MOHEGUZARI_ROWS(ROWS), nodes, MOHEGUZARI_NODES(c), values, MOHEGUZARI_VALUES(K), state,
+    if (!moheguzari_start(K, rows, MOHEGUZARI_ROWS(9), nodes, MOHEGUZARI_NODES(c), values, MOHEGUZARI_VALUES(K), state,
                           MOHEGUZARI_STATE, answer, MOHEGUZARI_ANSWER) ||
         answer[0] != 0)
         return 1;

@@ -25,7 +25,7 @@ struct Monitor<'a> {
     nodes: Vec<u32>,
     values: Vec<u32>,
     work: Vec<u32>,
-    state: [u32; 135],
+    state: [u32; 71],
 }
 
 impl<'a> Monitor<'a> {
@@ -33,7 +33,7 @@ impl<'a> Monitor<'a> {
     fn start(k: u32, c: usize, rows: &'a [u32]) -> Result<Self, (u32, u32)> {
         let most = (1 << k.min(10)) - 1;
         let (mut nodes, mut values) = (vec![0; 3 * c], vec![0; 4 * most]);
-        let (mut state, mut answer) = ([0; 135], [0; 10]);
+        let (mut state, mut answer) = ([0; 71], [0; 10]);
         let made = unsafe {
             moheguzari_start(
                 k, rows.as_ptr(), rows.len(), nodes.as_mut_ptr(), nodes.len(), values.as_mut_ptr(), values.len(),

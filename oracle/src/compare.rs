@@ -5,7 +5,7 @@ use crate::coverage::Coverage;
 use crate::enumerating::Oracle;
 use crate::event::{Answer, Event, Found, State};
 use crate::monitor::{look_up, Monitor};
-use crate::reached::{at_event, at_start, sizes, Handed};
+use crate::reached::{at_event, at_start, Handed};
 
 /// What one call left.
 #[derive(Clone, Debug, PartialEq, Eq)]
@@ -49,9 +49,6 @@ pub fn compare(
             .map_err(|differs| format!("event {} {event}: {differs}", ordinal + 1))?;
         let handed = now.handed(&case.rows);
         at_event(coverage, &handed, &now.state, fresh, event, left.answer);
-        if let Answer::Verdict { .. } = left.answer {
-            sizes(coverage, &left.state);
-        }
         now = left.clone();
         transcript.push(left);
     }
@@ -130,33 +127,6 @@ fn both(
     }
 }
 
-/// The first number of a state that is not as wanted, by its name.
-fn other_part(wanted: &State, found: &State) -> Option<(String, u32, u32)> {
-    let parts = |state: &State| {
-        let mut parts: Vec<(String, u32)> = vec![
-            ("k".to_string(), state.k),
-            ("the row count".to_string(), state.rows),
-            ("kept".to_string(), state.kept),
-        ];
-        let lists: [(&str, &[u32]); 3] = [
-            ("the count of variable", &state.counts),
-            ("the reference of row", &state.refs),
-            ("the size of row", &state.sizes),
-        ];
-        for (name, numbers) in lists {
-            let named = |(place, &number)| (format!("{name} {place}"), number);
-            parts.extend(numbers.iter().enumerate().map(named));
-        }
-        parts
-    };
-    if wanted == found {
-        return None;
-    }
-    let both = parts(wanted).into_iter().zip(parts(found));
-    both.map(|((name, wanted), (_, found))| (name, wanted, found))
-        .find(|(_, wanted, found)| wanted != found)
-}
-
 /// The first thing that is not as wanted, in words; `whose` says who wants it.
 pub fn difference(wanted: &Left, found: &Left, whose: &str) -> Option<String> {
     if wanted.answer != found.answer {
@@ -165,9 +135,10 @@ pub fn difference(wanted: &Left, found: &Left, whose: &str) -> Option<String> {
             found.answer, wanted.answer
         ));
     }
-    if let Some((part, wanted, found)) = other_part(&wanted.state, &found.state) {
+    if wanted.state != found.state {
         return Some(format!(
-            "{part} in the state is {found} and {wanted} {whose}"
+            "state {:?} is {:?} {whose}",
+            found.state, wanted.state
         ));
     }
     let slices = [

@@ -61,8 +61,6 @@ pub struct State {
     pub kept: u32,
     pub counts: [u32; VARIABLES],
     pub refs: [u32; MOST_ROWS],
-    /// How many nodes each row's reference leads to.
-    pub sizes: [u32; MOST_ROWS],
 }
 
 impl State {
@@ -72,7 +70,6 @@ impl State {
         kept: 0,
         counts: [0; VARIABLES],
         refs: [0; MOST_ROWS],
-        sizes: [0; MOST_ROWS],
     };
 }
 

@@ -24,7 +24,6 @@ pub mod refusals;
 pub mod room;
 pub mod rows;
 pub mod runs;
-pub mod sizes;
 pub mod table;
 pub mod texts;
 pub mod trial;

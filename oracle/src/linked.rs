@@ -51,12 +51,8 @@ extern "C" {
     ) -> bool;
 }
 
-/// k, rows, kept, four counts, 64 references and 64 sizes.
-const STATE_NUMBERS: usize = 3 + VARIABLES + 2 * MOST_ROWS;
-
-/// Where the references begin, and where the sizes do.
-const REFS: usize = 3 + VARIABLES;
-const SIZES: usize = REFS + MOST_ROWS;
+/// k, rows, kept, four counts and 64 references.
+const STATE_NUMBERS: usize = 3 + VARIABLES + MOST_ROWS;
 
 /// The refusal's number or the verdict's, place or yes, kept, room, the visits of the complements and of the sweep, and the values of
 /// each variable that were newly numbered.
@@ -95,9 +91,8 @@ fn visits(rows: &[u32], nodes: &[u32], refs: &[u32], kept: u32) -> (u32, u32) {
 fn packed(state: &State) -> [u32; STATE_NUMBERS] {
     let mut numbers = [0; STATE_NUMBERS];
     numbers[..3].copy_from_slice(&[state.k, state.rows, state.kept]);
-    numbers[3..REFS].copy_from_slice(&state.counts);
-    numbers[REFS..SIZES].copy_from_slice(&state.refs);
-    numbers[SIZES..].copy_from_slice(&state.sizes);
+    numbers[3..3 + VARIABLES].copy_from_slice(&state.counts);
+    numbers[3 + VARIABLES..].copy_from_slice(&state.refs);
     numbers
 }
 
@@ -108,9 +103,8 @@ fn unpacked(numbers: &[u32; STATE_NUMBERS]) -> State {
         kept: numbers[2],
         ..State::ZERO
     };
-    state.counts.copy_from_slice(&numbers[3..REFS]);
-    state.refs.copy_from_slice(&numbers[REFS..SIZES]);
-    state.sizes.copy_from_slice(&numbers[SIZES..]);
+    state.counts.copy_from_slice(&numbers[3..3 + VARIABLES]);
+    state.refs.copy_from_slice(&numbers[3 + VARIABLES..]);
     state
 }
 
@@ -293,20 +287,19 @@ mod tests {
     fn a_state_or_an_answer_of_another_length_is_turned_down() {
         for (state_len, answer_len) in [
             (0, 10),
-            (71, 10),
-            (134, 10),
-            (136, 10),
-            (135, 0),
-            (135, 6),
-            (135, 9),
-            (135, 11),
+            (70, 10),
+            (72, 10),
+            (71, 0),
+            (71, 6),
+            (71, 9),
+            (71, 11),
         ] {
             assert_eq!(start_with(state_len, answer_len), (false, false));
             for facts_len in [0, 5, 45] {
                 assert_eq!(event_with(state_len, answer_len, facts_len), (false, false));
             }
         }
-        assert_eq!(start_with(135, 10), (true, true));
+        assert_eq!(start_with(71, 10), (true, true));
     }
 
     #[test]
@@ -328,18 +321,10 @@ mod tests {
             };
             (called, answer.iter().any(|&number| number != LEFT))
         };
-        for (state_len, answer_len) in [
-            (0, 2),
-            (71, 2),
-            (134, 2),
-            (136, 2),
-            (135, 0),
-            (135, 1),
-            (135, 3),
-        ] {
+        for (state_len, answer_len) in [(0, 2), (70, 2), (72, 2), (71, 0), (71, 1), (71, 3)] {
             assert_eq!(looked_up(state_len, answer_len), (false, false));
         }
-        assert_eq!(looked_up(135, 2), (true, true));
+        assert_eq!(looked_up(71, 2), (true, true));
     }
 
     #[test]
@@ -347,7 +332,7 @@ mod tests {
         for facts_len in (0..=60).chain([5001, 5000]) {
             let called = facts_len % FACT_NUMBERS == 0;
             assert_eq!(
-                event_with(135, 10, facts_len),
+                event_with(71, 10, facts_len),
                 (called, called),
                 "{facts_len}"
             );

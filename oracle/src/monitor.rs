@@ -6,7 +6,6 @@ use crate::numbering::{numbers, Lists};
 use crate::refusals::{at_event, at_start, in_state, work_used, Refusal};
 use crate::room::room;
 use crate::rows::{Rule, VARIABLES};
-use crate::sizes::sizes;
 use crate::table::{met_by_exists, step, turns, Shape, Table};
 
 /// The three calls. A compared monitor stands behind these.
@@ -172,7 +171,6 @@ fn judged(asked: Asked, after: &[Table], room: u32) -> Judged {
         kept: nodes.len() as u32 / 3,
         counts: asked.lists_after.counts(),
         refs: State::ZERO.refs,
-        sizes: sizes(&asked.shape, after),
         ..*asked.state
     };
     state.refs[..references.len()].copy_from_slice(&references);

@@ -52,9 +52,6 @@ impl Trial {
                 compare(disturbed, subject, coverage)?;
                 if let ([], [clause]) = (&clauses(neighbour)[..], &clauses(disturbed)[..]) {
                     coverage.add(&format!("event refused 4, {clause:?} alone"));
-                    if *clause == Clause::SizeOfRow {
-                        other_sizes(neighbour, disturbed, coverage);
-                    }
                 }
             }
             Trial::AtRoom { enough, short } => {
@@ -103,29 +100,6 @@ fn clauses(case: &Case) -> Vec<Clause> {
     }
 }
 
-/// How the sizes of a disturbed state differ from those that fit.
-fn other_sizes(neighbour: &Case, disturbed: &Case, coverage: &mut Coverage) {
-    let [fit, other] = [neighbour, disturbed].map(|case| match case.begin {
-        Begin::Given(state) => state.sizes,
-        Begin::Start { .. } => unreachable!("a disturbed case has a state"),
-    });
-    let differ: Vec<usize> = (0..fit.len())
-        .filter(|&row| fit[row] != other[row])
-        .collect();
-    match differ[..] {
-        [row] if other[row].checked_sub(1) == Some(fit[row]) => {
-            coverage.add("event refused 4, a size one more alone");
-        }
-        [row] if fit[row].checked_sub(1) == Some(other[row]) => {
-            coverage.add("event refused 4, a size one less alone");
-        }
-        [one, two] if other[one] == fit[two] && other[two] == fit[one] => {
-            coverage.add("event refused 4, two rows' sizes exchanged alone");
-        }
-        _ => {}
-    }
-}
-
 fn seen_alike(
     plain: &[Left],
     disguised: &[Left],
@@ -169,9 +143,6 @@ fn same_in_any_order(
 ) -> Result<(), String> {
     for (one, other) in one.iter().zip(other) {
         facts::reordered(coverage, one.answer, other.answer);
-        if one.state.sizes != other.state.sizes {
-            coverage.add("reordered log with other sizes");
-        }
         let told = |what: &str| Err(format!("another order, {what}: {one:?} and {other:?}"));
         match (one.answer, other.answer) {
             (

@@ -5,7 +5,6 @@ use std::collections::{BTreeSet, HashSet};
 use crate::event::State;
 use crate::numbering::numbers;
 use crate::rows::{Rule, VARIABLES};
-use crate::sizes::led_to;
 
 /// The clauses of refusal 4, the node rules one by one.
 #[derive(Clone, Copy, Debug, PartialEq, Eq, Hash, PartialOrd, Ord)]
@@ -23,8 +22,6 @@ pub enum Clause {
     NodeOutOfOrder,
     NodeOfNoRow,
     LevelOutsideFree,
-    SizeOfRow,
-    SizePastRows,
     NodeRest,
     ValueCount,
     ValueRest,
@@ -46,8 +43,6 @@ pub fn broken(state: &State, rule: &Rule, nodes: &[u32], values: &[u32]) -> BTre
     note(state.rows as usize != rule.rows.len(), Clause::RowCount);
     note(past_kept, Clause::RowReferencePastKept);
     note(some_number(rest), Clause::ReferencePastRows);
-    let (sizes, rest) = state.sizes.split_at(rule.rows.len());
-    note(some_number(rest), Clause::SizePastRows);
     let more = state.kept as usize > nodes.len() / 3;
     if !note(more, Clause::MoreKeptThanNodes) {
         let (kept, rest) = nodes.split_at(3 * state.kept as usize);
@@ -62,7 +57,6 @@ pub fn broken(state: &State, rule: &Rule, nodes: &[u32], values: &[u32]) -> BTre
         if unwalkable.iter().all(|clause| !found.contains(clause)) {
             found.extend(broken_order(references, kept));
             found.extend(broken_levels(state.k, references, rule, kept));
-            found.extend(broken_sizes(references, sizes, kept));
         }
     }
     found.extend(broken_values(state, values));
@@ -143,12 +137,6 @@ fn broken_levels(k: u32, references: &[u32], rule: &Rule, kept: &[u32]) -> Optio
     };
     let mut rows = references.iter().enumerate();
     rows.any(outside).then_some(Clause::LevelOutsideFree)
-}
-
-fn broken_sizes(references: &[u32], sizes: &[u32], kept: &[u32]) -> Option<Clause> {
-    let misfit = |(&reference, &size): (&u32, &u32)| led_to(kept, reference) != size;
-    let mut rows = references.iter().zip(sizes);
-    rows.any(misfit).then_some(Clause::SizeOfRow)
 }
 
 fn broken_values(state: &State, values: &[u32]) -> Vec<Clause> {

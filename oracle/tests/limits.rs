@@ -63,8 +63,6 @@ fn another_number_is_told() {
         ("answer yes, kept 4, room 4", "answer no, kept 4, room 4"),
         ("refs 0 0 1 3 3 5 0 0 1", "refs 0 0 1 3 3 5 0 0 1 1"),
         ("counts 1, ", ""),
-        ("sizes 0 0 0 2 2 2 0 0 0", "sizes 0 0 0 2 2 3 0 0 0"),
-        (", sizes 0 0 0 2 2 2 0 0 0", ""),
         (
             "nodes 1 1 0; 0 2 0; 1 0 1; 0 4 1",
             "nodes 1 1 0; 0 2 0; 1 0 1",

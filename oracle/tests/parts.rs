@@ -168,7 +168,7 @@ fn followed(shape: &Shape, kept: &[u32], reference: u32, index: usize) -> Option
 }
 
 /// A state is well formed if its rows show functions of their free variables, these laid out anew give the same
-/// nodes and references, each row's by itself as many nodes as its size, and its lists are as they should be.
+/// nodes and references, and its lists are as they should be.
 fn well_formed_by_layout(state: &State, rule: &Rule, nodes: &[u32], values: &[u32]) -> bool {
     let shape = Shape::new(state.k, rule);
     let rows = rule.rows.len();
@@ -196,10 +196,6 @@ fn well_formed_by_layout(state: &State, rule: &Rule, nodes: &[u32], values: &[u3
         tables.push(Table(table));
     }
     let (laid_out, references) = lay_out(&shape, &tables);
-    let alone = tables.iter().map(|table| {
-        let (nodes, _) = lay_out(&shape, std::slice::from_ref(table));
-        nodes.len() as u32 / 3
-    });
     let lists = values.chunks(values.len() / 4).zip(state.counts);
     let right = |(list, count): (&[u32], u32)| {
         let count = count as usize;
@@ -209,11 +205,9 @@ fn well_formed_by_layout(state: &State, rule: &Rule, nodes: &[u32], values: &[u3
     };
     laid_out == kept
         && references == state.refs[..rows]
-        && alone.eq(state.sizes[..rows].iter().copied())
         && rest
             .iter()
             .chain(&state.refs[rows..])
-            .chain(&state.sizes[rows..])
             .all(|&number| number == 0)
         && lists.into_iter().all(right)
 }

@@ -8,11 +8,11 @@ use native.Mathlib.Nat.{eq-or-lt-of-le, mul-le-mul-right}
 use native.Mathlib.Omega.{arith}
 use lib.ListN.{length, getD, set, replicate, length-set, length-replicate, getD-replicate, List·getD-eq-default}
 use lib.Seq.{ext-getD, getD-set-same, getD-set-other}
-use Rattle.trees.specs.Bits.{Bits, Function, number}
+use Rattle.trees.specs.Bits.{Bits, Function, number, write}
 use Rattle.trees.specs.Tree.{Tree, off, eval, Fine}
 use Rattle.trees.specs.Table.{at, treesOf}
 use Rattle.trees.proofs.Tests.{lt-or-ge}
-use Rattle.trees.proofs.BitsLaws.{Outside, number-agree, number-lt, write, write-outside, write-number}
+use Rattle.trees.proofs.BitsLaws.{Outside, number-agree, number-lt, write-outside, write-number}
 use Rattle.nodes.specs.Nodes.{Table}
 use Rattle.binding.specs.First.{Order, shown, Shows, First}
 use Rattle.binding.specs.Fixing.{Meets, Free, can, Fixes}

@@ -13,12 +13,14 @@ use Rattle.trees.proofs.TreeLaws.{fine-off}
 use Rattle.trees.proofs.ShowLaws.{sound-nil, sound-adds, show-length}
 use Rattle.meaning.specs.Qtl.{Fact}
 use Rattle.meaning.specs.Rows.{Row, truth}
-use Rattle.meaning.specs.Numbering.{Lists, askFacts}
-use Rattle.meaning.specs.Step.{rowTrees, Shown, step, roomOf}
+use Rattle.meaning.specs.Numbering.{Lists, isShort, askedFacts}
+use Rattle.meaning.specs.Forgetting.{spared}
+use Rattle.meaning.specs.Step.{saysAt, rowTrees, Shown, nextLists, step, roomOf}
 use Rattle.meaning.specs.Tables.{padded, keptTable, layState, layNodes}
 use Rattle.meaning.specs.Outcome as Meant
 use Rattle.meaning.proofs.RowsLaws.{RowOk, RowsOk}
-use Rattle.meaning.proofs.AskingLaws.{DistinctL, CoveredBy, Covers, covers-row, covers-rest, askFacts-distinct, askFacts-covers}
+use Rattle.meaning.proofs.AskingLaws.{DistinctL, CoveredBy, Covers}
+use Rattle.meaning.proofs.ForgettingLaws.{after-distinct, after-covers}
 use Rattle.meaning.proofs.Simulation.{Enough}
 use Rattle.meaning.proofs.StepLaws.{AllFine, fine-rows, trees-length}
 use Rattle.diagram.specs.declared.Instruction.the-variants.{Yes}
@@ -38,30 +40,37 @@ row-at (r ∷ rs) n o (suc i) h = subst (λ (m : ℕ). RowOk m (getD rs i truth)
 -- the facts cover a rule's row at a place
 covered-at : (es : List Fact) (L : Lists) (rs : List Row) → Covers es L rs → (i : ℕ) → i < length rs → CoveredBy es L (getD rs i truth)
 covered-at es L [] c i h = absurd (omega arith)
-covered-at es L (r ∷ rs) c zero h = covers-row es L r rs c
-covered-at es L (r ∷ rs) c (suc i) h = covered-at es L rs (covers-rest es L r rs c) i (omega arith)
+covered-at es L (r ∷ rs) c zero h = (c .0)
+covered-at es L (r ∷ rs) c (suc i) h = covered-at es L rs (c .1) i (omega arith)
 
 module _ (k C : ℕ) (pos : 0 < k) (rule : List Row) (ok : RowsOk 0 rule) (before : Shown) (es : List Fact) (fine : AllFine (4 * k) (before .trees))
-    (distinct : DistinctL (before .lists)) (enough : Enough k (askFacts es (before .lists) rule))
-    (plan : List Task) (planned : (i : ℕ) → i < length rule → getD plan i (does Yes) ≡ taskOf (askFacts es (before .lists) rule) es (getD rule i truth)) where
+    (distinct : DistinctL (before .lists)) (enough : Enough k (nextLists k rule before es))
+    (short : (v : ℕ) → v < 4 → isShort (spared k rule (saysAt (before .trees)) es (before .lists) v) (askedFacts v es rule) ≡ false)
+    (plan : List Task) (planned : (i : ℕ) → i < length rule → getD plan i (does Yes) ≡ taskOf (nextLists k rule before es) es (getD rule i truth)) where
   abbrev after : Shown
   after = step k rule before es
+
+  next-distinct : DistinctL (nextLists k rule before es)
+  next-distinct = after-distinct k rule (saysAt (before .trees)) es (before .lists) distinct
+
+  next-covers : Covers es (nextLists k rule before es) rule
+  next-covers = after-covers k rule (saysAt (before .trees)) es (before .lists) ok short
 
   -- the diagrams of the step are those that the plan works
   pub plan-trees : newTrees k plan (before .trees) (length rule) ≡ step k rule before es .trees
   unfolding step newTrees
   plan-trees =
       ap (newTrees k plan (before .trees)) (let z : length rule ≡ 0 + length rule = omega arith in z)
-      ∙ sym (new-rows k (askFacts es (before .lists) rule) (askFacts-distinct es rule (before .lists) distinct) enough es plan (before .trees) rule 0 ok (askFacts-covers es rule (before .lists))
-      (λ j h. subst (λ (i : ℕ). getD plan i (does Yes) ≡ taskOf (askFacts es (before .lists) rule) es (getD rule j truth)) (let z : j ≡ 0 + j = omega arith in z) (planned j h)))
+      ∙ sym (new-rows k (nextLists k rule before es) next-distinct enough es plan (before .trees) rule 0 ok next-covers
+      (λ j h. subst (λ (i : ℕ). getD plan i (does Yes) ≡ taskOf (nextLists k rule before es) es (getD rule j truth)) (let z : j ≡ 0 + j = omega arith in z) (planned j h)))
 
   after-fine : AllFine (4 * k) (step k rule before es .trees)
   unfolding step
-  after-fine = fine-rows k (askFacts es (before .lists) rule) es (before .trees) fine rule [] (λ i. fine-off 0 (4 * k))
+  after-fine = fine-rows k (nextLists k rule before es) es (before .trees) fine rule [] (λ i. fine-off 0 (4 * k))
 
   after-count : length (step k rule before es .trees) ≡ length rule
   unfolding step
-  after-count = trees-length k (askFacts es (before .lists) rule) es (before .trees) fine rule [] ∙ (let z : 0 + length rule ≡ length rule = omega arith in z)
+  after-count = trees-length k (nextLists k rule before es) es (before .trees) fine rule [] ∙ (let z : 0 + length rule ≡ length rule = omega arith in z)
 
   -- the working table has the room of the event
   pub plan-room : (refs ns : List ℕ) (kept : ℕ) → before .trees ≡ diagrams ns kept refs (length rule) → addTrees [] (before .trees) ≡ treesOf ns kept
@@ -69,14 +78,14 @@ module _ (k C : ℕ) (pos : 0 < k) (rule : List Row) (ok : RowsOk 0 rule) (befor
   unfolding workTable
   plan-room refs ns kept d o =
       rw (sym d, sym o)
-      (work-room k pos L (askFacts-distinct es rule (before .lists) distinct) enough es plan (before .trees) rule
+      (work-room k pos L next-distinct enough es plan (before .trees) rule
       (λ i h. subst (λ (j : ℕ). RowOk j (getD rule i truth)) (let z : 0 + i ≡ i = omega arith in z) (row-at rule 0 ok i h))
-      (covered-at es L rule (askFacts-covers es rule (before .lists)))
+      (covered-at es L rule next-covers)
       planned before refl fine (rw plan-trees after-fine)
       ∙ ap (λ (ts : List Tree). roomOf k rule before es (record { lists = L; trees = ts })) plan-trees ∙ (unfold step in refl))
     where
       L : Lists
-      L = askFacts es (before .lists) rule
+      L = nextLists k rule before es
 
   -- what is laid out
   pub plan-layout : (room : ℕ) (ns w : List ℕ) → length rule ≤ 64 → length ns ≡ 3 * C → length ns / 3 ≡ C → room ≡ roomOf k rule before es (step k rule before es) → (refs sizes : List ℕ)

@@ -16,7 +16,7 @@ use Rattle.meaning.specs.Rows.{Row, truth, atom, both, neg, since, previous, ex
 use Rattle.meaning.specs.Numbering.{Lists, fits}
 use Rattle.meaning.specs.Step.{argumentsSay, factSays, atomSays, rowSays, saysAt, rowTree, rowTrees}
 use Rattle.meaning.proofs.RowsLaws.{ArgumentsOk, RowOk, RowsOk}
-use Rattle.meaning.proofs.AskingLaws.{DistinctL, Covered, CoveredBy, Covers, covers-row, covers-rest}
+use Rattle.meaning.proofs.AskingLaws.{DistinctL, Covered, CoveredBy, Covers}
 use Rattle.meaning.proofs.Simulation.{Enough, fits-of, says-matches}
 use Rattle.meaning.proofs.VerdictLaws.{some-assignment}
 use Rattle.making.specs.declared.Place.{Place}
@@ -88,6 +88,6 @@ module _ (k : ℕ) (L : Lists) (distinct : DistinctL L) (enough : Enough k L) wh
       unfolding rowTrees
       new-rows [] n o c p = ap (newTrees k plan old) (omega arith)
       new-rows (r ∷ rs) n o c p =
-          rw (sym (row-tree n r (o .0) (covers-row es L r rs c) (rw (let z : n + 0 ≡ n = omega arith in z) at (p 0 (omega arith)))))
-          (new-rows rs (suc n) (o .1) (covers-rest es L r rs c) (λ j h. rw (let z : n + suc j ≡ suc n + j = omega arith in z) at (p (suc j) (omega arith)))
+          rw (sym (row-tree n r (o .0) (c .0) (rw (let z : n + 0 ≡ n = omega arith in z) at (p 0 (omega arith)))))
+          (new-rows rs (suc n) (o .1) (c .1) (λ j h. rw (let z : n + suc j ≡ suc n + j = omega arith in z) at (p (suc j) (omega arith)))
           ∙ ap (newTrees k plan old) (omega arith))

@@ -12,7 +12,7 @@ use lib.Seq.{getD-append-seam}
 use Rattle.meaning.specs.declared.Event.{Event}
 use Rattle.meaning.specs.Qtl.{Argument, Fact}
 use Rattle.meaning.specs.Rows.{Row, truth, atom, both, neg, since, previous, exists, rowCount, rowAt, ruleOf}
-use Rattle.meaning.specs.Numbering.{Lists, askFacts}
+use Rattle.meaning.specs.Numbering.{Lists}
 use Rattle.meaning.specs.Outcome.{factsOf}
 use Rattle.meaning.proofs.RowsLaws.{rows-at, rows-length}
 use Rattle.numbers.specs.Matching.{matchesRow}
@@ -96,10 +96,10 @@ module _ (e : Event) (given : List ℕ) (count : length (factsOf e) ≡ e .count
 
 -- the plan asks of each row what the event asks of it
 pub planned-is : (raw : List ℕ) (e : Event) (given : List ℕ) (L : Lists) → length (factsOf e) ≡ e .count
-    → ((i f : ℕ) → i < rowCount raw → f < e .count → NumbersRight (factAt e f) (askFacts (factsOf e) L (ruleOf raw)) (rowAt raw i) given f)
-    → (i : ℕ) → i < length (ruleOf raw) → getD (planned raw e given) i (does Yes) ≡ taskOf (askFacts (factsOf e) L (ruleOf raw)) (factsOf e) (getD (ruleOf raw) i truth)
+    → ((i f : ℕ) → i < rowCount raw → f < e .count → NumbersRight (factAt e f) L (rowAt raw i) given f)
+    → (i : ℕ) → i < length (ruleOf raw) → getD (planned raw e given) i (does Yes) ≡ taskOf L (factsOf e) (getD (ruleOf raw) i truth)
 unfolding ruleOf
 planned-is raw e given L count n i h =
     let l : i < rowCount raw = rw rows-length at h in
     let a : getD (ruleOf raw) i truth ≡ rowAt raw i = rows-at raw (rowCount raw) i l in
-    planned-at raw e given i l ∙ asks-task e given count (askFacts (factsOf e) L (ruleOf raw)) (rowAt raw i) (λ f q. n i f l q) ∙ ap (taskOf (askFacts (factsOf e) L (ruleOf raw)) (factsOf e)) (sym a)
+    planned-at raw e given i l ∙ asks-task e given count L (rowAt raw i) (λ f q. n i f l q) ∙ ap (taskOf L (factsOf e)) (sym a)

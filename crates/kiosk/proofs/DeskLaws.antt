@@ -37,7 +37,7 @@ opened-stands =
         tables = record {
           rows-long = length-replicate {A = ℕ} 585 0;
           nodes-long = length-replicate {A = ℕ} 1536 0;
-          values-long = length-replicate {A = ℕ} 4092 0;
+          values-long = length-replicate {A = ℕ} 4220 0;
           work-long = length-replicate {A = ℕ} 9216 0;
         };
         rest = (refl, refl, refl, refl);

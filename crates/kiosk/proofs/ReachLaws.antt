@@ -10,9 +10,9 @@ use Rattle.kiosk.specs.Runs.{openedDesk, after, Reached, Answers}
 
 -- before the first block
 pub reached-first : {s : Session} → s ≡ openedSession
-    → Reached (deskOf s 0 (replicate 101 0) (replicate 585 0) (replicate 1536 0) (replicate 4092 0) (replicate 9216 0))
+    → Reached (deskOf s 0 (replicate 101 0) (replicate 585 0) (replicate 1536 0) (replicate 4220 0) (replicate 9216 0))
 unfolding after openedDesk
-reached-first e = record { blocks = []; desk-is = λ i. deskOf (e i) 0 (replicate 101 0) (replicate 585 0) (replicate 1536 0) (replicate 4092 0) (replicate 9216 0) }
+reached-first e = record { blocks = []; desk-is = λ i. deskOf (e i) 0 (replicate 101 0) (replicate 585 0) (replicate 1536 0) (replicate 4220 0) (replicate 9216 0) }
 
 -- one block more
 after-more : (d : Desk) (blocks : List (List ℕ)) (block : List ℕ) → blockDesk (after d blocks) block ≡ after d (blocks ++ (block ∷ []))

@@ -62,10 +62,10 @@ start-arrays k rows nodes values = go (decideStart k rows nodes values)
     go (refused n p) = (refl, refl, refl)
 
 -- the value slice fits its table
-listed-few : (k : ℕ) → valuesAsked k ≤ 4092
+listed-few : (k : ℕ) → valuesAsked k ≤ 4220
 listed-few k = go (ltb 10 k) refl
   where
-    go : (q : Bool) → ltb 10 k ≡ q → valuesAsked k ≤ 4092
+    go : (q : Bool) → ltb 10 k ≡ q → valuesAsked k ≤ 4220
     go true e = omega (arith, listed-none k (ltb-true 10 k e))
     go false e =
         let entry = listed-entry k (ltb-false 10 k e) in
@@ -92,7 +92,7 @@ module _ (s : Session) (rows nodes values work : List ℕ) (h : Sound s) (t : Ta
   }
 
   -- a start, by its answer
-  module _ (d : (s .ordinal ≡ 0) × (nodes ≡ replicate 1536 0) × (values ≡ replicate 4092 0) × (work ≡ replicate 9216 0)) where
+  module _ (d : (s .ordinal ≡ 0) × (nodes ≡ replicate 1536 0) × (values ≡ replicate 4220 0) × (work ≡ replicate 9216 0)) where
     ns-long : length (started s rows nodes values .nodes) ≡ 3 * s .c
     unfolding started
     ns-long = start-nodes (s .k) (take (s .rows) rows) (take (3 * s .c) nodes) (take (valuesAsked (s .k)) values) ∙ nodes-part
@@ -147,7 +147,7 @@ module _ (s : Session) (rows nodes values work : List ℕ) (h : Sound s) (t : Ta
     start-same =
         let n : take (3 * s .c) nodes ≡ replicate (3 * s .c) 0 = ap (take (3 * s .c)) (d .1) ∙ take-zeros (3 * s .c) 1536 (omega (arith, h .nodes-few)) in
         let v : take (valuesAsked (s .k)) values ≡ replicate (valuesAsked (s .k)) 0 =
-        ap (take (valuesAsked (s .k))) (d .2) ∙ take-zeros (valuesAsked (s .k)) 4092 (listed-few (s .k)) in
+        ap (take (valuesAsked (s .k))) (d .2) ∙ take-zeros (valuesAsked (s .k)) 4220 (listed-few (s .k)) in
         λ i. startReply (s .c) (take (s .rows) rows) (startOutcome (s .k) (take (s .rows) rows) (n i) (v i)) (startOutcome (s .k) (take (s .rows) rows) (n i) (v i) .answer)
 
     pub begin-shows : Replies (beginLeft s (started s rows nodes values) nodes values .after) rows (beginLeft s (started s rows nodes values) nodes values .nodes) (beginLeft s (started s rows nodes values) nodes values .values) work

@@ -10,7 +10,7 @@ use Rattle.kiosk.specs.Desks.{Desk, deskOf, blockDesk, blockPuts, Fills}
 
 -- the desk before the first block: nothing has come, and every table is 0
 unfoldable pub openedDesk : Desk
-openedDesk = deskOf openedSession 0 (replicate 101 0) (replicate 585 0) (replicate 1536 0) (replicate 4092 0) (replicate 9216 0)
+openedDesk = deskOf openedSession 0 (replicate 101 0) (replicate 585 0) (replicate 1536 0) (replicate 4220 0) (replicate 9216 0)
 
 -- the input: its blocks, one behind the other
 unfoldable pub joined : List (List ℕ) → List ℕ

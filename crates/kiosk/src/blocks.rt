@@ -21,7 +21,7 @@ fn serve(
     line: &[u8; 101],
     rows: &mut [u32; 585],
     nodes: &mut [u32; 1536],
-    values: &mut [u32; 4092],
+    values: &mut [u32; 4220],
     work: &mut [u32; 9216],
     out: &mut [u8; 76800],
     at: usize,
@@ -56,7 +56,7 @@ fn rest(
     line: &[u8; 101],
     rows: &mut [u32; 585],
     nodes: &mut [u32; 1536],
-    values: &mut [u32; 4092],
+    values: &mut [u32; 4220],
     work: &mut [u32; 9216],
     out: &mut [u8; 76800],
 ) -> Fed
@@ -85,7 +85,7 @@ pub fn lines_of(
     line: &mut [u8; 101],
     rows: &mut [u32; 585],
     nodes: &mut [u32; 1536],
-    values: &mut [u32; 4092],
+    values: &mut [u32; 4220],
     work: &mut [u32; 9216],
     out: &mut [u8; 76800],
 ) -> Fed

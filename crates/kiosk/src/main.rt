@@ -69,7 +69,7 @@ fn main() {
     let mut line = [0u8; 101];
     let mut rows = [0u32; 585];
     let mut nodes = [0u32; 1536];
-    let mut values = [0u32; 4092];
+    let mut values = [0u32; 4220];
     let mut work = [0u32; 9216];
     let mut out = [0u8; 76800];
     let mut s = session::opened();

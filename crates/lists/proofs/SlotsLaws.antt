@@ -1,4 +1,4 @@
--- Laws of the table of slots: where a search begins and how it goes on, that it ends, and how a place joins. Assumes nothing.
+-- Laws of the table of slots: where a search begins and how it goes on, that it ends, and how a taken place joins. Assumes nothing.
 use Prim.Native.Nat.{ℕ, zero, suc, _+_, _-_, _*_, _/_, _%_, _≤_, _<_}
 use mathlib.Core.Path.{_≡_, refl, sym, _∙_}
 use mathlib.Core.Bool.{Bool, true, false, cond}
@@ -12,11 +12,18 @@ use lib.Dec.{eqb, leb}
 use lib.ListN.{length, getD, set}
 use lib.Seq.{getD-set-same, getD-set-other}
 use borrow.Author.Tests.{eq-eqb, ne-eqb, le-leb, lt-leb}
-use Rattle.trees.proofs.Tests.{EqCase, equal, other, eq-case, lt-or-ge, not-true}
-use Rattle.meaning.specs.Tables.{distinct}
-use Rattle.meaning.proofs.PartsLaws.{distinct-of, of-distinct}
+use Rattle.trees.proofs.Tests.{EqCase, equal, other, eq-case, lt-or-ge, false-true, bool}
+use Rattle.meaning.specs.Tables.{isTaken}
+use Rattle.words.specs.Taken.{takenBelow}
 use Rattle.lists.specs.Slots.{mixed, slotOf, nextOf, Leads, here, later, Stands, zeros, Table, Searchable, Sought, Apart}
-use Rattle.numbers.proofs.TallyLaws.{same-or-not}
+
+-- a number is another one, or not
+pub same-or-not : (i j : ℕ) → (i ≡ j) ⊎ (i ≡ j → ⊥)
+same-or-not i j = go (eqb i j) (eq-case i j)
+  where
+    go : (b : Bool) → EqCase i j b → (i ≡ j) ⊎ (i ≡ j → ⊥)
+    go true (equal e) = inl e
+    go false (other n) = inr n
 
 -- the bits that are mixed stay a number of 32 bits
 pub turned : (low : ℕ) → low < 4294967296 → bitXor low (low / 32768) < 4294967296
@@ -104,6 +111,29 @@ leads-next : (work : List ℕ) (size t p : ℕ) → Leads work size t p → (p �
 leads-next work size t p (here q f) = inl f
 leads-next work size t p (later q n l) = inr l
 
+-- how many numbers are taken: one more, and no more
+pub below-one : (words : List ℕ) (n : ℕ) → isTaken words n ≡ true → takenBelow (n + 1) words ≡ takenBelow n words + 1
+unfolding takenBelow
+below-one words n e = rw (add-one n, e)
+
+pub below-same : (words : List ℕ) (n d : ℕ) → ((i : ℕ) → n ≤ i → i < n + d → isTaken words i ≡ false) → takenBelow (n + d) words ≡ takenBelow n words
+unfolding takenBelow
+below-same words n zero none = let z : n + 0 ≡ n = omega arith in rw z
+below-same words n (suc d) none =
+    let z : n + suc d ≡ suc (n + d) = omega arith in
+    rw (z, none (n + d) (omega arith) (omega arith), below-same words n d (λ i h k. none i h (omega arith))) (omega arith)
+
+-- no more than there are numbers, and no fewer further on
+pub below-le : (words : List ℕ) (n : ℕ) → takenBelow n words ≤ n
+unfolding takenBelow
+below-le words zero = omega arith
+below-le words (suc n) = ⊎-elim (λ e. rw e (omega (arith, below-le words n))) (λ e. rw e (omega (arith, below-le words n))) (bool (isTaken words n))
+
+pub below-grows : (words : List ℕ) (n d : ℕ) → takenBelow n words ≤ takenBelow (n + d) words
+unfolding takenBelow
+below-grows words n zero = let z : n + 0 ≡ n = omega arith in rw z (omega arith)
+below-grows words n (suc d) = let z : n + suc d ≡ suc (n + d) = omega arith in rw z (omega (arith, below-grows words n d))
+
 -- the search for the value at place n stands at the slot p, which has q: the earlier places of the value are still ahead
 pub record Searching (list work : List ℕ) (size n p q : ℕ) : Type 0 where
   pub low : p < size
@@ -112,7 +142,7 @@ pub record Searching (list work : List ℕ) (size n p q : ℕ) : Type 0 where
   pub way : Leads work size p (slotOf size (getD list n 0))
   pub ahead : (t i : ℕ) → getD work t 0 ≡ suc i → getD list i 0 ≡ getD list n 0 → Leads work size t (slotOf size (getD list n 0)) → Leads work size t p
 
-module _ (list work : List ℕ) (size n : ℕ) (s : Searchable list work size n) where
+module _ (list words work : List ℕ) (size n : ℕ) (s : Searchable list words work size n) where
   pub begin : (p : ℕ) → p ≡ slotOf size (getD list n 0) → p < size → Searching list work size n p (getD work p 0)
   begin p e h = record {
     low = h;
@@ -146,28 +176,29 @@ module _ (list work : List ℕ) (size n : ℕ) (s : Searchable list work size n)
         rw z (nearer size (vacancy work size) p (v .0) (a .low) (λ e. some h (rw e (v .1))))
 
     -- it ends at a slot that has a place of the value, or at a free one
-    pub sought-one : (q ≡ 0 → ⊥) → getD list (q - 1) 0 ≡ getD list n 0 → Sought list work size n p
+    pub sought-one : (q ≡ 0 → ⊥) → getD list (q - 1) 0 ≡ getD list n 0 → Sought list words work size n p
     sought-one h e = record {
       inside = a .low;
       reached = a .way;
-      met = λ f. (q - 1, omega (arith, a .place, h), e);
+      met = λ f. (q - 1, omega (arith, a .place, h), s .table .taken p (q - 1) (a .low) (sym (a .held) ∙ omega (arith, h)), e);
       new = λ f. absurd (some h f);
     }
 
-    pub sought-none : q ≡ 0 → Sought list work size n p
+    pub sought-none : q ≡ 0 → Sought list words work size n p
     sought-none h = record {
       inside = a .low;
       reached = a .way;
       met = λ f. absurd (f (sym (a .held) ∙ h));
-      new = λ f i k e.
-          let st = s .table .stands i k in
+      new = λ f i k g e.
+          let st = s .table .stands i k g in
           let z = leads-free work size (st .0) p f (a .ahead (st .0) i (st .1 .place) e (rw e at (st .1 .reached))) in
           let w : getD work p 0 ≡ suc i = rw z (st .1 .place) in
           omega (arith, w);
     }
 
 -- the place n joins at the free slot p, at which the search for its value has ended
-module _ (list work : List ℕ) (size n p : ℕ) (s : Searchable list work size n) (r : Sought list work size n p) (none : getD work p 0 ≡ 0) where
+module _ (list words work : List ℕ) (size n p : ℕ) (s : Searchable list words work size n) (r : Sought list words work size n p)
+    (none : getD work p 0 ≡ 0) (here-taken : isTaken words n ≡ true) where
   new : List ℕ
   new = set work p (n + 1)
 
@@ -193,10 +224,16 @@ module _ (list work : List ℕ) (size n p : ℕ) (s : Searchable list work size 
       (λ e. rw (place-old t e) (omega (arith, s .table .places t h)))
       (same-or-not t p)
 
-  stands-more : (i : ℕ) → i < n + 1 → (t : ℕ) × Stands list new size i t
-  stands-more i h = ⊎-elim
+  taken-more : (t i : ℕ) → t < size → getD new t 0 ≡ suc i → isTaken words i ≡ true
+  taken-more t i h e = ⊎-elim
+      (λ q. let z : t ≡ p = q in let y : n + 1 ≡ suc i = sym place-new ∙ rw z at e in let x : i ≡ n = omega arith in rw x here-taken)
+      (λ q. s .table .taken t i h (sym (place-old t q) ∙ e))
+      (same-or-not t p)
+
+  stands-more : (i : ℕ) → i < n + 1 → isTaken words i ≡ true → (t : ℕ) × Stands list new size i t
+  stands-more i h g = ⊎-elim
       (λ k.
-      let st = s .table .stands i k in
+      let st = s .table .stands i k g in
       let away : st .0 ≡ p → ⊥ = λ e. let w : getD work p 0 ≡ suc i = rw e at (st .1 .place) in omega (arith, w) in
       (st .0, record { inside = st .1 .inside; place = place-old (st .0) away ∙ st .1 .place; reached = still (st .0) (slotOf size (getD list i 0)) (st .1 .reached) }))
       (λ k.
@@ -204,35 +241,42 @@ module _ (list work : List ℕ) (size n p : ℕ) (s : Searchable list work size 
       (p, record { inside = r .inside; place = rw z (place-new ∙ add-one n); reached = rw z (still p (slotOf size (getD list n 0)) (r .reached)) }))
       (lt-or-ge i n)
 
-  pub table-more : Table list (set work p (n + 1)) size (n + 1)
+  pub table-more : Table list words (set work p (n + 1)) size (n + 1)
   unfolding new
   table-more = record {
     places = places-more;
+    taken = taken-more;
     stands = stands-more;
-    free = let z = zeros-less work size p (n + 1) (r .inside) (omega (arith, r .inside, s .inside)) none (λ e. omega arith) in omega (arith, z, s .table .free);
+    free =
+        let z = zeros-less work size p (n + 1) (r .inside) (omega (arith, r .inside, s .inside)) none (λ e. omega arith) in
+        omega (arith, z, s .table .free, below-one words n here-taken);
   }
 
   -- its value is none of the earlier ones
-  pub apart-more : Apart list n → Apart list (n + 1)
-  apart-more a i j h k e = ⊎-elim
-      (λ p. a i j p k e)
-      (λ p. let z : i ≡ n = omega arith in r .new none j (omega arith) (sym (rw z at e)))
+  pub apart-more : Apart list words n → Apart list words (n + 1)
+  apart-more a i j h k f g e = ⊎-elim
+      (λ p. a i j p k f g e)
+      (λ p. let z : i ≡ n = omega arith in r .new none j (omega arith) g (sym (rw z at e)))
       (lt-or-ge i n)
 
 -- no place stands in a table whose slots are all free
-pub table-none : (list work : List ℕ) (size : ℕ) → ((t : ℕ) → t < size → getD work t 0 ≡ 0) → Table list work size 0
-table-none list work size z = record {
+pub table-none : (list words work : List ℕ) (size : ℕ) → ((t : ℕ) → t < size → getD work t 0 ≡ 0) → Table list words work size 0
+unfolding takenBelow
+table-none list words work size z = record {
   places = λ t h. omega (arith, z t h);
-  stands = λ i h. absurd (omega arith);
+  taken = λ t i h e. absurd (omega (arith, z t h, e));
+  stands = λ i h g. absurd (omega arith);
   free = omega (arith, zeros-all work size z);
 }
 
--- all values differ, or one stands twice
-pub apart-distinct : (list : List ℕ) (n : ℕ) → n ≡ length list → Apart list n → true ≡ distinct list
-apart-distinct list n z a = sym (of-distinct list (λ i j p q e. ⊎-elim
-    (λ h. absurd (a j i (omega arith) h (sym e)))
-    (λ h. ⊎-elim (λ k. absurd (a i j (omega arith) k e)) (λ k. omega arith) (lt-or-ge j i))
-    (lt-or-ge i j)))
+-- places that are not taken join without a slot
+pub table-skip : (list words work : List ℕ) (size n m : ℕ) → n ≤ m → ((i : ℕ) → n ≤ i → i < m → isTaken words i ≡ false) → Table list words work size n → Table list words work size m
+table-skip list words work size n m h none t = record {
+  places = λ i k. omega (arith, t .places i k);
+  taken = t .taken;
+  stands = λ i k g. ⊎-elim (λ l. t .stands i l g) (λ l. absurd (false-true (none i l k) g)) (lt-or-ge i n);
+  free = let z : n + (m - n) ≡ m = omega arith in let y = below-same words n (m - n) (λ i k l. none i k (omega arith)) in omega (arith, rw z at y, t .free);
+}
 
-pub twice-distinct : (list : List ℕ) (i j : ℕ) → i < j → j < length list → getD list i 0 ≡ getD list j 0 → false ≡ distinct list
-twice-distinct list i j h k e = sym (not-true (distinct list) (λ t. let z = distinct-of list t i j (omega arith) k e in omega arith))
+pub apart-skip : (list words : List ℕ) (n m : ℕ) → ((i : ℕ) → n ≤ i → i < m → isTaken words i ≡ false) → Apart list words n → Apart list words m
+apart-skip list words n m none a i j h k f g e = ⊎-elim (λ l. a i j l k f g e) (λ l. absurd (false-true (none i l h) f)) (lt-or-ge i n)

@@ -1,200 +1,201 @@
--- Laws of writing fresh values into the value slice, and of the lowest variable that is short. Assumes nothing.
-use Prim.Native.Nat.{ℕ, zero, suc, _+_, _-_, _*_, _≤_, _<_, min}
+-- Laws of writing the words and the asked values of one variable. Assumes nothing.
+use Prim.Native.Nat.{ℕ, _+_, _-_, _*_, _/_, _%_, _^_, _≤_, _<_}
 use mathlib.Core.Path.{_≡_, refl, ap, sym, _∙_}
-use mathlib.Core.Bool.{Bool, true, false}
-use mathlib.Core.List.{List, [], _∷_, _++_, append-assoc, append-nil}
-use mathlib.Core.Logic.{⊎-elim}
-use native.Mathlib.Nat.{suc-add, zero-add}
-use native.Mathlib.Numerals.{add-one}
+use mathlib.Core.Bool.{Bool, true, false, cond, not, _&&_}
+use mathlib.Core.List.{List}
+use mathlib.Core.Logic.{_⊎_, inl, inr, ⊎-elim}
 use native.Mathlib.Omega.{arith}
-use lib.ListN.{length, getD, take, drop, set, replicate, length-append, length-drop, List·getD-map}
-use lib.Seq.{set-append-left, set-append-seam, take-suc, getD-drop, length-take-le}
+use lib.Dec.{eqb, leb}
+use lib.ListN.{length, getD, drop, set}
+use lib.Seq.{getD-take, getD-drop, getD-set-same, getD-set-other}
+use borrow.Author.Tests.{le-leb, lt-leb}
 use Rattle.trees.proofs.Tests.{lt-or-ge, false-true}
-use Rattle.meaning.specs.Rows.{firstBelow}
-use Rattle.meaning.specs.Numbering.{Lists}
-use Rattle.meaning.specs.Tables.{most, padded, layValues}
-use Rattle.meaning.proofs.RowsLaws.{first-le, first-none, first-some}
-use Rattle.meaning.proofs.PartsLaws.{padded-length}
-use Rattle.meaning.specs.declared.Value.{Value}
-use Rattle.numbers.specs.Asking.{bare, withFresh}
-use Rattle.lists.specs.Writing.{written}
-use Rattle.numbers.proofs.TallyLaws.{same-or-not}
+use Rattle.meaning.specs.Tables.{part, isTaken}
+use Rattle.words.proofs.EntriesLaws.{Small}
+use Rattle.words.proofs.TakenLaws.{taken-at}
+use Rattle.lists.specs.Writing.{hasBit, WordAt, WordWritten, Same, WordsAt, WordsWritten, IsFound, ValuesAt, ValuesWritten}
+use Rattle.lists.proofs.FreeLaws.{bit-past}
+use Rattle.lists.proofs.PartLaws.{part-inside, part-before}
+use Rattle.lists.proofs.SlotsLaws.{same-or-not}
 
--- the least number of which a test holds is the one before which it fails
-pub first-is : (n : ℕ) (f : ℕ → Bool) (r : ℕ) → r ≤ n → ((i : ℕ) → i < r → f i ≡ false) → (r < n → f r ≡ true) → firstBelow n f ≡ r
-first-is n f r h none some = ⊎-elim
-    (λ p. absurd (false-true (none (firstBelow n f) p) (first-some n f (omega arith))))
-    (λ p. ⊎-elim (λ q. absurd (false-true (first-none n f r q) (some (omega (arith, first-le n f))))) (λ q. omega arith) (lt-or-ge r (firstBelow n f)))
-    (lt-or-ge (firstBelow n f) r)
+-- the words of the variable v, of four
+pub part-word : (xs : List ℕ) (v u : ℕ) → u < 32 → getD (part 32 xs v) u 0 ≡ getD xs (32 * v + u) 0
+unfolding part
+part-word xs v u h = let z : v * 32 + u ≡ 32 * v + u = omega arith in getD-take 32 (drop (v * 32) xs) u 0 h ∙ getD-drop (v * 32) xs u 0 ∙ ap (λ (i : ℕ). getD xs i 0) z
 
--- a store behind a list
-set-right : (xs ys : List ℕ) (i a : ℕ) → set (xs ++ ys) (length xs + i) a ≡ xs ++ set ys i a
-set-right [] ys i a = rw (zero-add i)
-set-right (x ∷ xs) ys i a = rw (suc-add (length xs) i) (ap (λ (l : List ℕ). x ∷ l) (set-right xs ys i a))
+pub part-taken : (xs : List ℕ) (v u j : ℕ) → u < 32 → j < 32 → isTaken (part 32 xs v) (32 * u + j) ≡ hasBit (getD xs (32 * v + u) 0) j
+unfolding hasBit
+part-taken xs v u j h k = taken-at (part 32 xs v) u j k ∙ ap (λ (x : ℕ). eqb (x / 2 ^ j % 2) 1) (part-word xs v u h)
 
-set-past : (xs ys : List ℕ) (m i a : ℕ) → length xs ≡ m → set (xs ++ ys) (m + i) a ≡ xs ++ set ys i a
-set-past xs ys m i a e = rw (← e) (set-right xs ys i a)
+-- the entries of other variables, and the words, stand outside of the variable's own entries
+abbrev pub Outside : ℕ → ℕ → ℕ → Type 0
+Outside m v i = (i < v * m) ⊎ (v * m + m ≤ i)
 
--- a value written behind a padded list
-padded-set : (m : ℕ) (xs : List ℕ) (y : ℕ) → length xs < m → set (padded m xs) (length xs) y ≡ padded m (xs ++ y ∷ [])
-unfolding padded
-padded-set m xs y h =
-    let e : m - length xs ≡ suc (m - suc (length xs)) = omega arith in
-    let f : length (xs ++ y ∷ []) ≡ suc (length xs) = length-append xs (y ∷ []) ∙ add-one (length xs) in
-    rw (e, f, set-append-seam xs 0 (replicate (m - suc (length xs)) 0) y) (sym (append-assoc xs (y ∷ []) (replicate (m - suc (length xs)) 0)))
+pub entry-outside : (m v w n : ℕ) → (w ≡ v → ⊥) → n < m → Outside m v (w * m + n)
+entry-outside m v w n h k = ⊎-elim (λ l. inl (omega (arith, part-before w v m l))) (λ l. inr (omega (arith, part-before v w m (omega (arith, h))))) (lt-or-ge w v)
 
--- what is laid out depends on the four lists alone
-pub lay-same : (k : ℕ) (L M : Lists) → ((v : ℕ) → v < 4 → L v ≡ M v) → layValues k L ≡ layValues k M
-unfolding layValues
-lay-same k L M e = rw (e 0 (omega arith), e 1 (omega arith), e 2 (omega arith), e 3 (omega arith))
+pub word-outside : (m v i : ℕ) → v < 4 → 4 * m ≤ i → Outside m v i
+word-outside m v i h k = inr (omega (arith, part-inside v m m h (omega arith)))
 
--- a store in one of four parts
-module _ (m : ℕ) (p q r s : List ℕ) (hp : length p ≡ m) (hq : length q ≡ m) (hr : length r ≡ m) (i a : ℕ) (h : i < m) where
-  set-0 : set (p ++ (q ++ (r ++ s))) (0 * m + i) a ≡ set p i a ++ (q ++ (r ++ s))
-  set-0 = let z : 0 * m + i ≡ i = omega arith in rw z (set-append-left p (q ++ (r ++ s)) i a (omega arith))
+-- The first w words are written: their entries are right, and all others are as they were.
+pub record Wording (m v : ℕ) (words before values : List ℕ) (w : ℕ) : Type 0 where
+  pub word : (u : ℕ) → u < 32 → u < w → getD values (4 * m + (32 * v + u)) 0 ≡ getD words (32 * v + u) 0
+  pub later-word : (u : ℕ) → u < 32 → w ≤ u → getD values (4 * m + (32 * v + u)) 0 ≡ getD before (4 * m + (32 * v + u)) 0
+  pub entries : (n : ℕ) → n < m → n < 32 * w → getD values (v * m + n) 0 ≡ cond (isTaken (part 32 words v) n) (getD before (v * m + n) 0) 0
+  pub later : (n : ℕ) → n < m → 32 * w ≤ n → getD values (v * m + n) 0 ≡ getD before (v * m + n) 0
+  pub others : (x : ℕ) → x < 4 → (x ≡ v → ⊥) → Same m x before values
 
-  set-1 : set (p ++ (q ++ (r ++ s))) (1 * m + i) a ≡ p ++ (set q i a ++ (r ++ s))
-  set-1 = let z : 1 * m + i ≡ m + i = omega arith in rw (z, set-past p (q ++ (r ++ s)) m i a hp, set-append-left q (r ++ s) i a (omega arith))
+module _ (m v : ℕ) (words before : List ℕ) (s : WordsAt m v words before) (small : Small before) where
+  -- the words before
+  old-taken : (u j : ℕ) → u < 32 → j < 32 → isTaken (part 32 (drop (4 * m) before) v) (32 * u + j) ≡ hasBit (getD before (4 * m + (32 * v + u)) 0) j
+  old-taken u j h k = part-taken (drop (4 * m) before) v u j h k ∙ ap (λ (x : ℕ). hasBit x j) (getD-drop (4 * m) before (32 * v + u) 0)
 
-  set-2 : set (p ++ (q ++ (r ++ s))) (2 * m + i) a ≡ p ++ (q ++ (set r i a ++ s))
-  set-2 =
-      let z : 2 * m + i ≡ m + (m + i) = omega arith in
-      rw (z, set-past p (q ++ (r ++ s)) m (m + i) a hp, set-past q (r ++ s) m i a hq, set-append-left r s i a (omega arith))
+  pub words-start : Wording m v words before before 0
+  words-start = record {
+    word = λ u h k. absurd (omega arith);
+    later-word = λ u h k. refl;
+    entries = λ n h k. absurd (omega arith);
+    later = λ n h k. refl;
+    others = λ x h k. record { entries = λ n l. refl; words = λ u l. refl };
+  }
 
-  set-3 : set (p ++ (q ++ (r ++ s))) (3 * m + i) a ≡ p ++ (q ++ (r ++ set s i a))
-  set-3 =
-      let z : 3 * m + i ≡ m + (m + (m + i)) = omega arith in
-      rw (z, set-past p (q ++ (r ++ s)) m (m + (m + i)) a hp, set-past q (r ++ s) m (m + i) a hq, set-past r s m i a hr)
+  pub words-done : (values : List ℕ) (w : ℕ) → w ≡ 32 → Wording m v words before values w → WordsWritten m v words before values
+  words-done values w e a = record {
+    word = λ u h. a .word u h (omega arith);
+    entries = λ n h. a .entries n h (omega (arith, s .small));
+    others = a .others;
+  }
 
--- a value written behind the list of the variable v
-lay-set : (k : ℕ) (L M : Lists) (v y : ℕ) → ((w : ℕ) → w < 4 → length (L w) ≤ most k) → v < 4 → length (L v) < most k → M v ≡ L v ++ y ∷ []
-    → ((w : ℕ) → w < 4 → (w ≡ v → ⊥) → M w ≡ L w) → set (layValues k L) (v * most k + length (L v)) y ≡ layValues k M
-unfolding layValues
-lay-set k L M v y fits hv room here there = go v hv room here there
-  where
-    len : (w : ℕ) → w < 4 → length (padded (most k) (L w)) ≡ most k
-    len w h = padded-length (most k) (L w) (fits w h)
+  module _ (values : List ℕ) (w : ℕ) (low : w < 32) (size : length values ≡ length before) (a : Wording m v words before values w) where
+    abbrev at : ℕ
+    at = v * m + 32 * w
 
-    go : (v : ℕ) → v < 4 → length (L v) < most k → M v ≡ L v ++ y ∷ [] → ((w : ℕ) → w < 4 → (w ≡ v → ⊥) → M w ≡ L w)
-        → set (padded (most k) (L 0) ++ (padded (most k) (L 1) ++ (padded (most k) (L 2) ++ padded (most k) (L 3)))) (v * most k + length (L v)) y
-        ≡ padded (most k) (M 0) ++ (padded (most k) (M 1) ++ (padded (most k) (M 2) ++ padded (most k) (M 3)))
-    go zero h room here there =
-        set-0 (most k) (padded (most k) (L 0)) (padded (most k) (L 1)) (padded (most k) (L 2)) (padded (most k) (L 3)) (len 0 (omega arith)) (len 1 (omega arith)) (len 2 (omega arith)) (length (L 0)) y room
-        ∙ rw (padded-set (most k) (L 0) y room, here, there 1 (omega arith) (λ e. omega arith), there 2 (omega arith) (λ e. omega arith), there 3 (omega arith) (λ e. omega arith))
-    go (suc zero) h room here there =
-        set-1 (most k) (padded (most k) (L 0)) (padded (most k) (L 1)) (padded (most k) (L 2)) (padded (most k) (L 3)) (len 0 (omega arith)) (len 1 (omega arith)) (len 2 (omega arith)) (length (L 1)) y room
-        ∙ rw (padded-set (most k) (L 1) y room, here, there 0 (omega arith) (λ e. omega arith), there 2 (omega arith) (λ e. omega arith), there 3 (omega arith) (λ e. omega arith))
-    go (suc (suc zero)) h room here there =
-        set-2 (most k) (padded (most k) (L 0)) (padded (most k) (L 1)) (padded (most k) (L 2)) (padded (most k) (L 3)) (len 0 (omega arith)) (len 1 (omega arith)) (len 2 (omega arith)) (length (L 2)) y room
-        ∙ rw (padded-set (most k) (L 2) y room, here, there 0 (omega arith) (λ e. omega arith), there 1 (omega arith) (λ e. omega arith), there 3 (omega arith) (λ e. omega arith))
-    go (suc (suc (suc zero))) h room here there =
-        set-3 (most k) (padded (most k) (L 0)) (padded (most k) (L 1)) (padded (most k) (L 2)) (padded (most k) (L 3)) (len 0 (omega arith)) (len 1 (omega arith)) (len 2 (omega arith)) (length (L 3)) y room
-        ∙ rw (padded-set (most k) (L 3) y room, here, there 0 (omega arith) (λ e. omega arith), there 1 (omega arith) (λ e. omega arith), there 2 (omega arith) (λ e. omega arith))
-    go (suc (suc (suc (suc v)))) h room here there = absurd (omega arith)
+    abbrev place : ℕ
+    place = 4 * m + (32 * v + w)
 
--- the lesser of two numbers
-min-right : (x g : ℕ) → g ≤ x → min x g ≡ g
-min-right x g h = omega arith
+    old-is : getD values place 0 ≡ getD before place 0
+    old-is = a .later-word w low (omega arith)
 
-min-left : (x g : ℕ) → x ≤ g → min x g ≡ x
-min-left x g h = omega arith
+    old-fits : getD values place 0 < 2 ^ 32
+    old-fits = rw old-is (small place)
 
--- one fresh value more is written
-pub written-none : (m b v : ℕ) (fresh values : List ℕ) → values ≡ written m b fresh v 0 values
-unfolding written
-written-none m b v fresh values = refl
+    -- a bit of the word before is a number of the variable
+    old-below : (j : ℕ) → hasBit (getD values place 0) j ≡ true → 32 * w + j < m
+    old-below j e = ⊎-elim
+        (λ h. s .below (32 * w + j) (old-taken w j low h ∙ ap (λ (x : ℕ). hasBit x j) (sym old-is) ∙ e))
+        (λ h. absurd (false-true (bit-past (getD values place 0) j old-fits h) e))
+        (lt-or-ge j 32)
 
-pub written-more : (m b v j : ℕ) (fresh : List Value) (values now : List ℕ) → now ≡ written m b (bare fresh) v j values
-    → set now (v * m + b + j) (getD fresh (24 * v + j) (record { 0 = 0 }) .0) ≡ written m b (bare fresh) v (j + 1) values
-unfolding written
-written-more m b v j fresh values now e = rw (add-one j, e, List·getD-map (λ (x : Value). x .0) fresh (24 * v + j) (record { 0 = 0 }))
+    pub word-at : WordAt at place values
+    word-at = record {
+      low = omega (arith, part-inside v m m (s .variable) (omega arith), s .small);
+      there = omega (arith, s .parts, s .variable);
+      inside = λ j e. omega (arith, part-inside v m m (s .variable) (omega arith), old-below j e);
+    }
 
--- The lists after the first t of the 96 places, of which 24 belong to each variable.
-unfoldable pub firstFresh : List ℕ → List ℕ → List ℕ → Lists → ℕ → Lists
-firstFresh before counts fresh L t v = L v ++ take (min (t - 24 * v) (getD counts v 0 - getD before v 0)) (drop (24 * v) fresh)
+    module _ (after : List ℕ) (d : WordWritten at place (getD words (32 * v + w) 0) values after) where
+      -- what stands outside of the entries is as it was
+      outside : (i : ℕ) → (i ≡ place → ⊥) → Outside m v i → getD after i 0 ≡ getD values i 0
+      outside i h o = d .each i h ∙ go (leb at i) refl (hasBit (getD values place 0) (i - at)) refl
+        where
+          go : (b : Bool) → leb at i ≡ b → (t : Bool) → hasBit (getD values place 0) (i - at) ≡ t
+              → cond (leb at i && (hasBit (getD values place 0) (i - at) && not (hasBit (getD words (32 * v + w) 0) (i - at)))) 0 (getD values i 0) ≡ getD values i 0
+          go false p t q = rw p
+          go true p false q = rw (p, q)
+          go true p true q = absurd (⊎-elim
+              (λ k. false-true (lt-leb at i (omega arith)) p)
+              (λ k. let y = old-below (i - at) q in omega arith)
+              o)
 
-module _ (k : ℕ) (before counts fresh : List ℕ) (L : Lists) (size : length fresh ≡ 96) (start : (v : ℕ) → v < 4 → length (L v) ≡ getD before v 0)
-    (few : (v : ℕ) → v < 4 → getD counts v 0 ≤ getD before v 0 + 24) (room : (v : ℕ) → v < 4 → getD counts v 0 ≤ most k)
-    (grown : (v : ℕ) → v < 4 → getD before v 0 ≤ getD counts v 0) where
-  pub fresh-none : layValues k (firstFresh before counts fresh L (24 * 0)) ≡ layValues k L
-  unfolding firstFresh
-  fresh-none = lay-same k (firstFresh before counts fresh L (24 * 0)) L (λ v h. let z : min (24 * 0 - 24 * v) (getD counts v 0 - getD before v 0) ≡ 0 = omega arith in rw z (append-nil (L v)))
+      -- an entry of the word itself
+      own : (n : ℕ) → n < m → 32 * w ≤ n → n < 32 * w + 32 → getD after (v * m + n) 0 ≡ cond (isTaken (part 32 words v) n) (getD before (v * m + n) 0) 0
+      own n h k l =
+          let i : v * m + n - (v * m + 32 * w) ≡ n - 32 * w = omega arith in
+          let y : 32 * w + (n - 32 * w) ≡ n = omega arith in
+          let new : isTaken (part 32 words v) n ≡ hasBit (getD words (32 * v + w) 0) (n - 32 * w) = ap (isTaken (part 32 words v)) (sym y) ∙ part-taken words v w (n - 32 * w) low (omega arith) in
+          let old : isTaken (part 32 (drop (4 * m) before) v) n ≡ hasBit (getD values place 0) (n - 32 * w) =
+          ap (isTaken (part 32 (drop (4 * m) before) v)) (sym y) ∙ old-taken w (n - 32 * w) low (omega arith) ∙ ap (λ (x : ℕ). hasBit x (n - 32 * w)) (sym old-is) in
+          d .each (v * m + n) (λ e. omega (arith, part-inside v m m (s .variable) (omega arith)))
+          ∙ rw (le-leb at (v * m + n) (omega arith), i, ← new, ← old, a .later n h k)
+          (by (isTaken (part 32 (drop (4 * m) before) v) n) (isTaken (part 32 words v) n) (getD before (v * m + n) 0) (s .free n h))
+        where
+          by : (o t : Bool) (x : ℕ) → (o ≡ false → x ≡ 0) → cond (true && (o && not t)) 0 x ≡ cond t x 0
+          by o true x f = go o
+            where
+              go : (o : Bool) → cond (true && (o && not true)) 0 x ≡ x
+              go true = refl
+              go false = refl
+          by true false x f = refl
+          by false false x f = f refl
 
-  pub fresh-all : (v : ℕ) → v ≡ 4 → layValues k (firstFresh before counts fresh L (24 * v)) ≡ layValues k (withFresh before counts fresh L)
-  unfolding firstFresh withFresh
-  fresh-all v e = lay-same k (firstFresh before counts fresh L (24 * v)) (withFresh before counts fresh L) (λ w h.
-      let z : min (24 * v - 24 * w) (getD counts w 0 - getD before w 0) ≡ getD counts w 0 - getD before w 0 = omega (arith, few w h) in rw z)
+      -- an entry of another word
+      past : (n : ℕ) → n < m → (n < 32 * w) ⊎ (32 * w + 32 ≤ n) → getD after (v * m + n) 0 ≡ getD values (v * m + n) 0
+      past n h o = d .each (v * m + n) (λ e. omega (arith, part-inside v m m (s .variable) (omega arith))) ∙ ⊎-elim
+          (λ k. rw (lt-leb at (v * m + n) (omega arith)))
+          (λ k. rw (le-leb at (v * m + n) (omega arith), bit-past (getD values place 0) (v * m + n - at) old-fits (omega arith)))
+          o
 
-  -- how many values of a variable stand there
-  listed-size : (t v : ℕ) → v < 4 → length (firstFresh before counts fresh L t v) ≡ getD before v 0 + min (t - 24 * v) (getD counts v 0 - getD before v 0)
-  unfolding firstFresh
-  listed-size t v h =
-      length-append (L v) _
-      ∙ rw (start v h, length-take-le (min (t - 24 * v) (getD counts v 0 - getD before v 0)) (drop (24 * v) fresh) (rw (length-drop, size) (omega (arith, few v h))))
+      word-past : (x u : ℕ) → u < 32 → (4 * m + (32 * x + u) ≡ place → ⊥) → getD after (4 * m + (32 * x + u)) 0 ≡ getD values (4 * m + (32 * x + u)) 0
+      word-past x u h k = outside (4 * m + (32 * x + u)) k (word-outside m v (4 * m + (32 * x + u)) (s .variable) (omega arith))
 
-  -- two places of the variable v leave the other variables' lists alike
-  same : (v w i j : ℕ) → w < 4 → i ≤ 24 → j ≤ 24 → (w ≡ v → ⊥) → firstFresh before counts fresh L (24 * v + i) w ≡ firstFresh before counts fresh L (24 * v + j) w
-  unfolding firstFresh
-  same v w i j h hi hj n = ⊎-elim
-      (λ p.
-      let g : getD counts w 0 - getD before w 0 ≤ 24 = omega (arith, few w h) in
-      rw (min-right (24 * v + i - 24 * w) (getD counts w 0 - getD before w 0) (omega arith), min-right (24 * v + j - 24 * w) (getD counts w 0 - getD before w 0) (omega arith)))
-      (λ p.
-      let x : 24 * v + i - 24 * w ≡ 0 = omega (arith, n) in
-      let y : 24 * v + j - 24 * w ≡ 0 = omega (arith, n) in
-      rw (x, y))
-      (lt-or-ge w v)
+      pub words-more : Wording m v words before after (w + 1)
+      words-more = record {
+        word = λ u h k. ⊎-elim
+            (λ e. let y : u ≡ w = e in rw y (d .word))
+            (λ e. word-past v u h (λ q. e (omega arith)) ∙ a .word u h (omega (arith, e)))
+            (same-or-not u w);
+        later-word = λ u h k. word-past v u h (λ q. omega arith) ∙ a .later-word u h (omega arith);
+        entries = λ n h k. ⊎-elim (λ l. past n h (inl l) ∙ a .entries n h l) (λ l. own n h l (omega arith)) (lt-or-ge n (32 * w));
+        later = λ n h k. past n h (inr (omega arith)) ∙ a .later n h (omega arith);
+        others = λ x h k. record {
+          entries = λ n l. outside (x * m + n) (λ e. omega (arith, part-inside x m m h (omega arith))) (entry-outside m v x n k l) ∙ a .others x h k .entries n l;
+          words = λ u l. word-past x u l (λ e. k (omega arith)) ∙ a .others x h k .words u l;
+        };
+      }
 
-  -- a fresh value goes to the end of its variable's list
-  module _ (v j : ℕ) (h : v < 4) (p : j < getD counts v 0 - getD before v 0) where
-    there : min (24 * v + j - 24 * v) (getD counts v 0 - getD before v 0) ≡ j
-    there = let z : 24 * v + j - 24 * v ≡ j = omega arith in rw z (min-left j (getD counts v 0 - getD before v 0) (omega arith))
+-- n is the number of one of the values from j on
+abbrev Later : ℕ → ℕ → List ℕ → ℕ → ℕ → Type 0
+Later v many found j n = (i : ℕ) × (j ≤ i) × (i < many) × (getD found (24 * v + i) 0 ≡ n)
 
-    one-more : min (24 * v + suc j - 24 * v) (getD counts v 0 - getD before v 0) ≡ suc j
-    one-more = let z : 24 * v + suc j - 24 * v ≡ suc j = omega arith in rw z (min-left (suc j) (getD counts v 0 - getD before v 0) (omega arith))
+-- the first j values are written
+pub record Putting (m v many : ℕ) (fresh found before values : List ℕ) (j : ℕ) : Type 0 where
+  pub entries : (to : ℕ → ℕ) → ((i : ℕ) → i < many → to (getD found (24 * v + i) 0) ≡ getD fresh (32 * v + i) 0) → (n : ℕ) → n < m
+      → IsFound v many found n ⊎ (getD before (v * m + n) 0 ≡ to n) → Later v many found j n ⊎ (getD values (v * m + n) 0 ≡ to n)
+  pub rest : (i : ℕ) → Outside m v i → getD values i 0 ≡ getD before i 0
 
-    next : firstFresh before counts fresh L (24 * v + suc j) v ≡ firstFresh before counts fresh L (24 * v + j) v ++ getD fresh (24 * v + j) 0 ∷ []
-    unfolding firstFresh
-    next =
-        let l : j < length (drop (24 * v) fresh) = rw (length-drop, size) (omega (arith, few v h)) in
-        rw (one-more, there, take-suc (drop (24 * v) fresh) j 0 l, getD-drop (24 * v) fresh j 0) (sym (append-assoc (L v) (take j (drop (24 * v) fresh)) (getD fresh (24 * v + j) 0 ∷ [])))
+-- the asked values of the variable v
+module _ (m v many : ℕ) (fresh found before : List ℕ) (s : ValuesAt m v many fresh found before) where
+  pub values-start : Putting m v many fresh found before before 0
+  values-start = record {
+    entries = λ to asked n h o. ⊎-elim (λ f. inl (f .0, omega arith, f .1, f .2)) (λ e. inr e) o;
+    rest = λ i o. refl;
+  }
 
-    length-here : length (firstFresh before counts fresh L (24 * v + j) v) ≡ getD before v 0 + j
-    length-here = listed-size (24 * v + j) v h ∙ rw there
+  pub values-done : (values : List ℕ) (j : ℕ) → j ≡ many → Putting m v many fresh found before values j → ValuesWritten m v many fresh found before values
+  values-done values j e a = record {
+    entries = λ to asked n h o. ⊎-elim (λ f. absurd (omega (arith, f .1, f .2))) (λ q. q) (a .entries to asked n h o);
+    words = λ u h. a .rest (4 * m + (32 * v + u)) (word-outside m v (4 * m + (32 * v + u)) (s .variable) (omega arith));
+    others = λ w h k. record {
+      entries = λ n l. a .rest (w * m + n) (entry-outside m v w n k l);
+      words = λ u l. a .rest (4 * m + (32 * w + u)) (word-outside m v (4 * m + (32 * w + u)) (s .variable) (omega arith));
+    };
+  }
 
-    fits : (w : ℕ) → w < 4 → length (firstFresh before counts fresh L (24 * v + j) w) ≤ most k
-    fits w q = rw (listed-size (24 * v + j) w q) (omega (arith, room w q, grown w q))
+  module _ (values : List ℕ) (j : ℕ) (low : j < many) (size : length values ≡ length before) (a : Putting m v many fresh found before values j) where
+    abbrev number : ℕ
+    number = getD found (24 * v + j) 0
 
-    fresh-one : set (layValues k (firstFresh before counts fresh L (24 * v + j))) (v * most k + getD before v 0 + j) (getD fresh (24 * v + j) 0) ≡ layValues k (firstFresh before counts fresh L (24 * v + suc j))
-    fresh-one =
-        let z : v * most k + getD before v 0 + j ≡ v * most k + length (firstFresh before counts fresh L (24 * v + j) v) = omega (arith, length-here) in
-        rw z
-        (lay-set k (firstFresh before counts fresh L (24 * v + j)) (firstFresh before counts fresh L (24 * v + suc j)) v (getD fresh (24 * v + j) 0) fits h
-        (rw length-here (omega (arith, room v h))) next (λ w q n. same v w (suc j) j q (omega (arith, few v h)) (omega (arith, few v h)) n))
+    pub value-inside : v * m + number < 4 * m
+    value-inside = omega (arith, part-inside v m m (s .variable) (omega arith), s .inside j low)
 
-  -- the fresh values of one variable, up to the place j
-  written-to : (v j : ℕ) (values : List ℕ) → v < 4 → j ≤ getD counts v 0 - getD before v 0 → values ≡ layValues k (firstFresh before counts fresh L (24 * v))
-      → written (most k) (getD before v 0) fresh v j values ≡ layValues k (firstFresh before counts fresh L (24 * v + j))
-  unfolding written
-  written-to v zero values h q e = let z : 24 * v + 0 ≡ 24 * v = omega arith in rw z e
-  written-to v (suc j) values h q e = rw (written-to v j values h (omega arith) e) (fresh-one v j h (omega arith))
-
-  -- all of them
-  whole : (v : ℕ) → v < 4 → firstFresh before counts fresh L (24 * v + (getD counts v 0 - getD before v 0)) v ≡ firstFresh before counts fresh L (24 * (v + 1)) v
-  unfolding firstFresh
-  whole v h =
-      let g : getD counts v 0 - getD before v 0 ≤ 24 = omega (arith, few v h) in
-      rw (min-right (24 * v + (getD counts v 0 - getD before v 0) - 24 * v) (getD counts v 0 - getD before v 0) (omega arith), min-right (24 * (v + 1) - 24 * v) (getD counts v 0 - getD before v 0) (omega arith))
-
-  pub fresh-more : (v : ℕ) (values : List ℕ) → v < 4 → values ≡ layValues k (firstFresh before counts fresh L (24 * v))
-      → written (most k) (getD before v 0) fresh v (getD counts v 0 - getD before v 0) values ≡ layValues k (firstFresh before counts fresh L (24 * (v + 1)))
-  fresh-more v values h e =
-      written-to v (getD counts v 0 - getD before v 0) values h (omega arith) e
-      ∙ lay-same k (firstFresh before counts fresh L (24 * v + (getD counts v 0 - getD before v 0))) (firstFresh before counts fresh L (24 * (v + 1))) (λ w q. ⊎-elim
-      (λ n. let z : w ≡ v = n in rw z (whole v h))
-      (λ n.
-      let g : getD counts v 0 - getD before v 0 ≤ 24 = omega (arith, few v h) in
-      let u : 24 ≤ 24 = omega arith in
-      let z : 24 * (v + 1) ≡ 24 * v + 24 = omega arith in
-      rw z (same v w (getD counts v 0 - getD before v 0) 24 q g u n))
-      (same-or-not w v))
+    pub values-more : Putting m v many fresh found before (set values (v * m + number) (getD fresh (32 * v + j) 0)) (j + 1)
+    values-more = record {
+      entries = λ to asked n h o. ⊎-elim
+          (λ e. let y : n ≡ number = e in inr (rw y (getD-set-same values (v * m + number) (getD fresh (32 * v + j) 0) 0 (omega (arith, value-inside, s .parts)) ∙ sym (asked j low))))
+          (λ e. ⊎-elim
+          (λ f. inl (f .0, ⊎-elim (λ l. omega arith) (λ l. absurd (e (let y : f .0 ≡ j = omega (arith, f .1) in sym (rw y at (f .3))))) (lt-or-ge j (f .0)), f .2, f .3))
+          (λ q. inr (getD-set-other values (v * m + number) (v * m + n) (getD fresh (32 * v + j) 0) 0 (λ z. e (omega arith)) ∙ q))
+          (a .entries to asked n h o))
+          (same-or-not n number);
+      rest = λ i o. getD-set-other values (v * m + number) i (getD fresh (32 * v + j) 0) 0 (λ z. ⊎-elim (λ l. omega arith) (λ l. omega (arith, s .inside j low)) o) ∙ a .rest i o;
+    }

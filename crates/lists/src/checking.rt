@@ -1,15 +1,16 @@
 // The check of the lists in the value slice. What each function promises is in specs/Slots.antt.
-use numbers::most;
+use crate::most;
+use words::ones;
 ghost use mathlib.Core.Path.{_≡_};
+ghost use mathlib.Core.Bool.{_||_};
 ghost use mathlib.Core.List.{_++_};
-ghost use Prim.Native.Nat.{_*_, _<_, _≤_};
+ghost use Prim.Native.Nat.{_+_, _*_, _/_, _%_, _^_, _<_, _≤_};
 ghost use lib.Dec.{eqb};
 ghost use lib.ListN.{length, getD, take, drop, replicate};
 ghost use Rattle.trees.specs.Kept.{allBelow};
-ghost use Rattle.meaning.specs.Tables;
-ghost use Rattle.meaning.specs.Tables.{listRight, distinct};
-ghost use Rattle.numbers.specs.Asking.{withCounts};
-ghost use Rattle.lists.specs.Slots.{partRight, Roomy, Checked, Slots, slotOf, nextOf, Searchable, Sought};
+ghost use Rattle.meaning.specs.Numbering;
+ghost use Rattle.meaning.specs.Tables.{distinct, listRight};
+ghost use Rattle.lists.specs.Slots.{withCounts, entriesOf, noneFrom, freeRight, partRight, Roomy, Checked, Slots, slotOf, nextOf, Searchable, Sought, Enterable, Entered, Differ};
 
 // Fills the first n numbers with 0.
 fn clear(work: &mut [u32], n: usize)
@@ -43,9 +44,9 @@ fn next(size: usize, p: usize) -> usize
 }
 
 // The slot at which the search for the value at place n ends: a free one, or one that has an earlier place of this value.
-fn seek(list: &[u32], size: usize, work: &[u32], n: usize) -> usize
-    requires { ⌜ Searchable (now list) (now work) size n ⌝ }
-    ensures { λ r. ⌜ Sought (now (list .entry)) (now (work .entry)) size n r ⌝ }
+fn seek(list: &[u32], words: &[u32], size: usize, work: &[u32], n: usize) -> usize
+    requires { ⌜ Searchable (now list) (now words) (now work) size n ⌝ }
+    ensures { λ r. ⌜ Sought (now (list .entry)) (now (words .entry)) (now (work .entry)) size n r ⌝ }
 {
     let y = list[n];
     let mut p = slot(y, size);
@@ -72,20 +73,40 @@ fn slots(count: usize, room: usize) -> usize
     size
 }
 
-// Whether no value stands twice in the list. A slot has 1 more than a place of the list, or 0 where it is free; the place stands in
-// the first slot from that of its value on that was free.
-fn all_differ(list: &[u32], room: usize, work: &mut [u32]) -> bool
-    requires { ⌜ Roomy room (now work) × (length (now list) ≤ 1023) ⌝ }
-    ensures { λ r. ⌜ Checked room (now (work .entry)) (now (work .exit)) (distinct (now (list .entry))) r ⌝ }
+// Enters the taken places of the word w, lowest first, as long as their values differ from those that stand in the table. A slot has 1 more than a place of
+// the list, or 0 where it is free; the place stands in the first slot from that of its value on that was free. It says whether all values differed.
+fn enter_word(list: &[u32], words: &[u32], size: usize, w: usize, work: &mut [u32]) -> bool
+    requires { ⌜ Enterable (now list) (now words) size w (now work) ⌝ }
+    ensures { λ r. ⌜ Entered (now (list .entry)) (now (words .entry)) size w (now (work .entry)) (now (work .exit)) r ⌝ }
 {
-    let size = slots(list.len(), room);
-    clear(work, size);
-    for j in 0..list.len() {
-        let p = seek(list, size, work, j);
+    let mut n = 32 * w;
+    let mut rest = words[w];
+    while rest != 0 {
+        let z = u32::trailing_zeros(rest);
+        n = n + z as usize;
+        let p = seek(list, words, size, work, n);
         if work[p] != 0 {
             return false;
         }
-        work[p] = j as u32 + 1;
+        work[p] = n as u32 + 1;
+        rest = rest >> z >> 1;
+        n = n + 1;
+    }
+    true
+}
+
+// Whether no value stands twice among the taken places of the list, `count` in all and none of them past it.
+fn all_differ(count: usize, list: &[u32], words: &[u32], room: usize, work: &mut [u32]) -> bool
+    requires { ⌜ Roomy room (now work) × Differ count (now list) (now words) ⌝ }
+    ensures { λ r. ⌜ Checked room (now (work .entry)) (now (work .exit)) (distinct (entriesOf (now (list .entry)) (now (words .entry)))) r ⌝ }
+{
+    let size = slots(count, room);
+    clear(work, size);
+    let last = list.len() / 32 + 1;
+    for w in 0..last {
+        if !enter_word(list, words, size, w, work) {
+            return false;
+        }
     }
     true
 }
@@ -101,41 +122,102 @@ fn all_zero(list: &[u32]) -> bool
     bits == 0
 }
 
-// Whether the list of one variable is right: `count` values in a part of m numbers.
-fn list_right(m: usize, count: usize, part: &[u32], room: usize, work: &mut [u32]) -> bool
-    requires { ⌜ Roomy room (now work) × (m ≤ 1023) × (length (now part) ≡ m) ⌝ }
-    ensures { λ r. ⌜ Checked room (now (work .entry)) (now (work .exit)) (partRight m count (now (part .entry))) r ⌝ }
+// Whether the entries of one word are 0 where its bits say that they are free. A word of zeros and a full one are told at once, and no branch depends on a bit.
+fn word_right(word: u32, list: &[u32]) -> bool
+    requires { ⌜ length (now list) ≤ 32 ⌝ }
+    ensures { λ r. ⌜ r ≡ allBelow (length (now (list .entry))) (λ j. eqb (word / 2 ^ j % 2) 1 || eqb (getD (now (list .entry)) j 0) 0) ⌝ }
 {
-    if m < count {
+    if word == 0 {
+        return all_zero(list);
+    }
+    if word == 4294967295 {
+        return true;
+    }
+    let mut bits: u32 = 0;
+    for i in 0..list.len() {
+        let free = 1 - (word >> i) % 2;
+        bits = bits | list[i] * free;
+    }
+    bits == 0
+}
+
+// Whether every entry that is free is 0.
+fn free_right(list: &[u32], words: &[u32]) -> bool
+    requires { ⌜ (length (now list) ≤ 1023) × (length (now words) ≡ 32) ⌝ }
+    ensures { λ r. ⌜ r ≡ freeRight (now (list .entry)) (now (words .entry)) ⌝ }
+{
+    let m = list.len();
+    let last = m / 32;
+    for w in 0..last {
+        let at = 32 * w;
+        let end = at + 32;
+        if !word_right(words[w], &list[at..end]) {
+            return false;
+        }
+    }
+    let at = 32 * last;
+    word_right(words[last], &list[at..m])
+}
+
+// Whether no number from m on is taken.
+fn none_from(m: usize, words: &[u32]) -> bool
+    requires { ⌜ (m ≤ 1023) × (length (now words) ≡ 32) ⌝ }
+    ensures { λ r. ⌜ r ≡ noneFrom m (now (words .entry)) ⌝ }
+{
+    let last = m / 32;
+    if words[last] >> m % 32 != 0 {
         return false;
     }
-    if !all_zero(&part[count..m]) {
+    let after = last + 1;
+    all_zero(&words[after..32])
+}
+
+// Whether the list of one variable is right: its entries, and the words of those that are taken, which are to be `count`.
+fn list_right(count: u32, list: &[u32], words: &[u32], room: usize, work: &mut [u32]) -> bool
+    requires { ⌜ Roomy room (now work) × (length (now list) ≤ 1023) × (length (now words) ≡ 32) ⌝ }
+    ensures { λ r. ⌜ Checked room (now (work .entry)) (now (work .exit)) (partRight count (now (list .entry)) (now (words .entry))) r ⌝ }
+{
+    if !none_from(list.len(), words) {
         return false;
     }
-    all_differ(&part[0..count], room, work)
+    let reach = list.len() / 32 + 1;
+    if ones(&words[0..reach]) != count {
+        return false;
+    }
+    if !free_right(list, words) {
+        return false;
+    }
+    all_differ(count as usize, list, words, room, work)
 }
 
 // Whether the four lists are right.
 fn all_right(m: usize, counts: [u32; 4], values: &[u32], room: usize, work: &mut [u32]) -> bool
-    requires { ⌜ Roomy room (now work) × (m ≤ 1023) × (length (now values) ≡ 4 * m) ⌝ }
-    ensures { λ r. ⌜ Checked room (now (work .entry)) (now (work .exit)) (allBelow 4 (λ v. partRight m (getD counts v 0) (take m (drop (v * m) (now (values .entry)))))) r ⌝ }
+    requires { ⌜ Roomy room (now work) × (m ≤ 1023) × (length (now values) ≡ 4 * m + 128) ⌝ }
+    ensures { λ r. ⌜ Checked room (now (work .entry)) (now (work .exit)) (allBelow 4 (λ v. partRight (getD counts v 0) (take m (drop (v * m) (now (values .entry)))) (take 32 (drop (4 * m + 32 * v) (now (values .entry)))))) r ⌝ }
 {
     for v in 0..4 {
         let at = v * m;
         let end = at + m;
-        let count = counts[v] as usize;
-        if !list_right(m, count, &values[at..end], room, work) {
+        let first = 4 * m + 32 * v;
+        let past = first + 32;
+        if !list_right(
+            counts[v],
+            &values[at..end],
+            &values[first..past],
+            room,
+            work,
+        ) {
             return false;
         }
     }
     true
 }
 
-// Whether the lists are right: no count over 2^k − 1, no value twice in one list, and 0 where the rest is 0. The table in which a list's
-// values are looked up stands in the first `room` numbers of the work slice. The caller has checked k and the lengths before (refusals
-// 1 and 3).
+// Whether the lists are right: each count is the ones of its words, no value stands twice among taken numbers, a free entry is 0, and no bit stands at 2^k − 1 or
+// above. The table in which a list's values are looked up stands in the first `room` numbers of the work slice. The caller has checked k and the lengths
+// before (refusals 1 and 3).
 pub fn lists_right(k: u32, counts: [u32; 4], values: &[u32], room: usize, work: &mut [u32]) -> bool
-    requires { ⌜ (k ≤ 10) × (length (now values) ≡ 4 * Tables.most k) × Roomy room (now work) ⌝ }
+    requires { ⌜ (k ≤ 10) × (length (now values) ≡ 4 * Numbering.most k + 128) × Roomy room (now work) ⌝ }
     ensures { λ r. ⌜ Checked room (now (work .entry)) (now (work .exit)) (allBelow 4 (listRight k (withCounts counts) (now (values .entry)))) r ⌝ }
 {
     let m = most(k) as usize;

@@ -1,56 +1,84 @@
-// How an event's fresh values are written, where no variable is short. What each function promises is in specs/Writing.antt.
-use meaning::Value;
-use numbers::Asked;
-use numbers::most;
+// How an event's lists are written, once it is done. What each function promises is in specs/Writing.antt.
+use crate::most;
 ghost use mathlib.Core.Path.{_≡_};
-ghost use Prim.Native.Nat.{_-_, _≤_};
-ghost use lib.Dec.{ltb};
-ghost use lib.ListN.{getD};
-ghost use Rattle.meaning.specs.Rows.{firstBelow};
-ghost use Rattle.meaning.specs.Tables;
-ghost use Rattle.meaning.specs.Tables.{listOf, layValues};
-ghost use Rattle.numbers.specs.Asking.{withCounts, withFresh, bare};
-ghost use Rattle.lists.specs.Writing.{Writable, WritableAt, written};
+ghost use lib.ListN.{length};
+ghost use Rattle.lists.specs.Writing.{Freeable, Freed, WordAt, WordWritten, WordsAt, WordsWritten, ValuesAt, ValuesWritten, Writable, Written};
 
-// The lowest variable with more values than numbers, or 4.
-pub fn shortest(k: u32, counts: [u32; 4]) -> u32
-    requires { ⌜ k ≤ 10 ⌝ }
-    ensures { λ r. ⌜ r ≡ firstBelow 4 (λ v. ltb (Tables.most k) (getD counts v 0)) ⌝ }
+// Sets the entries to 0 whose bits `freed` has, lowest first; that of bit 0 stands at `at`.
+fn free(at: usize, freed: u32, values: &mut [u32])
+    requires { ⌜ Freeable at freed (now values) ⌝ }
+    ensures { λ _. ⌜ Freed at freed (now (values .entry)) (now (values .exit)) ⌝ }
 {
-    // There are 2^k numbers, and the last of them is reserved: as many values as numbers are too many.
-    let numbers = most(k) + 1;
-    for v in 0..4 {
-        if numbers <= counts[v] {
-            return v as u32;
-        }
-    }
-    4
-}
-
-// Writes the fresh values of variable v: it had b values, and now has n.
-fn write_list(m: usize, b: u32, n: u32, fresh: [Value; 96], values: &mut [u32], v: usize)
-    requires { ⌜ WritableAt m b n (now values) v ⌝ }
-    ensures { λ _. ⌜ now (values .exit) ≡ written m b (bare fresh) v (n - b) (now (values .entry)) ⌝ }
-{
-    let at = v * m + b as usize;
-    let from = 24 * v;
-    let many = (n - b) as usize;
-    for j in 0..many {
-        let y = fresh[from + j];
-        values[at + j] = y.0;
+    let mut n = at;
+    let mut rest = freed;
+    while rest != 0 {
+        let z = u32::trailing_zeros(rest);
+        n = n + z as usize;
+        values[n] = 0;
+        rest = rest >> z >> 1;
+        n = n + 1;
     }
 }
 
-// Writes the fresh values behind those of before. The caller has checked the lists (refusal 4), that no variable is short (refusal 6), and
-// got the fresh values from `ask`. Only a variable that has grown takes time.
-pub fn write_fresh(k: u32, before: [u32; 4], asked: Asked, values: &mut [u32])
-    requires { ⌜ Writable k before asked (now values) ⌝ }
-    ensures { λ _. ⌜ now (values .exit) ≡ layValues k (withFresh before (asked .counts) (bare (asked .fresh)) (listOf k (withCounts before) (now (values .entry)))) ⌝ }
+// Writes a word at `place`, and 0 at the entries, from `at` on, that it frees.
+fn write_word(at: usize, place: usize, new: u32, values: &mut [u32])
+    requires { ⌜ WordAt at place (now values) ⌝ }
+    ensures { λ _. ⌜ WordWritten at place new (now (values .entry)) (now (values .exit)) ⌝ }
+{
+    let old = values[place];
+    if old == new {
+        return;
+    }
+    free(at, old & !new, values);
+    values[place] = new;
+}
+
+// Writes the words of the variable v, and 0 at the entries that they free.
+fn write_words(m: usize, v: usize, words: &[u32], values: &mut [u32])
+    requires { ⌜ WordsAt m v (now words) (now values) ⌝ }
+    ensures { λ _. ⌜ WordsWritten m v (now (words .entry)) (now (values .entry)) (now (values .exit)) ⌝ }
+{
+    for w in 0..32 {
+        let i = 32 * v + w;
+        write_word(v * m + 32 * w, 4 * m + i, words[i], values);
+    }
+}
+
+// Writes the `many` values that the variable v asks at their numbers.
+fn write_values(
+    m: usize,
+    v: usize,
+    many: u32,
+    fresh: &[u32; 128],
+    found: &[u32; 96],
+    values: &mut [u32],
+)
+    requires { ⌜ ValuesAt m v many (now fresh) (now found) (now values) ⌝ }
+    ensures { λ _. ⌜ ValuesWritten m v many (now (fresh .entry)) (now (found .entry)) (now (values .entry)) (now (values .exit)) ⌝ }
+{
+    let last = many as usize;
+    for j in 0..last {
+        let n = found[24 * v + j] as usize;
+        values[v * m + n] = fresh[32 * v + j];
+    }
+}
+
+// Writes the lists after an event: the words, 0 at the entries that are freed, and the values asked at their numbers. The caller has checked the lists before
+// (refusal 4), and every value asked has its number. Where a variable's words are as they were, nothing but its asked values is written.
+pub fn write(
+    k: u32,
+    many: [u32; 4],
+    fresh: &[u32; 128],
+    found: &[u32; 96],
+    words: &[u32],
+    values: &mut [u32],
+)
+    requires { ⌜ (length (now fresh) ≡ 128) × (length (now found) ≡ 96) × Writable k many (now fresh) (now found) (now words) (now values) ⌝ }
+    ensures { λ _. ⌜ Written k many (now (fresh .entry)) (now (found .entry)) (now (words .entry)) (now (values .entry)) (now (values .exit)) ⌝ }
 {
     let m = most(k) as usize;
-    let after = asked.counts;
-    let fresh = asked.fresh;
     for v in 0..4 {
-        write_list(m, before[v], after[v], fresh, values, v);
+        write_words(m, v, words, values);
+        write_values(m, v, many[v], fresh, found, values);
     }
 }

@@ -1,29 +1,27 @@
 -- What an answer of a running machine says. Assumes nothing.
-use Prim.Native.Nat.{ℕ, zero, suc, _+_, _-_, _*_, _≤_, _<_}
+use Prim.Native.Nat.{ℕ, suc, _+_, _-_, _*_, _<_}
 use mathlib.Core.Path.{_≡_, refl, ap, sym, _∙_}
 use mathlib.Core.Bool.{Bool, true, false}
 use mathlib.Core.List.{List, [], _∷_, _++_}
 use mathlib.Core.Logic.{_↔_, ⊎-elim}
 use native.Mathlib.Omega.{arith}
 use lib.ListN.{length, getD}
-use Rattle.trees.specs.Tree.{Tree, off, isOn}
+use Rattle.trees.specs.Tree.{off, isOn}
 use Rattle.trees.specs.Room.{Room}
 use Rattle.trees.proofs.Tests.{lt-or-ge}
 use Rattle.meaning.specs.declared.State.{State}
 use Rattle.meaning.specs.declared.Event.{Event}
-use Rattle.meaning.specs.declared.Answer.{Answer}
-use Rattle.meaning.specs.declared.Answer.the-variants.{Started, Verdict, Refused}
+use Rattle.meaning.specs.declared.Answer.the-variants.{Verdict}
 use Rattle.meaning.specs.Qtl.{Fact, Assignment, Holds, free}
-use Rattle.meaning.specs.Rows.{Row, ruleOf, rowCount, rowsUpTo, formulaAt, right, checkRows}
+use Rattle.meaning.specs.Rows.{ruleOf, rowCount, formulaAt, right, checkRows}
 use Rattle.meaning.specs.Step.{saysAt, Shown, step, counted, roomOf}
 use Rattle.meaning.specs.Tables.{keptTable, layState}
 use Rattle.meaning.specs.Verdicts.{Counts, Answered}
 use Rattle.meaning.specs.Outcome.{kRight, factsOf, Decision, taken, refused, Machine, shows, decideEvent, verdictOf, settleEvent, eventOutcome, log}
-use Rattle.meaning.proofs.RowsLaws.{Checked, checked, rows-length, free-beyond}
-use Rattle.meaning.proofs.Simulation.{Faithful}
+use Rattle.meaning.proofs.RowsLaws.{checked, rows-length, free-beyond}
 use Rattle.meaning.proofs.VerdictLaws.{sentence}
 use Rattle.meaning.proofs.RoomOfLaws.{room-is}
-use Rattle.meaning.proofs.RunLaws.{Running, Laid, k-is, shows-is, laid-on, after-faithful}
+use Rattle.meaning.proofs.RunLaws.{Laid, Running, k-is, shows-is, laid-on, after-faithful}
 
 -- the parts of a verdict
 verdict-0 : (x y : Bool) (a b n r : ℕ) → Verdict x a b ≡ Verdict y n r → x ≡ y

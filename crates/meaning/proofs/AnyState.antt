@@ -1,34 +1,37 @@
 -- Any well-formed state: the functions shown go to those that one step of the meaning gives, and the new state is well formed.
 -- What tables show determines them. Assumes nothing.
-use Prim.Native.Nat.{ℕ, zero, suc, _+_, _-_, _*_, _/_, _%_, _≤_, _<_}
+use Prim.Native.Nat.{ℕ, zero, suc, _+_, _-_, _*_, _/_, _%_, _<_}
 use mathlib.Core.Path.{_≡_, refl, ap, ap₂, sym, _∙_}
 use mathlib.Core.Bool.{Bool, true, false, _&&_}
 use mathlib.Core.List.{List, [], _∷_, _++_}
-use mathlib.Core.Logic.{⊎-elim}
+use mathlib.Core.Logic.{_↔_, _≢_}
 use native.Mathlib.Omega.{arith}
 use lib.Dec.{eqb, ltb, leb}
-use lib.ListN.{length, getD, length-append, List·getD-append}
+use lib.ListN.{length, getD, length-append}
 use lib.Seq.{ext-getD, getD-append-seam}
 use borrow.Author.Tests.{eqb-true}
 use Rattle.trees.specs.Bits.{Bits, Function, Same}
 use Rattle.trees.specs.Tree.{Tree, off, on, node, eval, isOn}
 use Rattle.trees.specs.Kept.{levels}
-use Rattle.trees.proofs.Tests.{false-true, and-true-l, and-true-r, lt-or-ge}
+use Rattle.trees.proofs.Tests.{false-true, and-true-l, and-true-r}
 use Rattle.trees.proofs.BitsLaws.{drops-same}
 use Rattle.trees.proofs.TreeLaws.{canon, fine-off}
 use Rattle.meaning.specs.declared.Event.{Event}
 use Rattle.meaning.specs.declared.Answer.the-variants.{Verdict}
 use Rattle.meaning.specs.Qtl.{Fact, free}
 use Rattle.meaning.specs.Rows.{Row, truth, atom, both, neg, since, previous, exists, ruleOf, right, checkRows}
-use Rattle.meaning.specs.Numbering.{Lists, askFacts}
+use Rattle.meaning.specs.Numbering.{vacant, holds, Lists, entry, most, listed, newIn, missing, askedFacts}
+use Rattle.meaning.specs.Forgetting.{spared, numbered, four}
 use Rattle.meaning.specs.Step.{rowSays, saysAt, rowTree, rowTrees, Shown, step, OneStep}
-use Rattle.meaning.specs.Tables.{most, read, freeLevel, layState, layNodes, layValues, wellFormed}
-use Rattle.meaning.specs.Outcome.{kRight, capacity, nodesRight, valuesRight, workSize, cleared, factsOf, Decision, taken, judgeStart, judgeEvent, Machine, Arrays, WellFormed, shows, decideEvent, settleEvent, eventOutcome}
-use Rattle.meaning.specs.Verdicts.{Sized, Stepped}
-use Rattle.meaning.proofs.RowsLaws.{RowOk, RowsOk, Checked, checked}
-use Rattle.meaning.proofs.StepLaws.{AllFine, fine-snoc, fine-row, eval-row, trees-keep}
+use Rattle.meaning.specs.Tables.{read, freeLevel, layState, layNodes, layValues, wellFormed}
+use Rattle.meaning.specs.Outcome.{kRight, capacity, nodesRight, valuesSize, valuesRight, workSize, cleared, factsOf, taken, Machine, Arrays, WellFormed, shows, decideEvent, settleEvent, eventOutcome}
+use Rattle.meaning.specs.Verdicts.{Frees, Sized, Stepped}
+use Rattle.meaning.proofs.RowsLaws.{RowOk, RowsOk, checked}
+use Rattle.meaning.proofs.StepLaws.{AllFine, asks-at, fine-snoc, fine-row, eval-row, trees-keep}
+use Rattle.meaning.proofs.ForgettingLaws.{four-at, spared-exactly}
+use Rattle.meaning.proofs.GivenLaws.{numbered-exactly, numbered-new}
 use Rattle.meaning.proofs.ProperLaws.{Proper, Shaped, proper-read, lay-nodes, lay-state, lay-values}
-use Rattle.meaning.proofs.RunLaws.{start-taken, event-taken, positive, few, Laid, k-is, C-is, shows-is, formed-is, laid-on}
+use Rattle.meaning.proofs.RunLaws.{start-taken, event-taken, positive, few, Laid, k-is, C-is, shows-is, formed-is, not-short, laid-on}
 use Rattle.meaning.proofs.SizedLaws.{sized-of}
 use Rattle.meaning.proofs.AnswerLaws.{verdict-taken, verdict-parts, counts-of, last-row, closed-all}
 
@@ -73,7 +76,7 @@ one-step k C rule s es o p = record {
   lists-are = refl;
   rows-say = λ i h b.
       let z : 0 + i ≡ i = omega arith in
-      rw z at (trees-say k (askFacts es (s .lists) rule) es (s .trees) (p .fine) rule [] o (λ j. fine-off 0 (4 * k)) i h b);
+      rw z at (trees-say k (four (numbered k rule (saysAt (s .trees)) es (s .lists))) es (s .trees) (p .fine) rule [] o (λ j. fine-off 0 (4 * k)) i h b);
 }
 
 -- a state that passes the tests of 1 to 4
@@ -81,17 +84,17 @@ module _ (rows : List ℕ) (m : Machine) (arrays : Arrays m) (kr : kRight (m .st
     (lengths : (nodesRight (m .nodes) && (valuesRight (m .state .k) (m .values) && leb (workSize (capacity (m .nodes))) (length (m .work)))) ≡ true)
     (formed : wellFormed (m .state .k) (capacity (m .nodes)) (ruleOf rows) (m .state) (m .nodes) (m .values) ≡ true) where
   shaped : Shaped (m .state .k) (capacity (m .nodes)) (m .state) (m .nodes) (m .values)
-  unfolding nodesRight valuesRight capacity
+  unfolding nodesRight valuesRight valuesSize capacity
   shaped =
       let nr : Bool = eqb (length (m .nodes) % 3) 0 && (ltb 0 (length (m .nodes) / 3) && leb (length (m .nodes) / 3) 4096) in
-      let vr : Bool = eqb (length (m .values)) (4 * most (m .state .k)) in
+      let vr : Bool = eqb (length (m .values)) (4 * most (m .state .k) + 128) in
       let wr : Bool = leb (workSize (length (m .nodes) / 3)) (length (m .work)) in
       let a : length (m .nodes) % 3 ≡ 0 = eqb-true (length (m .nodes) % 3) 0 (and-true-l (eqb (length (m .nodes) % 3) 0) (ltb 0 (length (m .nodes) / 3) && leb (length (m .nodes) / 3) 4096) (and-true-l nr (vr && wr) lengths)) in
       record {
         counts = arrays .0;
         refs = arrays .1;
         nodes-are = omega arith;
-        values-are = eqb-true (length (m .values)) (4 * most (m .state .k)) (and-true-l vr wr (and-true-r nr (vr && wr) lengths));
+        values-are = eqb-true (length (m .values)) (4 * most (m .state .k) + 128) (and-true-l vr wr (and-true-r nr (vr && wr) lengths));
       }
 
   -- the state and the tables are the layout of what they show
@@ -186,6 +189,36 @@ module _ (rows : List ℕ) (m : Machine) (e : Event) (arrays : Arrays m) (y : Bo
     work = work-left rows m e d;
   }
 
+  -- the list of a variable after the event
+  list-left : (v : ℕ) → v < 4 → shows rows left .lists v ≡ numbered (m .state .k) (ruleOf rows) (saysAt (shows rows m .trees)) (factsOf e) (shows rows m .lists) v
+  list-left v h = ap (λ (L : Lists). L v) (any-step rows m e arrays d .lists-are) ∙ four-at _ v h
+
+  -- a value loses its number exactly if the number is freed
+  pub loses : (v i x : ℕ) → v < 4 → entry (shows rows m .lists v) i ≡ holds x → (entry (shows rows left .lists v) i ≢ holds x) ↔ Frees rows m e v i x
+  loses v i x h z =
+      let p = laid-of rows m e arrays d .proper in
+      let f = numbered-exactly (m .state .k) (ruleOf rows) (saysAt (shows rows m .trees)) (factsOf e) (shows rows m .lists) v (asks-at (4 * m .state .k) (shows rows m .trees) (p .fine)) (p .distinct v) i x z in
+      rw (list-left v h) (
+        λ c. let t = f .0 c in record { lacks = t .0; untold = t .1; not-asked = t .2 },
+        λ c. f .1 (c .lacks, c .untold, c .not-asked),
+      )
+
+  -- the values newly numbered
+  pub newly : (v : ℕ) → v < 4 → newIn (shows rows m .lists v) (shows rows left .lists v) ≡ missing (listed (shows rows m .lists v)) (askedFacts v (factsOf e) (ruleOf rows))
+  newly v h =
+      rw (list-left v h) (numbered-new (m .state .k) (ruleOf rows) (saysAt (shows rows m .trees)) (factsOf e) (shows rows m .lists) v
+      (not-short rows (m .state .k) (capacity (m .nodes)) (passed rows m e arrays d .0) (passed rows m e arrays d .1) m (shows rows m) (laid-of rows m e arrays d) e d v h))
+
+-- what is freed of a well-formed state
+pub freed : (rows : List ℕ) (m : Machine) (e : Event) → WellFormed rows m → (v n x : ℕ) → entry (shows rows m .lists v) n ≡ holds x
+    → (entry (spared (m .state .k) (ruleOf rows) (saysAt (shows rows m .trees)) (factsOf e) (shows rows m .lists) v) n ≡ vacant) ↔ Frees rows m e v n x
+freed rows m e w v n x h =
+    let p = laid-formed rows m (w .arrays) (w .k-right) (w .rows-right) (w .lengths) (w .formed) .proper in
+    let f = spared-exactly (m .state .k) (ruleOf rows) (saysAt (shows rows m .trees)) (factsOf e) (shows rows m .lists) v (asks-at (4 * m .state .k) (shows rows m .trees) (p .fine)) n x h in (
+      λ c. let t = f .0 c in record { lacks = t .0; untold = t .1; not-asked = t .2 },
+      λ c. f .1 (c .lacks, c .untold, c .not-asked),
+    )
+
 -- the sizes of a well-formed state are true
 pub sizes-true : (rows : List ℕ) (m : Machine) → WellFormed rows m → Sized rows m
 sizes-true rows m p =
@@ -209,5 +242,5 @@ module _ (rows : List ℕ) (m n : Machine) (p : WellFormed rows m) (q : WellForm
       let same : shows rows m ≡ shows rows n = λ i. record { lists = l i; trees = trees i } in (
         laid-m .state-is ∙ ap₂ layState k same ∙ sym (laid-n .state-is),
         laid-m .nodes-are ∙ ap₂ layNodes C same ∙ sym (laid-n .nodes-are),
-        laid-m .values-are ∙ ap₂ (λ (j : ℕ) (x : Shown). layValues j (x .lists)) k same ∙ sym (laid-n .values-are),
+        laid-m .values-are ∙ ap (λ (x : Shown). layValues (x .lists)) same ∙ sym (laid-n .values-are),
       )

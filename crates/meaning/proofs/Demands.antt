@@ -1,11 +1,11 @@
 -- The demands, in the mission's words, each as a theorem of the definitions. Assumes nothing.
-use Prim.Native.Nat.{ℕ, suc, _+_, _-_, _*_, _≤_, _<_}
+use Prim.Native.Nat.{ℕ, suc, _+_, _-_, _*_, _^_, _≤_, _<_}
 use mathlib.Core.Path.{_≡_, refl, sym, _∙_}
 use mathlib.Core.Bool.{Bool, true, false}
 use mathlib.Core.List.{List, [], _∷_, _++_}
-use mathlib.Core.Logic.{_↔_, _⊎_}
+use mathlib.Core.Logic.{_↔_, _≢_, _⊎_}
 use lib.ListN.{length, getD}
-use Rattle.trees.specs.Bits.{Bits, Function, Same}
+use Rattle.trees.specs.Bits.{Bits, Function, Same, Untold}
 use Rattle.trees.specs.Tree.{off, eval}
 use Rattle.trees.specs.Room.{Room}
 use Rattle.trees.proofs.RoomLaws.{room-one}
@@ -14,17 +14,20 @@ use Rattle.meaning.specs.declared.Event.{Event}
 use Rattle.meaning.specs.declared.Answer.the-variants.{Started, Verdict, Refused}
 use Rattle.meaning.specs.Qtl.{Fact, Assignment, SameFacts, SameEvents, Holds}
 use Rattle.meaning.specs.Rows.{Row, ruleOf, formulaAt}
-use Rattle.meaning.specs.Numbering.{shown, Shows}
+use Rattle.meaning.specs.Numbering.{Entry, vacant, holds, entry, most, listed, lowest, newIn, missing, askedFacts, shown, Shows}
+use Rattle.meaning.specs.Forgetting.{spared}
 use Rattle.meaning.specs.Step.{saysAt}
-use Rattle.meaning.specs.Tables.{wellFormed}
+use Rattle.meaning.specs.Tables.{wordsOf, isTaken, listOf, wordIn, wellFormed}
 use Rattle.meaning.specs.Outcome.{capacity, workSize, cleared, factsOf, SameEvent, taken, refused, decideStart, decideEvent, startOutcome, Machine, Arrays, WellFormed, enlarged, machineOf, shows, settleEvent, eventOutcome, runs, answers, log}
 use Rattle.meaning.specs.Refusals.{IllFormed, StartSentence, Sentence, First}
-use Rattle.meaning.specs.Verdicts.{Sized, Stepped, Answered}
+use Rattle.meaning.specs.Verdicts.{Frees, Sized, Stepped, Answered}
 use Rattle.meaning.specs.Disguise.{Disguise, Disguised, DisguisedLog, Alike}
 use Rattle.meaning.proofs.RefusalLaws.{exact, exact-taken, judged-start, judged-event}
+use Rattle.meaning.proofs.AskingLaws.{lowest-vacant, lowest-first}
+use Rattle.meaning.proofs.WordsLaws.{words-above}
 use Rattle.meaning.proofs.IllFormedLaws.{formed-bad}
-use Rattle.meaning.proofs.FromStart.{after, facts, sets, own-numbers, sized, says}
-use Rattle.meaning.proofs.AnyState.{stepped, sizes-true, one-tables}
+use Rattle.meaning.proofs.FromStart.{after, facts, sets, own-numbers, vacant-untold, sized, says}
+use Rattle.meaning.proofs.AnyState.{stepped, loses, newly, freed, sizes-true, one-tables}
 use Rattle.meaning.proofs.LargerTable.{large-formed, large-shows, large-answers, large-left}
 use Rattle.meaning.proofs.OrderLaws.{same-length, same-snoc, same-holds}
 use Rattle.meaning.proofs.IgnoredLaws.{ignored}
@@ -74,6 +77,12 @@ module _ (k : ℕ) (rows nodes values work : List ℕ) (started : startOutcome k
   pub every-assignment : (a : Assignment)
       → Shows k (shows rows (after k rows nodes values work started es) .lists) (shown k (shows rows (after k rows nodes values work started es) .lists) a) a
   every-assignment a = own-numbers k rows nodes values work started es a
+
+  -- "From a fresh start it never comes up": a number that is not taken stands for unseen values alone, so no kept set tells it apart from the
+  -- reserved one.
+  pub untold : (i : ℕ) → i < length (ruleOf rows) → (v n : ℕ) → v < 4 → n < 2 ^ k → entry (shows rows (after k rows nodes values work started es) .lists v) n ≡ vacant
+      → Untold (v * k) k n (most k) (saysAt (shows rows (after k rows nodes values work started es) .trees) i)
+  untold i h v n q l e = vacant-untold k rows nodes values work started es i h v n q l e
 
   -- "after every event taken, the verdict": of an answer y with n kept nodes and room r, y is yes exactly if the rule holds of the events
   -- taken so far, this one among them, n is the count of kept nodes, and r the room of document 01.
@@ -126,6 +135,30 @@ any-state rows m e a y n r q = stepped rows m e a y n r q
 -- The sizes of any well-formed state are true: "sizes that don't fit the diagrams give 4".
 pub any-sizes : (rows : List ℕ) (m : Machine) → WellFormed rows m → Sized rows m
 any-sizes rows m w = sizes-true rows m w
+
+-- Forgetting. "first free every one of its numbers that ..": of any well-formed state, the number n of the value x is freed exactly if `Frees` says so ..
+pub frees-exactly : (rows : List ℕ) (m : Machine) (e : Event) → WellFormed rows m → (v n x : ℕ) → entry (shows rows m .lists v) n ≡ holds x
+    → (entry (spared (m .state .k) (ruleOf rows) (saysAt (shows rows m .trees)) (factsOf e) (shows rows m .lists) v) n ≡ vacant) ↔ Frees rows m e v n x
+frees-exactly rows m e w v n x h = freed rows m e w v n x h
+
+-- .. and in an event that is taken a value loses its number exactly if it is freed: "a refused event frees nothing", by `refused-keeps`.
+pub forgets-exactly : (rows : List ℕ) (m : Machine) (e : Event) → Arrays m → (y : Bool) (n r : ℕ) → eventOutcome rows m e .answer ≡ Verdict y n r
+    → (v i x : ℕ) → v < 4 → entry (shows rows m .lists v) i ≡ holds x → (entry (shows rows (eventOutcome rows m e .left) .lists v) i ≢ holds x) ↔ Frees rows m e v i x
+forgets-exactly rows m e a y n r q v i x h z = loses rows m e a y n r q v i x h z
+
+-- "how many values it newly numbered": those asked that had no number, each once. A forgotten value that comes back is one of them.
+pub newly-numbered : (rows : List ℕ) (m : Machine) (e : Event) → Arrays m → (y : Bool) (n r : ℕ) → eventOutcome rows m e .answer ≡ Verdict y n r → (v : ℕ) → v < 4
+    → newIn (shows rows m .lists v) (shows rows (eventOutcome rows m e .left) .lists v) ≡ missing (listed (shows rows m .lists v)) (askedFacts v (factsOf e) (ruleOf rows))
+newly-numbered rows m e a y n r q v h = newly rows m e a y n r q v h
+
+-- "Then the lowest free number is given each time": it is free, and every number below it is taken.
+pub gives-lowest : (xs : List Entry) → (entry xs (lowest xs) ≡ vacant) × ((j : ℕ) → j < lowest xs → (x : ℕ) × (entry xs j ≡ holds x))
+gives-lowest xs = (lowest-vacant xs, lowest-first xs)
+
+-- "a misfit gives 4": of words of 32 bits, the clause that each word is the one of the taken numbers says that no bit is set at 2^k − 1 or above.
+pub bits-above : (k : ℕ) (values : List ℕ) (v : ℕ) → ((w : ℕ) → getD (wordsOf k values v) w 0 < 2 ^ 32)
+    → ((w : ℕ) → w < 32 → getD (wordsOf k values v) w 0 ≡ wordIn (listOf k values v) w) ↔ ((n : ℕ) → most k ≤ n → n < 1024 → isTaken (wordsOf k values v) n ≡ false)
+bits-above k values v small = words-above k values v small
 
 -- One outcome. "The room is the number of ..": there is one such number ..
 pub one-room : (levels : ℕ) (fs : List Function) (n m : ℕ) → Room levels fs n → Room levels fs m → n ≡ m

@@ -1,32 +1,29 @@
 -- Disguised logs: both runs give the same answers and diagrams, and the value lists differ by the disguise only. Assumes nothing.
-use Prim.Native.Nat.{ℕ, zero, suc, _+_, _-_, _*_, _^_, _≤_, _<_}
+use Prim.Native.Nat.{ℕ, zero, suc, _-_}
 use mathlib.Core.Path.{_≡_, refl, ap, ap₂, sym, _∙_, fun-ext}
-use mathlib.Core.Bool.{Bool, true, false, cond, not, _&&_, _||_}
-use mathlib.Core.List.{List, [], _∷_, _++_, map}
-use mathlib.Core.Logic.{_⊎_, inl, inr, ⊎-elim}
-use native.Mathlib.Omega.{arith}
-use lib.Dec.{eqb, ltb, leb}
-use lib.ListN.{length, getD, take, drop, replicate, length-append, length-map, length-replicate, length-drop}
-use borrow.Author.Tests.{eq-eqb}
-use Rattle.trees.specs.Tree.{Tree, off}
-use Rattle.trees.proofs.Tests.{or-l, or-r, eqb-same}
+use mathlib.Core.Bool.{Bool, true, false, cond, _&&_}
+use mathlib.Core.List.{List, [], _∷_, map}
+use lib.Dec.{ltb, leb}
+use lib.ListN.{length, take, length-append, length-map, length-drop}
 use Rattle.meaning.specs.declared.State.{State}
 use Rattle.meaning.specs.declared.Event.{Event}
 use Rattle.meaning.specs.declared.Fact.{Fact as Given}
 use Rattle.meaning.specs.declared.Value.{Value}
 use Rattle.meaning.specs.declared.Answer.{Answer}
-use Rattle.meaning.specs.Qtl.{Argument, variable, constant, Fact}
-use Rattle.meaning.specs.Rows.{Row, truth, atom, both, neg, since, previous, exists, ruleOf, firstBelow, Found, right, checkRows}
-use Rattle.meaning.specs.Numbering.{Lists, askFacts}
-use Rattle.meaning.specs.Step.{Shown, step, roomOf}
-use Rattle.meaning.specs.Tables.{most, padded, keptTable, layState, layNodes, layValues, wellFormed}
+use Rattle.meaning.specs.Qtl.{Fact}
+use Rattle.meaning.specs.Rows.{Row, truth, atom, both, neg, since, previous, exists, ruleOf, firstBelow, right, checkRows}
+use Rattle.meaning.specs.Numbering.{Entry, vacant, holds, entry}
+use Rattle.meaning.specs.Step.{saysAt, Shown, step, roomOf}
+use Rattle.meaning.specs.Tables.{keptTable, layState, layNodes}
 use Rattle.meaning.specs.Outcome.{kRight, capacity, nodesRight, valuesRight, workSize, cleared, factOf, given, factsOf, agrees, allAgree, factRight, allRight, countRight, shortest, Decision, taken, refused, judgeStart, judgeEvent, Machine, shows, decideEvent, verdictOf, settleEvent, eventOutcome, runs, answers}
-use Rattle.meaning.specs.Disguise.{among, used, constantsIn, constants, Disguise, disguisedGiven, disguised, disguisedFact}
-use Rattle.meaning.proofs.ValuesLaws.{Distinct}
-use Rattle.meaning.proofs.PartsLaws.{padded-length}
+use Rattle.meaning.specs.Disguise.{disguisedGiven, disguised, disguisedFact, disguisedEntry}
+use Rattle.meaning.proofs.ValuesLaws.{held-one, held-not, Distinct}
+use Rattle.meaning.proofs.PartsLaws.{lay-length}
 use Rattle.meaning.proofs.ProperLaws.{Proper}
-use Rattle.meaning.proofs.RenameLaws.{Every, EveryFact, EveryEvent, EveryList, KeepsArguments, KeepsRow, KeepsRows, renamedLists, renamed, askFacts-every, askFacts-ren, step-ren, room-ren}
-use Rattle.meaning.proofs.RunLaws.{Laid, k-is, C-is, shows-is, formed-is, laid-on, laid-stays}
+use Rattle.meaning.proofs.EveryLaws.{EveryEntry, EveryList, EveryFact, EveryEvent, after-every}
+use Rattle.meaning.proofs.RenameLaws.{KeepsRows, renamedLists, taken-ren, asks-ren}
+use Rattle.meaning.proofs.RenamedStep.{renamed, step-ren, room-ren}
+use Rattle.meaning.proofs.RunLaws.{Laid, k-is, shows-is, formed-is, laid-on, laid-stays}
 
 -- the fact of a disguised event
 take-map : {A : Type 0} (n : ℕ) (f : A → A) (vs : List A) → take n (map f vs) ≡ map f (take n vs)
@@ -87,39 +84,23 @@ count-same π e rs = rw (given-of π e, right-same π (given e) rs) (unfold disg
 -- what is shown, renamed, is laid out alike
 pub lay-same : (π : ℕ → ℕ) (k : ℕ) (s : Shown) → layState k (renamed π s) ≡ layState k s
 unfolding layState renamed renamedLists keptTable
-lay-same π k s = rw (length-map (s .lists 0) π, length-map (s .lists 1) π, length-map (s .lists 2) π, length-map (s .lists 3) π)
+lay-same π k s = rw (taken-ren π (s .lists 0), taken-ren π (s .lists 1), taken-ren π (s .lists 2), taken-ren π (s .lists 3))
 
 pub nodes-same : (π : ℕ → ℕ) (C : ℕ) (s : Shown) → layNodes C (renamed π s) ≡ layNodes C s
 unfolding layNodes renamed keptTable
 nodes-same π C s = refl
 
-lay-length : (k : ℕ) (L : Lists) → ((v : ℕ) → v < 4 → length (L v) ≤ most k) → length (layValues k L) ≡ 4 * most k
-unfolding layValues
-lay-length k L h =
-    rw (
-      length-append,
-      length-append,
-      length-append,
-      padded-length (most k) (L 0) (h 0 (omega arith)),
-      padded-length (most k) (L 1) (h 1 (omega arith)),
-      padded-length (most k) (L 2) (h 2 (omega arith)),
-      padded-length (most k) (L 3) (h 3 (omega arith)),
-    ) (omega arith)
-
 cleared-length : (C : ℕ) (v w : List ℕ) → length v ≡ length w → length (cleared C v) ≡ length (cleared C w)
 unfolding cleared
 cleared-length C v w e = rw (length-append, length-append, length-drop, length-drop, e)
 
--- an element of a renamed list
-renamed-at : (π : ℕ → ℕ) (xs : List ℕ) (i : ℕ) → i < length xs → getD (map π xs) i 0 ≡ π (getD xs i 0)
-renamed-at π [] i h = absurd (omega arith)
-renamed-at π (x ∷ xs) zero h = refl
-renamed-at π (x ∷ xs) (suc i) h = renamed-at π xs i (omega arith)
-
-every-at : (U : ℕ → Type 0) (xs : List ℕ) → Every U xs → (i : ℕ) → i < length xs → U (getD xs i 0)
-every-at U [] u i h = absurd (omega arith)
-every-at U (x ∷ xs) u zero h = u .0
-every-at U (x ∷ xs) u (suc i) h = every-at U xs (u .1) i (omega arith)
+-- an entry of a renamed list
+renamed-at : (π : ℕ → ℕ) (xs : List Entry) (i x : ℕ) → entry (map (disguisedEntry π) xs) i ≡ holds x → (y : ℕ) × (entry xs i ≡ holds y) × (π y ≡ x)
+unfolding disguisedEntry
+renamed-at π [] i x e = absurd (held-not vacant x refl e)
+renamed-at π (vacant ∷ xs) zero x e = absurd (held-not vacant x refl e)
+renamed-at π (holds y ∷ xs) zero x e = (y, refl, held-one (holds (π y)) (π y) x refl e)
+renamed-at π (y ∷ xs) (suc i) x e = renamed-at π xs i x e
 
 -- equal parts are judged alike
 lengths-same : (rows : List ℕ) (k k′ : ℕ) (nodes nodes′ values values′ work work′ : List ℕ) → k′ ≡ k → nodes′ ≡ nodes → length values′ ≡ length values → length work′ ≡ length work
@@ -133,16 +114,17 @@ judge-same : (d d′ : Decision) (f f′ c c′ : Bool) (v v′ : ℕ) (r r′ :
 judge-same d d′ f f′ c c′ v v′ r r′ p q s t u = rw (p, q, s, t, u)
 
 module _ (π : ℕ → ℕ) (U : ℕ → Type 0) (inj : (x y : ℕ) → U x → U y → π x ≡ π y → x ≡ y) where
-  distinct-ren : (xs : List ℕ) → Every U xs → Distinct xs → Distinct (map π xs)
-  distinct-ren xs u d i j hi hj e =
-      let p : i < length xs = rw length-map at hi in
-      let q : j < length xs = rw length-map at hj in
-      d i j p q (inj (getD xs i 0) (getD xs j 0) (every-at U xs u i p) (every-at U xs u j q) (sym (renamed-at π xs i p) ∙ e ∙ renamed-at π xs j q))
+  distinct-ren : (xs : List Entry) → EveryEntry U xs → Distinct xs → Distinct (map (disguisedEntry π) xs)
+  distinct-ren xs u d i j x p q =
+      let y = renamed-at π xs i x p in
+      let z = renamed-at π xs j x q in
+      let e : y .0 ≡ z .0 = inj (y .0) (z .0) (u i (y .0) (y .1)) (u j (z .0) (z .1)) (y .2 ∙ sym (z .2)) in
+      d i j (z .0) (rw e at (y .1)) (z .1)
 
   proper-ren : (k C : ℕ) (rule : List Row) (s : Shown) → EveryList U (s .lists) → Proper k C rule s → Proper k C rule (renamed π s)
   unfolding renamed renamedLists keptTable
   proper-ren k C rule s u p = record {
-    enough = λ v h. rw (length-map (s .lists v) π) (p .enough v h);
+    sized = λ v h. length-map (s .lists v) (disguisedEntry π) ∙ p .sized v h;
     distinct = λ v. distinct-ren (s .lists v) (u v) (p .distinct v);
     beyond = λ v h. rw (p .beyond v h);
     count = p .count;
@@ -167,15 +149,10 @@ module _ (π : ℕ → ℕ) (U : ℕ → Type 0) (inj : (x y : ℕ) → U x → 
       nodes-are : n .nodes ≡ m .nodes
       nodes-are = t .twin .nodes-are ∙ nodes-same π C (t .s) ∙ sym (t .laid .nodes-are)
 
-      enough-lists : (v : ℕ) → v < 4 → length (t .s .lists v) ≤ most k
-      unfolding most
-      enough-lists v h = t .laid .proper .enough v h
-
       values-length : length (n .values) ≡ length (m .values)
-      unfolding renamed renamedLists
       values-length =
-          ap length (t .twin .values-are) ∙ lay-length k (renamed π (t .s) .lists) (λ v h. rw (length-map (t .s .lists v) π) (enough-lists v h))
-          ∙ sym (ap length (t .laid .values-are) ∙ lay-length k (t .s .lists) enough-lists)
+          ap length (t .twin .values-are) ∙ lay-length k (renamed π (t .s) .lists) (t .twin .proper .sized)
+          ∙ sym (ap length (t .laid .values-are) ∙ lay-length k (t .s .lists) (t .laid .proper .sized))
 
       shows-n : shows rows n ≡ renamed π (t .s)
       shows-n = shows-is rows k C kr cr n (renamed π (t .s)) (t .twin)
@@ -198,13 +175,12 @@ module _ (π : ℕ → ℕ) (U : ℕ → Type 0) (inj : (x y : ℕ) → U x → 
             k-is rows k C kr cr n (renamed π (t .s)) (t .twin),
             k-is rows k C kr cr m (t .s) (t .laid),
             facts-of π e,
-            askFacts-ren π U inj (factsOf e) (ruleOf rows) (t .s .lists) (t .uses) ue keeps,
           )
-          (ap (firstBelow 4) (fun-ext (λ v. ap (ltb (most k)) (unfold renamedLists in length-map (askFacts (factsOf e) (t .s .lists) (ruleOf rows) v) π))))
+          (ap (firstBelow 4) (fun-ext (λ v. asks-ren π U inj k (ruleOf rows) (saysAt (t .s .trees)) (factsOf e) (t .s .lists) (t .uses) ue keeps v)))
 
       after-uses : EveryList U (step k (ruleOf rows) (t .s) (factsOf e) .lists)
       unfolding step
-      after-uses = askFacts-every U (factsOf e) (ruleOf rows) (t .s .lists) ue (t .uses)
+      after-uses = after-every U k (ruleOf rows) (saysAt (t .s .trees)) (factsOf e) (t .s .lists) ue (t .uses)
 
       room-same : roomOf (n .state .k) (ruleOf rows) (shows rows n) (factsOf (disguised π e)) (step (n .state .k) (ruleOf rows) (shows rows n) (factsOf (disguised π e)))
           ≡ roomOf (m .state .k) (ruleOf rows) (shows rows m) (factsOf e) (step (m .state .k) (ruleOf rows) (shows rows m) (factsOf e))

@@ -1,29 +1,24 @@
 -- Each refusal is given exactly if its sentence holds and none of the earlier ones. Assumes nothing.
-use Prim.Native.Nat.{ℕ, zero, suc, _+_, _-_, _*_, _%_, _≤_, _<_}
-use mathlib.Core.Path.{_≡_, refl, ap, sym, _∙_}
+use Prim.Native.Nat.{ℕ, zero, suc, _-_, _%_, _<_}
+use mathlib.Core.Path.{_≡_, refl, ap, sym}
 use mathlib.Core.Bool.{Bool, true, false, not, _&&_, _||_}
 use mathlib.Core.List.{List, [], _∷_}
 use mathlib.Core.Logic.{_↔_, _≢_, _⊎_, inl, inr, ⊎-elim}
-use native.Mathlib.Decide.{decLt}
 use native.Mathlib.Omega.{arith}
 use lib.Dec.{eqb, ltb, leb}
 use lib.ListN.{length, getD}
-use borrow.Author.Tests.{eqb-true, eqb-false, eq-eqb, ne-eqb, ltb-true, ltb-false, leb-true, leb-false, lt-ltb, le-leb, lt-leb, le-ltb}
-use Rattle.trees.specs.Kept.{allBelow}
-use Rattle.trees.proofs.Tests.{bool, lt-or-ge, false-true, and-true, and-true-l, and-true-r}
+use borrow.Author.Tests.{eqb-true, eqb-false, eq-eqb, ne-eqb, ltb-true, ltb-false, leb-false, lt-ltb, lt-leb, le-ltb}
+use Rattle.trees.proofs.Tests.{lt-or-ge, false-true, not-not}
 use Rattle.trees.proofs.KeptLaws.{all-at, all-fails, not-false}
-use Rattle.trees.proofs.RoomLaws.{room-one}
 use Rattle.meaning.specs.declared.Event.{Event}
 use Rattle.meaning.specs.declared.Fact.{Fact as Given}
 use Rattle.meaning.specs.Qtl.{Argument, free}
 use Rattle.meaning.specs.Rows.{Row, truth, atom, both, neg, since, previous, exists, rowFault, rowCount, rowsUpTo, ruleOf, formulaAt, closed, firstBelow, Found, right, fault, judgeRows, checkRows}
-use Rattle.meaning.specs.Numbering.{askFacts}
-use Rattle.meaning.specs.Step.{step, counted, roomOf}
-use Rattle.meaning.specs.Tables.{most, wellFormed}
+use Rattle.meaning.specs.Numbering.{isShort}
 use Rattle.meaning.specs.Outcome
-use Rattle.meaning.specs.Outcome.{kRight, capacity, nodesRight, valuesRight, workSize, given, factsOf, agrees, allAgree, factRight, allRight, countRight, shortest, Decision, taken, refused, judgeStart, judgeEvent, decideStart, decideEvent, Machine, shows}
-use Rattle.meaning.specs.Refusals.{BadK, BadShape, FirstFault, OpenRule, BadRows, BadNodes, BadValues, BadWork, OtherCount, BadFact, SomeBad, Short, NoRoom, StartSentence, Sentence, First}
-use Rattle.meaning.proofs.RowsLaws.{first-le, first-none, first-some, rows-length}
+use Rattle.meaning.specs.Outcome.{kRight, capacity, nodesRight, valuesSize, valuesRight, given, factsOf, agrees, allAgree, factRight, allRight, countRight, shortest, Machine, shows}
+use Rattle.meaning.specs.Refusals.{BadK, BadShape, BadRows, BadNodes, BadValues, OtherCount, BadFact, SomeBad, asks, has, Short}
+use Rattle.meaning.proofs.RowsLaws.{first-none, first-some, rows-length}
 
 -- a test that failed
 pub and-false : (a b : Bool) → (a && b) ≡ false → (a ≡ false) ⊎ (b ≡ false)
@@ -70,11 +65,7 @@ open-last : (raw : List ℕ) → closed (ruleOf raw) ≡ false → (v : ℕ) × 
 unfolding closed ruleOf
 open-last raw e =
     let f = all-fails 4 (λ v. not (free (formulaAt (rowsUpTo raw (rowCount raw)) (rowCount raw - 1)) v)) (rw (rows-length raw (rowCount raw)) at e) in
-    (f .0, f .1, flip _ (f .2))
-  where
-    flip : (b : Bool) → not b ≡ false → b ≡ true
-    flip true e = refl
-    flip false e = sym e
+    (f .0, f .1, not-not _ (f .2))
 
 closed-last : (raw : List ℕ) → closed (ruleOf raw) ≡ true → (v : ℕ) → v < 4 → free (formulaAt (ruleOf raw) (rowCount raw - 1)) v ≡ false
 unfolding closed ruleOf
@@ -135,7 +126,7 @@ nodes-bad nodes = (
 
 pub values-bad : (k : ℕ) (values : List ℕ) → (valuesRight k values ≡ false) ↔ BadValues k values
 unfolding valuesRight
-values-bad k values = (eqb-false (length values) (4 * most k), ne-eqb (length values) (4 * most k))
+values-bad k values = (eqb-false (length values) (valuesSize k), ne-eqb (length values) (valuesSize k))
 
 pub either-bad : (a b : Bool) (P Q : Type 0) → ((a ≡ false) ↔ P) → ((b ≡ false) ↔ Q) → ((a && b) ≡ false) ↔ (P ⊎ Q)
 either-bad a b P Q p q = (
@@ -202,7 +193,7 @@ count-bad rows e = either-bad (leb (e .count) 8) (allRight (ruleOf rows) (given 
 -- 6
 pub short-found : (rows : List ℕ) (m : Machine) (e : Event) → let v = shortest (m .state .k) (ruleOf rows) (shows rows m) (factsOf e) in
     (v < 4 → Short rows m e v) × ((w : ℕ) → Short rows m e w → (v < 4) × (w ≡ v))
-unfolding shortest
+unfolding shortest isShort
 short-found rows m e = (
   λ h. record { bound = h; over = ltb-true _ _ (first-some 4 f h); lowest = λ w q. ltb-false _ _ (first-none 4 f w q) },
   λ w z. ⊎-elim
@@ -215,4 +206,4 @@ short-found rows m e = (
 )
   where
     f : ℕ → Bool
-    f v = ltb (most (m .state .k)) (length (askFacts (factsOf e) (shows rows m .lists) (ruleOf rows) v))
+    f v = ltb (has rows m e v) (asks rows m e v)

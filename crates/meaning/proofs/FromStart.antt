@@ -1,21 +1,23 @@
 -- A run from a fresh start, whatever the tables held before: what it keeps and answers is what the definitions say. Assumes nothing.
-use Prim.Native.Nat.{ℕ, suc, _-_, _*_, _<_}
-use mathlib.Core.Path.{_≡_, refl}
+use Prim.Native.Nat.{ℕ, _*_, _^_, _<_}
+use mathlib.Core.Path.{_≡_}
 use mathlib.Core.Bool.{Bool, true}
 use mathlib.Core.List.{List, []}
 use mathlib.Core.Logic.{_↔_}
 use lib.ListN.{length, getD}
-use Rattle.trees.specs.Bits.{Bits}
+use Rattle.trees.specs.Bits.{Bits, Untold}
 use Rattle.trees.specs.Tree.{off, eval}
 use Rattle.meaning.specs.declared.Event.{Event}
 use Rattle.meaning.specs.declared.Answer.the-variants.{Started, Verdict}
 use Rattle.meaning.specs.Qtl.{Fact, Assignment, Holds}
 use Rattle.meaning.specs.Rows.{ruleOf, formulaAt, right, checkRows}
-use Rattle.meaning.specs.Numbering.{shown, Shows}
+use Rattle.meaning.specs.Numbering.{vacant, entry, most, shown, Shows}
 use Rattle.meaning.specs.Step.{saysAt}
 use Rattle.meaning.specs.Outcome.{kRight, capacity, startOutcome, Machine, machineOf, shows, eventOutcome, runs, takenOf, log}
 use Rattle.meaning.specs.Verdicts.{Sized, Answered}
 use Rattle.meaning.proofs.ShownLaws.{shown-shows}
+use Rattle.meaning.proofs.Forgotten.{untaken}
+use Rattle.meaning.proofs.ProperLaws.{enough-of}
 use Rattle.meaning.proofs.RunLaws.{Running, shows-is, runs-all}
 use Rattle.meaning.proofs.AnswerLaws.{answered}
 use Rattle.meaning.proofs.SizedLaws.{sized-of}
@@ -49,7 +51,16 @@ module _ (k : ℕ) (rows nodes values work : List ℕ) (started : startOutcome k
 
   -- the numbers of an assignment stand for its values
   pub own-numbers : (a : Assignment) → Shows k (shows rows after .lists) (shown k (shows rows after .lists) a) a
-  own-numbers a = let r = running in rw (shows-is rows k (capacity nodes) kr cr after (r .s) (r .laid)) (shown-shows k (r .s .lists) a (r .laid .proper .enough))
+  own-numbers a = let r = running in rw (shows-is rows k (capacity nodes) kr cr after (r .s) (r .laid)) (shown-shows k (r .s .lists) a (enough-of k (capacity nodes) (ruleOf rows) (r .s) (r .laid .proper)))
+
+  -- a number that is not taken is not told apart from the reserved one
+  pub vacant-untold : (i : ℕ) → i < length (ruleOf rows) → (v n : ℕ) → v < 4 → n < 2 ^ k → entry (shows rows after .lists v) n ≡ vacant
+      → Untold (v * k) k n (most k) (saysAt (shows rows after .trees) i)
+  unfolding most
+  vacant-untold i h v n q l e =
+      let r = running in
+      let is = shows-is rows k (capacity nodes) kr cr after (r .s) (r .laid) in
+      rw is (untaken k (r .s .lists) (saysAt (r .s .trees) i) _ (r .faithful .means i h) v (enough-of k (capacity nodes) (ruleOf rows) (r .s) (r .laid .proper) v q) n l (rw is at e))
 
   -- the sizes
   pub sized : Sized rows after

@@ -1,36 +1,29 @@
 -- The test of refusal 4 fails exactly if one of its clauses holds. Assumes nothing.
-use Prim.Native.Nat.{ℕ, zero, suc, _+_, _*_, _≤_, _<_, min}
-use mathlib.Core.Path.{_≡_, refl, ap, sym, _∙_}
+use Prim.Native.Nat.{ℕ, zero, suc, _+_, _*_, _≤_, _<_}
+use mathlib.Core.Path.{_≡_, refl, sym, ap, _∙_}
 use mathlib.Core.Bool.{Bool, true, false, not, _&&_, _||_}
 use mathlib.Core.List.{List, []}
-use mathlib.Core.Logic.{_↔_, _≢_, _⊎_, inl, inr, ⊎-elim}
+use mathlib.Core.Logic.{_↔_, _≢_, inl, inr, ⊎-elim}
 use native.Mathlib.Omega.{arith}
-use lib.Dec.{eqb, ltb, leb}
-use lib.ListN.{length, getD, length-take, List·getD-eq-default}
-use borrow.Author.Tests.{eqb-true, eqb-false, eq-eqb, ltb-true, ltb-false, leb-true, leb-false}
+use lib.Dec.{eqb, ltb}
+use lib.ListN.{length, getD}
+use borrow.Author.Tests.{eqb-true, eqb-false, eq-eqb, ltb-true, ltb-false, leb-false}
 use Rattle.trees.specs.Tree.{Tree, off, on, node}
 use Rattle.trees.specs.Table.{addTrees, at, treesOf}
 use Rattle.trees.specs.Kept.{allBelow, above, nodeRight, equalNodes, sameTrees, levels, zerosFrom, diagrams, wellKept}
-use Rattle.trees.specs.Sizes.{sizesRight}
-use Rattle.trees.proofs.Tests.{false-true, not-true, and-true, and-true-l, and-true-r, or-cases, lt-or-ge}
-use Rattle.trees.proofs.KeptLaws.{all-at, all-fails, same-trees-refl}
+use Rattle.trees.specs.Sizes.{nodeCount, sizesRight}
+use Rattle.trees.proofs.Tests.{false-true, not-true, and-true, and-true-l, and-true-r, or-cases, or-false, not-not, lt-or-ge}
+use Rattle.trees.proofs.KeptLaws.{all-fails, same-trees-refl}
 use Rattle.meaning.specs.declared.State.{State}
 use Rattle.meaning.specs.Rows.{Row}
-use Rattle.meaning.specs.Tables.{most, part, listOf, freeLevel, distinct, listRight, wellFormed}
-use Rattle.meaning.specs.Refusals.{Side, AsksLevel, IllFormed, row-count, kept-over, reference-past, reference-set, sides-equal, side-not-higher, nodes-equal, child-after, out-of-order, level-outside, size-other, size-set, size-count, node-rest, value-rest, count-over, value-twice}
+use Rattle.meaning.specs.Numbering.{entry, most}
+use Rattle.meaning.specs.Tables.{valuesOf, wordsOf, isTaken, listOf, wordIn, freeLevel, sameValue, distinct, listRight, wellFormed}
+use Rattle.meaning.specs.Refusals.{Side, AsksLevel, IllFormed, row-count, kept-over, reference-past, reference-set, sides-equal, side-not-higher, nodes-equal, child-after, out-of-order, level-outside, size-other, size-set, size-count, node-rest, free-entry, count-other, bit-above, word-over, value-twice}
 use Rattle.meaning.proofs.ExactLaws.{and-false}
-use Rattle.meaning.proofs.PartsLaws.{distinct-of}
-use Rattle.meaning.proofs.ProperLaws.{rows-are, kept-is, sizes-are, list-is}
+use Rattle.meaning.proofs.PartsLaws.{value-same}
+use Rattle.meaning.proofs.WordsLaws.{words-other, words-fit}
+use Rattle.meaning.proofs.ProperLaws.{rows-are, kept-is, sizes-are, list-parts}
 use Rattle.meaning.proofs.MisfitLaws.{misfit, size-of-row, size-past, sizes-many}
-
--- a test that failed
-or-false : (a b : Bool) → (a || b) ≡ false → (a ≡ false) × (b ≡ false)
-or-false true b e = absurd (false-true e refl)
-or-false false b e = (refl, e)
-
-flip : (b : Bool) → not b ≡ false → b ≡ true
-flip true e = refl
-flip false e = sym e
 
 -- a level that fails is one that the diagram asks
 levels-fails : (p : ℕ → Bool) (t : Tree) → levels p t ≡ false → (l : ℕ) × AsksLevel t l × (p l ≡ false)
@@ -83,14 +76,14 @@ module _ (k C : ℕ) (rule : List Row) (few : length rule ≤ 64) (s : State) (n
       let a = getD nodes (3 * j + 1) 0 in
       let b = getD nodes (3 * j + 2) 0 in
       ⊎-elim
-      (λ p. sides-equal j h (eqb-true a b (flip (eqb a b) p)))
+      (λ p. sides-equal j h (eqb-true a b (not-not (eqb a b) p)))
       (λ p. ⊎-elim (side-fails j a h (inl refl)) (side-fails j b h (inr refl)) (and-false (ltb a (j + 2) && above nodes (level j) a) (ltb b (j + 2) && above nodes (level j) b) p))
       (and-false (not (eqb a b)) _ e)
 
   equal-fails : (i j : ℕ) → i < s .kept → j < i → not (equalNodes nodes i j) ≡ false → Ill
   unfolding equalNodes
   equal-fails i j h q e =
-      let w = flip (equalNodes nodes i j) e in
+      let w = not-not (equalNodes nodes i j) e in
       let a = eqb (level i) (level j) in
       let b = eqb (getD nodes (3 * i + 1) 0) (getD nodes (3 * j + 1) 0) in
       let c = eqb (getD nodes (3 * i + 2) 0) (getD nodes (3 * j + 2) 0) in
@@ -138,19 +131,26 @@ module _ (k C : ℕ) (rule : List Row) (few : length rule ≤ 64) (s : State) (n
 
   list-fails : (v : ℕ) → v < 4 → listRight k s values v ≡ false → Ill
   unfolding listRight distinct
-  list-fails v h e = ⊎-elim (λ p. count-over v h (leb-false (getD (s .counts) v 0) (most k) p)) (λ p. ⊎-elim twice rest (and-false _ _ p)) (and-false _ _ e)
+  list-fails v h e = ⊎-elim (λ p. count-other v h (eqb-false _ _ p)) (λ p. ⊎-elim twice (λ p. ⊎-elim rest words (and-false _ _ p)) (and-false _ _ p)) (and-false _ _ e)
     where
-      twice : distinct (listOf k s values v) ≡ false → Ill
+      twice : distinct (listOf k values v) ≡ false → Ill
       twice p =
-          let f = all-fails (length (listOf k s values v)) (λ i. allBelow i (λ j. not (eqb (getD (listOf k s values v) i 0) (getD (listOf k s values v) j 0)))) p in
-          let g = all-fails (f .0) (λ j. not (eqb (getD (listOf k s values v) (f .0) 0) (getD (listOf k s values v) j 0))) (f .2) in
-          value-twice v (f .0) (g .0) h (f .1) (g .1) (eqb-true _ _ (flip (eqb (getD (listOf k s values v) (f .0) 0) (getD (listOf k s values v) (g .0) 0)) (g .2)))
+          let f = all-fails (length (listOf k values v)) (λ i. allBelow i (λ j. not (sameValue (entry (listOf k values v) i) (entry (listOf k values v) j)))) p in
+          let g = all-fails (f .0) (λ j. not (sameValue (entry (listOf k values v) (f .0)) (entry (listOf k values v) j))) (f .2) in
+          let z = value-same (entry (listOf k values v) (f .0)) (entry (listOf k values v) (g .0)) (not-not _ (g .2)) in
+          value-twice v (f .0) (g .0) (z .0) h (g .1) (z .1) (z .2)
 
-      rest : allBelow (most k) (λ j. ltb j (getD (s .counts) v 0) || eqb (getD (part k values v) j 0) 0) ≡ false → Ill
+      rest : allBelow (most k) (λ n. isTaken (wordsOf k values v) n || eqb (getD (valuesOf k values v) n 0) 0) ≡ false → Ill
       rest p =
-          let f = all-fails (most k) (λ j. ltb j (getD (s .counts) v 0) || eqb (getD (part k values v) j 0) 0) p in
-          let g = or-false (ltb (f .0) (getD (s .counts) v 0)) (eqb (getD (part k values v) (f .0) 0) 0) (f .2) in
-          value-rest v (f .0) h (ltb-false (f .0) (getD (s .counts) v 0) (g .0)) (eqb-false (getD (part k values v) (f .0) 0) 0 (g .1))
+          let f = all-fails (most k) (λ n. isTaken (wordsOf k values v) n || eqb (getD (valuesOf k values v) n 0) 0) p in
+          let g = or-false (isTaken (wordsOf k values v) (f .0)) (eqb (getD (valuesOf k values v) (f .0) 0) 0) (f .2) in
+          free-entry v (f .0) h (f .1) (g .0) (eqb-false (getD (valuesOf k values v) (f .0) 0) 0 (g .1))
+
+      words : allBelow 32 (λ w. eqb (getD (wordsOf k values v) w 0) (wordIn (listOf k values v) w)) ≡ false → Ill
+      words p =
+          let f = all-fails 32 (λ w. eqb (getD (wordsOf k values v) w 0) (wordIn (listOf k values v) w)) p in
+          ⊎-elim (λ q. word-over v (f .0) h q) (λ q. bit-above v (q .0) h (q .1) (q .2))
+          (words-other k values v (f .0) (f .1) (eqb-false _ _ (f .2)))
 
   -- a test that failed tells a clause
   fails-ill : wellFormed k C rule s nodes values ≡ false → Ill
@@ -183,18 +183,6 @@ module _ (k C : ℕ) (rule : List Row) (few : length rule ≤ 64) (s : State) (n
         side p q r (inl e) = rw e (two (getD nodes (3 * j + 1) 0) p)
         side p q r (inr e) = rw e (two (getD nodes (3 * j + 2) 0) q)
 
-    list-rest : (v : ℕ) → v < 4 → (leb (getD (s .counts) v 0) (most k) ≡ true) × (distinct (listOf k s values v) ≡ true)
-        × (allBelow (most k) (λ j. ltb j (getD (s .counts) v 0) || eqb (getD (part k values v) j 0) 0) ≡ true)
-    unfolding listRight
-    list-rest v h =
-        let t = list-is k C rule s nodes values w v h in
-        let u = and-true-r (leb (getD (s .counts) v 0) (most k)) _ t in
-        (and-true-l (leb (getD (s .counts) v 0) (most k)) _ t, and-true-l (distinct (listOf k s values v)) _ u, and-true-r (distinct (listOf k s values v)) _ u)
-
-    part-size : (v : ℕ) → length (part k values v) ≤ most k
-    unfolding part
-    part-size v = rw length-take (omega arith)
-
     no-clause : Ill → ⊥
     unfolding above
     no-clause (row-count p) = p (rows-are k C rule s nodes values w)
@@ -216,15 +204,16 @@ module _ (k C : ℕ) (rule : List Row) (few : length rule ≤ 64) (s : State) (n
     no-clause (size-set i h p) = p (ap (λ (z : List ℕ). getD z i 0) (sizes-are k C rule s nodes values w) ∙ size-past nodes (s .kept) (s .refs) (length rule) i h)
     no-clause (size-count p) = p (ap length (sizes-are k C rule s nodes values w) ∙ sizes-many nodes (s .kept) (s .refs) (length rule) few)
     no-clause (node-rest i h p) = p (kept-is k C rule s nodes values w .rest i h)
-    no-clause (value-rest v j h q p) = ⊎-elim
-        (λ g. ⊎-elim
-        (λ e. let z = ltb-true j (getD (s .counts) v 0) e in omega arith)
-        (λ e. p (eqb-true (getD (part k values v) j 0) 0 e))
-        (or-cases (ltb j (getD (s .counts) v 0)) (eqb (getD (part k values v) j 0) 0) (all-at (most k) _ (list-rest v h .2) j g)))
-        (λ g. p (List·getD-eq-default (part k values v) 0 (let z = part-size v in omega arith)))
-        (lt-or-ge j (most k))
-    no-clause (count-over v h p) = let q = leb-true (getD (s .counts) v 0) (most k) (list-rest v h .0) in omega arith
-    no-clause (value-twice v i j h p q e) = let z = distinct-of (listOf k s values v) (list-rest v h .1) i j p (omega arith) e in omega arith
+    no-clause (free-entry v n h q c p) = ⊎-elim
+        (λ z. false-true c z)
+        (λ z. p (eqb-true (getD (valuesOf k values v) n 0) 0 z))
+        (or-cases (isTaken (wordsOf k values v) n) (eqb (getD (valuesOf k values v) n 0) 0) (list-parts k C rule s nodes values w v h .2 n q))
+    no-clause (count-other v h p) = p (list-parts k C rule s nodes values w v h .0)
+    no-clause (bit-above v n h q p) =
+        false-true (words-fit k values v (list-parts k C rule s nodes values w v h .3) .0 n q) p
+    no-clause (word-over v n h p) =
+        let z = words-fit k values v (list-parts k C rule s nodes values w v h .3) .1 n in omega arith
+    no-clause (value-twice v i j x h q a b) = let z = list-parts k C rule s nodes values w v h .1 i j x a b in omega arith
 
   -- refusal 4 is the disjunction of its clauses
   pub formed-bad : (wellFormed k C rule s nodes values ≡ false) ↔ IllFormed k C rule s nodes values

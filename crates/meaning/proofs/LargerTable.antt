@@ -91,7 +91,7 @@ module _ (rows : List ℕ) (m : Machine) (w : WellFormed rows m) (d : ℕ) (work
         state-is = laid .state-is;
         nodes-are = ap (λ (l : List ℕ). l ++ zeros (3 * d)) (laid .nodes-are) ∙ lay-more k C d (ruleOf rows) (shows rows m) p;
         values-are = laid .values-are;
-        proper = record { enough = p .enough; distinct = p .distinct; beyond = p .beyond; count = p .count; fine = p .fine; free = p .free; room = omega arith };
+        proper = record { sized = p .sized; distinct = p .distinct; beyond = p .beyond; count = p .count; fine = p .fine; free = p .free; room = omega arith };
       }
 
   C-large : capacity (large .nodes) ≡ C + d

@@ -1,23 +1,22 @@
 -- Start and event refuse exactly as document 01's table says: the first sentence that applies is given. Assumes nothing.
-use Prim.Native.Nat.{ℕ, zero, suc, _+_, _-_, _*_, _≤_, _<_}
-use mathlib.Core.Path.{_≡_, refl, ap, sym, _∙_}
+use Prim.Native.Nat.{ℕ, zero, suc, _-_, _*_, _<_}
+use mathlib.Core.Path.{_≡_, refl}
 use mathlib.Core.Bool.{Bool, true, false, _&&_}
 use mathlib.Core.List.{List, []}
-use mathlib.Core.Logic.{_↔_, _⊎_, inl, inr, ⊎-elim}
+use mathlib.Core.Logic.{_↔_, _⊎_, ⊎-elim}
 use native.Mathlib.Nat.{eq-or-lt-of-le}
 use native.Mathlib.Omega.{arith}
 use lib.Dec.{ltb, leb}
 use lib.ListN.{length}
-use borrow.Author.Tests.{ltb-true, ltb-false, leb-true, leb-false, lt-leb}
-use Rattle.trees.specs.Tree.{Tree}
+use borrow.Author.Tests.{ltb-true, ltb-false, leb-false, lt-leb}
 use Rattle.trees.specs.Room.{Room}
-use Rattle.trees.proofs.Tests.{lt-or-ge, false-true, and-true-l, and-true-r}
+use Rattle.trees.proofs.Tests.{lt-or-ge, false-true, and-true-l}
 use Rattle.trees.proofs.TreeLaws.{fine-off}
 use Rattle.trees.proofs.RoomLaws.{room-one}
 use Rattle.meaning.specs.declared.Event.{Event}
-use Rattle.meaning.specs.Rows.{Row, ruleOf, Found, right, fault, checkRows}
-use Rattle.meaning.specs.Numbering.{askFacts}
-use Rattle.meaning.specs.Step.{step, counted, roomOf}
+use Rattle.meaning.specs.Rows.{ruleOf, Found, right, checkRows}
+use Rattle.meaning.specs.Forgetting.{numbered, four}
+use Rattle.meaning.specs.Step.{saysAt, step, counted, roomOf}
 use Rattle.meaning.specs.Tables.{read, wellFormed}
 use Rattle.meaning.specs.Outcome.{kRight, capacity, nodesRight, valuesRight, workSize, factsOf, countRight, shortest, Decision, taken, refused, judgeStart, judgeEvent, decideStart, decideEvent, Machine, shows}
 use Rattle.meaning.specs.Refusals.{BadNodes, BadValues, BadWork, IllFormed, Short, NoRoom, StartSentence, Sentence, First}
@@ -141,13 +140,13 @@ module _ (rows : List ℕ) (m : Machine) (e : Event) where
   positive a = ltb-true 0 (m .state .k) (and-true-l (ltb 0 (m .state .k)) (leb (m .state .k) 10) a)
 
   -- the diagrams before and after are reduced and ordered
-  fine-before : kRight (m .state .k) ≡ true → checkRows rows ≡ right → formed ≡ true → AllFine (4 * m .state .k) (shows rows m .trees)
+  pub fine-before : kRight (m .state .k) ≡ true → checkRows rows ≡ right → formed ≡ true → AllFine (4 * m .state .k) (shows rows m .trees)
   unfolding shows read
   fine-before a r f = read-fine (m .state .k) (capacity (m .nodes)) (ruleOf rows) (m .state) (m .nodes) (m .values) f (positive a) (checked rows r .rows)
 
   fine-after : AllFine (4 * m .state .k) (shows rows m .trees) → AllFine (4 * m .state .k) (step (m .state .k) (ruleOf rows) (shows rows m) (factsOf e) .trees)
   unfolding step
-  fine-after w = fine-rows (m .state .k) (askFacts (factsOf e) (shows rows m .lists) (ruleOf rows)) (factsOf e) (shows rows m .trees) w (ruleOf rows) [] (λ j. fine-off 0 (4 * m .state .k))
+  fine-after w = fine-rows (m .state .k) (four (numbered (m .state .k) (ruleOf rows) (saysAt (shows rows m .trees)) (factsOf e) (shows rows m .lists))) (factsOf e) (shows rows m .trees) w (ruleOf rows) [] (λ j. fine-off 0 (4 * m .state .k))
 
   -- the room of the outcome is document 01's
   pub event-room : kRight (m .state .k) ≡ true → checkRows rows ≡ right → formed ≡ true

@@ -1,31 +1,30 @@
--- From a fresh start the diagrams show the meaning, for every assignment of whole numbers. Assumes nothing.
-use Prim.Native.Nat.{ℕ, zero, suc, _+_, _-_, _*_, _^_, _≤_, _<_}
+-- What functions over numbers say of assignments of whole numbers, row by row. Assumes nothing.
+use Prim.Native.Nat.{ℕ, suc, _+_, _-_, _*_, _^_, _≤_, _<_}
 use mathlib.Core.Path.{_≡_, refl, ap, sym, _∙_}
-use mathlib.Core.Bool.{Bool, true, false, cond, not, _&&_, _||_}
+use mathlib.Core.Bool.{Bool, true, false, not, _&&_, _||_}
 use mathlib.Core.List.{List, [], _∷_, _++_}
 use mathlib.Core.Logic.{_↔_, _≢_, _⊎_, inl, inr, ⊎-elim}
 use native.Mathlib.Decide.{decLt, ℕ-discrete}
 use native.Mathlib.Nat.{mul-le-mul-right}
 use native.Mathlib.Omega.{arith}
 use lib.Dec.{eqb, ltb}
-use lib.ListN.{length, getD, length-append, List·getD-append, length-replicate, getD-replicate, replicate, List·getD-eq-default}
+use lib.ListN.{length, getD, length-append, List·getD-append}
 use lib.Seq.{getD-append-seam}
 use lib.Pow.{pow-pos}
 use borrow.Author.Tests.{eq-eqb, ne-eqb, lt-ltb, ltb-true, eqb-true}
-use Rattle.trees.specs.Bits.{Bits, Function, Same, Asks, number, drops}
-use Rattle.trees.specs.Tree.{Tree, off, eval, Fine}
-use Rattle.trees.proofs.Tests.{EqCase, equal, other, eq-case, eqb-same, false-true, and-true-l, and-true-r, and-true}
-use Rattle.trees.proofs.BitsLaws.{Outside, drops-some, drops-of, number-agree, write, write-outside, write-number}
-use Rattle.trees.proofs.TreeLaws.{fine-off}
+use Rattle.trees.specs.Bits.{Bits, Function, Same, Asks, number, write, drops}
+use Rattle.trees.specs.Tree.{Tree, off, eval}
+use Rattle.trees.proofs.Tests.{EqCase, equal, eq-case, eqb-same, false-true, and-true-l, and-true-r, and-true}
+use Rattle.trees.proofs.BitsLaws.{Outside, drops-some, drops-of, number-agree, write-outside, write-number}
 use Rattle.meaning.specs.Qtl.{Argument, variable, constant, Fact, Formula, Assignment, bind, Matches, Some, Matching, Holds}
 use Rattle.meaning.specs.Qtl
-use Rattle.meaning.specs.Rows.{Row, truth, atom, both, neg, since, previous, exists, follow, formulasFrom, formulas}
-use Rattle.meaning.specs.Numbering.{Lists, place, listed, repeats, fits, askFacts, Stands, Shows}
-use Rattle.meaning.specs.Step.{argumentsSay, factSays, atomSays, rowSays, saysAt, rowTree, rowTrees, Shown, fresh, step}
+use Rattle.meaning.specs.Rows.{Row, truth, atom, both, neg, since, previous, exists, follow, formulasFrom}
+use Rattle.meaning.specs.Numbering.{Lists, place, listed, repeats, fits, Stands, Shows}
+use Rattle.meaning.specs.Step.{argumentsSay, factSays, atomSays, rowSays, saysAt, rowTree, rowTrees}
 use Rattle.meaning.proofs.RowsLaws.{ArgumentsOk, RowOk, RowsOk, formulas-keep, formulas-here, formulas-length}
-use Rattle.meaning.proofs.ValuesLaws.{Distinct, stands-back, value-of, number-of, stands-place, place-stands}
-use Rattle.meaning.proofs.AskingLaws.{has-place, GrowsL, DistinctL, Asked, InLists, Covered, CoveredBy, Covers, covers-row, covers-rest, askFacts-grows, askFacts-distinct, askFacts-covers}
-use Rattle.meaning.proofs.StepLaws.{AllFine, asks-at, fine-row, eval-row, fine-snoc, fine-rows, variable-fits}
+use Rattle.meaning.proofs.ValuesLaws.{stands-back, value-of, number-of, stands-place, place-stands}
+use Rattle.meaning.proofs.AskingLaws.{has-place, GrowsL, DistinctL, Asked, InLists, Covered, CoveredBy, Covers}
+use Rattle.meaning.proofs.StepLaws.{AllFine, asks-at, fine-row, eval-row, fine-snoc}
 
 -- no variable has more values than numbers
 abbrev pub Enough : ℕ → Lists → Type 0
@@ -37,7 +36,7 @@ pub record Sim (k : ℕ) (L : Lists) (g : Function) (P : Assignment → Type 0) 
 
 -- after the lists have grown, an old function still says what it said
 pub sim-grows : (k : ℕ) (L M : Lists) (g : Function) (P : Assignment → Type 0) → GrowsL L M → DistinctL M → Sim k L g P → Sim k M g P
-sim-grows k L M g P w d t = record { means = λ s a h. t .means s a λ v q. stands-back (L v) (M v) (number s (v * k) k) (a v) (w v) (d v) (h v q) }
+sim-grows k L M g P w d t = record { means = λ s a h. t .means s a λ v q. stands-back (L v) (M v) (number s (v * k) k) (a v) (w v q) (d v) (h v q) }
 
 pub sim-same : (k : ℕ) (L : Lists) (f g : Function) (P : Assignment → Type 0) → Same f g → Sim k L g P → Sim k L f P
 sim-same k L f g P e t = record { means = λ s a h. rw (e s) (t .means s a h) }
@@ -176,20 +175,34 @@ abbrev pub Sims : ℕ → Lists → (ℕ → List Fact) → ℕ → ℕ → (ℕ
 Sims k L σ i n f fs = (j : ℕ) → j < n → Sim k L (f j) (λ a. Holds σ (getD fs j Qtl.truth) i a)
 
 module _ (k : ℕ) (L : Lists) (σ : ℕ → List Fact) (i : ℕ) (d : DistinctL L) (room : Enough k L) (old : List Tree) (wold : AllFine (4 * k) old) where
+  -- the old set that the row at place n reads shows its formula: F j is the formula of the row j
+  abbrev pub OldSim : (ℕ → Formula) → ℕ → Row → Type 0
+  OldSim F n truth = Unit {0}
+  OldSim F n (atom p gs) = Unit {0}
+  OldSim F n (both l r) = Unit {0}
+  OldSim F n (neg r) = Unit {0}
+  OldSim F n (since l r) = Sim k L (saysAt old n) (λ a. Holds σ (F n) i a)
+  OldSim F n (previous r) = Sim k L (saysAt old r) (λ a. Holds σ (F r) i a)
+  OldSim F n (exists x r) = Unit {0}
+
+  abbrev pub OldSims : (ℕ → Formula) → ℕ → List Row → Type 0
+  OldSims F n [] = Unit {0}
+  OldSims F n (r ∷ rs) = OldSim F n r × OldSims F (suc n) rs
+
   row-sim : (n : ℕ) (ts : List Tree) (fs : List Formula) (r : Row) → RowOk n r → AllFine (4 * k) ts → CoveredBy (σ (suc i)) L r
-      → Sims k L σ (suc i) n (saysAt ts) fs → Sims k L σ i n (saysAt old) fs
-      → Sim k L (saysAt old (length ts)) (λ a. Holds σ (follow fs r) i a)
+      → Sims k L σ (suc i) n (saysAt ts) fs
+      → (F : ℕ → Formula) → ((j : ℕ) → j < n → F j ≡ getD fs j Qtl.truth) → F (length ts) ≡ follow fs r → OldSim F (length ts) r
       → Sim k L (rowSays k L (σ (suc i)) (saysAt old) (saysAt ts) (length ts) r) (λ a. Holds σ (follow fs r) (suc i) a)
   unfolding rowSays follow
-  row-sim n ts fs truth o w c now was self = record { means = λ s a h. (λ e. tt, λ e. refl) }
-  row-sim n ts fs (atom p gs) o w c now was self = sim-atom k L d (σ (suc i)) p gs o c
-  row-sim n ts fs (both l r) o w c now was self = record { means = λ s a h. iff-and _ _ _ _ (now l (o .0) .means s a h) (now r (o .1) .means s a h) }
-  row-sim n ts fs (neg r) o w c now was self = record { means = λ s a h. iff-not _ _ (now r o .means s a h) }
-  row-sim n ts fs (since l r) o w c now was self = record {
-    means = λ s a h. iff-or _ _ _ _ (now r (o .1) .means s a h) (iff-and _ _ _ _ (now l (o .0) .means s a h) (self .means s a h));
+  row-sim n ts fs truth o w c now F keep self was = record { means = λ s a h. (λ e. tt, λ e. refl) }
+  row-sim n ts fs (atom p gs) o w c now F keep self was = sim-atom k L d (σ (suc i)) p gs o c
+  row-sim n ts fs (both l r) o w c now F keep self was = record { means = λ s a h. iff-and _ _ _ _ (now l (o .0) .means s a h) (now r (o .1) .means s a h) }
+  row-sim n ts fs (neg r) o w c now F keep self was = record { means = λ s a h. iff-not _ _ (now r o .means s a h) }
+  row-sim n ts fs (since l r) o w c now F keep self was = record {
+    means = λ s a h. iff-or _ _ _ _ (now r (o .1) .means s a h) (iff-and _ _ _ _ (now l (o .0) .means s a h) ((rw self at was) .means s a h));
   }
-  row-sim n ts fs (previous r) o w c now was self = was r o
-  row-sim n ts fs (exists x r) o w c now was self =
+  row-sim n ts fs (previous r) o w c now F keep self was = rw (keep r o) at was
+  row-sim n ts fs (exists x r) o w c now F keep self was =
       sim-exists k L (saysAt ts r) _ x (o .0) (room x (o .0)) (asks-at (4 * k) ts w r) (now r (o .1))
 
   sims-snoc : (p : ℕ) (ts : List Tree) (fs : List Formula) (t : Tree) (f : Formula) → length ts ≡ length fs → Sims k L σ p (length fs) (saysAt ts) fs
@@ -205,7 +218,7 @@ module _ (k : ℕ) (L : Lists) (σ : ℕ → List Fact) (i : ℕ) (d : DistinctL
   ]
 
   pub rows-sim : (rs : List Row) (ts : List Tree) (fs : List Formula) → length ts ≡ length fs → AllFine (4 * k) ts → RowsOk (length fs) rs → Covers (σ (suc i)) L rs
-      → Sims k L σ (suc i) (length fs) (saysAt ts) fs → Sims k L σ i (length (formulasFrom fs rs)) (saysAt old) (formulasFrom fs rs)
+      → Sims k L σ (suc i) (length fs) (saysAt ts) fs → OldSims (λ j. getD (formulasFrom fs rs) j Qtl.truth) (length ts) rs
       → Sims k L σ (suc i) (length (formulasFrom fs rs)) (saysAt (rowTrees k L (σ (suc i)) old ts rs)) (formulasFrom fs rs)
   unfolding formulasFrom rowTrees
   rows-sim [] ts fs e w o c now was = now
@@ -215,54 +228,9 @@ module _ (k : ℕ) (L : Lists) (σ : ℕ → List Fact) (i : ℕ) (d : DistinctL
       let n : length (fs ++ f ∷ []) ≡ suc (length fs) = length-append fs (f ∷ []) ∙ omega arith in
       let m : length (ts ++ t ∷ []) ≡ suc (length ts) = length-append ts (t ∷ []) ∙ omega arith in
       let all : length (formulasFrom (fs ++ f ∷ []) rs) ≡ length (fs ++ f ∷ []) + length rs = formulas-length rs (fs ++ f ∷ []) in
-      let was′ : Sims k L σ i (length fs) (saysAt old) fs = λ j h. rw (formulas-keep (r ∷ rs) fs j h) at (was j (omega arith)) in
-      let self : Sim k L (saysAt old (length ts)) (λ a. Holds σ f i a) = rw e (rw (formulas-here r rs fs) at (was (length fs) (omega arith))) in
+      let F : ℕ → Formula = λ j. getD (formulasFrom (fs ++ f ∷ []) rs) j Qtl.truth in
+      let self : F (length ts) ≡ f = rw e (formulas-here r rs fs) in
       let t-f : Sim k L (eval t) (λ a. Holds σ f (suc i) a) =
-      sim-same k L (eval t) _ _ (eval-row k L (σ (suc i)) old wold ts r (length fs) w (o .0)) (row-sim (length fs) ts fs r (o .0) w (covers-row (σ (suc i)) L r rs c) now was′ self) in
-      rows-sim rs (ts ++ t ∷ []) (fs ++ f ∷ []) (omega arith) (fine-snoc (4 * k) ts t w (fine-row k L (σ (suc i)) old wold ts r)) (rw n (o .1)) (covers-rest (σ (suc i)) L r rs c)
-      (rw n (sims-snoc (suc i) ts fs t f e now t-f)) was
-
--- nothing holds at position 0
-pub holds-zero : (σ : ℕ → List Fact) (f : Formula) (a : Assignment) → Holds σ f 0 a → ⊥
-holds-zero σ Qtl.truth a h = h
-holds-zero σ (Qtl.atom p gs) a h = h
-holds-zero σ (Qtl.both f g) a h = h
-holds-zero σ (Qtl.neg f) a h = h
-holds-zero σ (Qtl.since f g) a h = h
-holds-zero σ (Qtl.previous f) a h = h
-holds-zero σ (Qtl.exists x f) a h = h
-
--- what is shown after i events is the meaning
-pub record Faithful (k : ℕ) (rule : List Row) (σ : ℕ → List Fact) (i : ℕ) (s : Shown) : Type 0 where
-  pub distinct : DistinctL (s .lists)
-  pub fine : AllFine (4 * k) (s .trees)
-  pub means : Sims k (s .lists) σ i (length rule) (saysAt (s .trees)) (formulas rule)
-
-pub fresh-faithful : (k : ℕ) (rule : List Row) (σ : ℕ → List Fact) → Faithful k rule σ 0 (fresh rule)
-unfolding fresh eval saysAt
-fresh-faithful k rule σ = record {
-  distinct = λ v i j p q e. absurd (omega arith);
-  fine = λ i. elim (decLt i (length rule)) [
-    | yes p ↦ rw (getD-replicate (length rule) i off off p) (fine-off 0 (4 * k))
-    | no p ↦ rw (List·getD-eq-default (replicate (length rule) off) off {n = i} (rw length-replicate (omega arith))) (fine-off 0 (4 * k))
-  ];
-  means = λ j h. rw (getD-replicate (length rule) j off off h) (none (getD (formulas rule) j Qtl.truth));
-}
-  where
-    none : (f : Formula) → Sim k (λ v. []) (λ s. false) (λ a. Holds σ f 0 a)
-    none f = record { means = λ s a h. (λ z. absurd (false-true refl z), λ z. absurd (holds-zero σ f a z)) }
-
-pub step-faithful : (k : ℕ) (rule : List Row) (σ : ℕ → List Fact) (i : ℕ) (s : Shown) → RowsOk 0 rule → Faithful k rule σ i s
-    → Enough k (step k rule s (σ (suc i)) .lists) → Faithful k rule σ (suc i) (step k rule s (σ (suc i)))
-unfolding step formulas
-step-faithful k rule σ i s o g room =
-    let L : Lists = askFacts (σ (suc i)) (s .lists) rule in
-    let d : DistinctL L = askFacts-distinct (σ (suc i)) rule (s .lists) (g .distinct) in
-    let n : length (formulasFrom [] rule) ≡ length rule = formulas-length rule [] ∙ omega arith in
-    let none : AllFine (4 * k) [] = λ j. fine-off 0 (4 * k) in
-    let was : Sims k L σ i (length rule) (saysAt (s .trees)) (formulasFrom [] rule) = λ j h. sim-grows k (s .lists) L _ _ (askFacts-grows (σ (suc i)) rule (s .lists)) d (g .means j h) in
-    record {
-      distinct = d;
-      fine = fine-rows k L (σ (suc i)) (s .trees) (g .fine) rule [] none;
-      means = rw n at (rows-sim k L σ i d room (s .trees) (g .fine) rule [] [] refl none o (askFacts-covers (σ (suc i)) rule (s .lists)) (λ j h. absurd (omega arith)) (rw n was));
-    }
+      sim-same k L (eval t) _ _ (eval-row k L (σ (suc i)) old wold ts r (length fs) w (o .0)) (row-sim (length fs) ts fs r (o .0) w (c .0) now F (formulas-keep (r ∷ rs) fs) self (was .0)) in
+      rows-sim rs (ts ++ t ∷ []) (fs ++ f ∷ []) (omega arith) (fine-snoc (4 * k) ts t w (fine-row k L (σ (suc i)) old wold ts r)) (rw n (o .1)) (c .1)
+      (rw n (sims-snoc (suc i) ts fs t f e now t-f)) (rw m (was .1))

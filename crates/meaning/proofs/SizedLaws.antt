@@ -1,18 +1,18 @@
 -- The sizes of a state whose numbers are a layout are true: of each row the count of its diagram's nodes. Assumes nothing.
-use Prim.Native.Nat.{ℕ}
+use Prim.Native.Nat.{ℕ, _≤_, _<_}
 use mathlib.Core.Path.{_≡_, ap, sym, _∙_}
 use mathlib.Core.Bool.{true}
 use mathlib.Core.List.{List}
 use native.Mathlib.Omega.{arith}
 use lib.ListN.{length, getD}
-use Rattle.trees.specs.Tree.{off}
+use Rattle.trees.specs.Tree.{Tree, off}
 use Rattle.trees.specs.Sizes.{nodeCount, sizesOf}
 use Rattle.trees.proofs.SizesLaws.{sizes-length, sizes-at, sizes-past}
 use Rattle.meaning.specs.declared.State.{State}
-use Rattle.meaning.specs.Rows.{right, checkRows}
+use Rattle.meaning.specs.Rows.{ruleOf, right, checkRows}
 use Rattle.meaning.specs.Step.{Shown}
 use Rattle.meaning.specs.Tables.{layState}
-use Rattle.meaning.specs.Outcome.{kRight, Machine}
+use Rattle.meaning.specs.Outcome.{kRight, Machine, shows}
 use Rattle.meaning.specs.Verdicts.{Sized}
 use Rattle.meaning.proofs.RunLaws.{few, Laid, shows-is}
 

@@ -1,19 +1,14 @@
 -- Disguised logs: demand 3's renaming. Assumes nothing: these are definitions.
 use Prim.Native.Nat.{ℕ}
 use mathlib.Core.Path.{_≡_}
-use mathlib.Core.Bool.{Bool, true, false, _||_}
+use mathlib.Core.Bool.{true}
 use mathlib.Core.List.{List, [], _∷_, _++_, map}
-use lib.Dec.{eqb}
 use Rattle.meaning.specs.declared.Event.{Event}
 use Rattle.meaning.specs.declared.Fact.{Fact as Given}
 use Rattle.meaning.specs.Qtl.{Argument, variable, constant, Fact}
 use Rattle.meaning.specs.Rows.{Row, truth, atom, both, neg, since, previous, exists}
+use Rattle.meaning.specs.Numbering.{Entry, vacant, holds, among}
 use Rattle.meaning.specs.Outcome.{factOf, given, factsOf, Each, Machine, shows}
-
--- whether a value is in a list
-unfoldable pub among : ℕ → List ℕ → Bool
-among x [] = false
-among x (y ∷ ys) = eqb x y || among x ys
 
 -- the values that the events use
 unfoldable pub usedIn : List Fact → List ℕ
@@ -71,8 +66,13 @@ DisguisedLog π [] (f ∷ fs) = ⊥
 DisguisedLog π (e ∷ es) [] = ⊥
 DisguisedLog π (e ∷ es) (f ∷ fs) = Disguised π e f × DisguisedLog π es fs
 
+-- an entry of a list in disguise
+unfoldable pub disguisedEntry : (ℕ → ℕ) → Entry → Entry
+disguisedEntry π vacant = vacant
+disguisedEntry π (holds x) = holds (π x)
+
 -- two machines that show the same but for the disguise: "The value lists differ only by the disguise"
 pub record Alike (π : ℕ → ℕ) (rows : List ℕ) (m n : Machine) : Type 0 where
   pub states : n .state ≡ m .state
   pub node-slices : n .nodes ≡ m .nodes
-  pub lists : (v : ℕ) → shows rows n .lists v ≡ map π (shows rows m .lists v)
+  pub lists : (v : ℕ) → shows rows n .lists v ≡ map (disguisedEntry π) (shows rows m .lists v)

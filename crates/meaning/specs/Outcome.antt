@@ -14,9 +14,10 @@ use Rattle.meaning.specs.declared.Answer.{Answer}
 use Rattle.meaning.specs.declared.Answer.the-variants.{Started, Verdict, Refused}
 use Rattle.meaning.specs.Qtl.{Fact}
 use Rattle.meaning.specs.Rows.{Row, truth, atom, both, neg, since, previous, exists, rowCount, ruleOf, firstBelow, Found, right, fault, checkRows}
-use Rattle.meaning.specs.Numbering.{askFacts}
-use Rattle.meaning.specs.Step.{Shown, step, roomOf}
-use Rattle.meaning.specs.Tables.{most, read, keptTable, layState, layNodes, layValues, wellFormed}
+use Rattle.meaning.specs.Numbering.{most, isShort, askedFacts}
+use Rattle.meaning.specs.Forgetting.{spared}
+use Rattle.meaning.specs.Step.{Shown, saysAt, step, roomOf}
+use Rattle.meaning.specs.Tables.{read, keptTable, layState, layNodes, layValues, wellFormed}
 
 -- "k from 1 to 10"
 unfoldable pub kRight : ℕ → Bool
@@ -29,9 +30,12 @@ capacity nodes = length nodes / 3
 unfoldable pub nodesRight : List ℕ → Bool
 nodesRight nodes = eqb (length nodes % 3) 0 && (ltb 0 (capacity nodes) && leb (capacity nodes) 4096)
 
--- "The value slice has 4 × (2^k − 1) numbers"
+-- "The value slice has 4 × (2^k − 1) numbers", and "gains 32 words a variable at its end"
+unfoldable pub valuesSize : ℕ → ℕ
+valuesSize k = 4 * most k + 128
+
 unfoldable pub valuesRight : ℕ → List ℕ → Bool
-valuesRight k values = eqb (length values) (4 * most k)
+valuesRight k values = eqb (length values) (valuesSize k)
 
 -- "The work slice has at least W = 16 × C + 1,024 numbers."
 unfoldable pub workSize : ℕ → ℕ
@@ -91,9 +95,9 @@ allRight rule (f ∷ fs) = factRight rule f && allRight rule fs
 unfoldable pub countRight : List Row → Event → Bool
 countRight rule e = leb (e .count) 8 && allRight rule (given e)
 
--- "a variable asks more numbers than it has left": the lowest such variable, or 4
+-- "6 exactly if numbers are short after freeing": the lowest variable that is, or 4
 unfoldable pub shortest : ℕ → List Row → Shown → List Fact → ℕ
-shortest k rule s es = firstBelow 4 (λ v. ltb (most k) (length (askFacts es (s .lists) rule v)))
+shortest k rule s es = firstBelow 4 (λ v. isShort (spared k rule (saysAt (s .trees)) es (s .lists) v) (askedFacts v es rule))
 
 -- what is done with a call: it is taken, or refused with a number and a place
 pub data Decision : Type 0 where
@@ -196,7 +200,7 @@ settleEvent taken rows m e =
     let after = step k (ruleOf rows) before (factsOf e) in
     record {
       answer = verdictOf k (ruleOf rows) before (factsOf e) after;
-      left = record { state = layState k after; nodes = layNodes C after; values = layValues k (after .lists); work = cleared C (m .work) };
+      left = record { state = layState k after; nodes = layNodes C after; values = layValues (after .lists); work = cleared C (m .work) };
     }
 settleEvent (refused n p) rows m e = record {
   answer = Refused n p;

@@ -1,7 +1,7 @@
 -- The sentences of document 01's table of refusals, each as a statement about the numbers handed in. Assumes nothing: these are definitions.
-use Prim.Native.Nat.{ℕ, zero, suc, _+_, _-_, _*_, _/_, _%_, _≤_, _<_}
+use Prim.Native.Nat.{ℕ, zero, suc, _+_, _-_, _*_, _%_, _^_, _≤_, _<_}
 use mathlib.Core.Path.{_≡_}
-use mathlib.Core.Bool.{Bool, true, false}
+use mathlib.Core.Bool.{true, false}
 use mathlib.Core.List.{List, [], _∷_}
 use mathlib.Core.Logic.{_≢_, _⊎_}
 use lib.ListN.{length, getD}
@@ -15,10 +15,11 @@ use Rattle.meaning.specs.declared.Event.{Event}
 use Rattle.meaning.specs.declared.Fact.{Fact as Given}
 use Rattle.meaning.specs.Qtl.{Argument, free}
 use Rattle.meaning.specs.Rows.{Row, truth, atom, rowFault, rowCount, ruleOf, formulaAt}
-use Rattle.meaning.specs.Numbering.{askFacts}
-use Rattle.meaning.specs.Step.{step, counted}
-use Rattle.meaning.specs.Tables.{most, part, listOf, freeLevel}
-use Rattle.meaning.specs.Outcome.{capacity, workSize, given, factsOf, Machine, shows}
+use Rattle.meaning.specs.Numbering.{Entry, holds, entry, most, left, taken, listed, missing, askedFacts}
+use Rattle.meaning.specs.Forgetting.{spared}
+use Rattle.meaning.specs.Step.{saysAt, step, counted}
+use Rattle.meaning.specs.Tables.{valuesOf, wordsOf, isTaken, listOf, freeLevel}
+use Rattle.meaning.specs.Outcome.{capacity, valuesSize, workSize, given, factsOf, Machine, shows}
 
 -- 1: "k not in 1..10"
 abbrev pub BadK : ℕ → Type 0
@@ -52,7 +53,7 @@ abbrev pub BadNodes : List ℕ → Type 0
 BadNodes nodes = (length nodes % 3 ≢ 0) ⊎ ((capacity nodes < 1) ⊎ (4096 < capacity nodes))
 
 abbrev pub BadValues : ℕ → List ℕ → Type 0
-BadValues k values = length values ≢ 4 * most k
+BadValues k values = length values ≢ valuesSize k
 
 abbrev pub BadWork : List ℕ → List ℕ → Type 0
 BadWork nodes work = length work < workSize (capacity nodes)
@@ -96,14 +97,17 @@ pub data IllFormed (k C : ℕ) (rule : List Row) (s : State) (nodes values : Lis
   size-set : (i : ℕ) → length rule ≤ i → getD (s .sizes) i 0 ≢ 0 → IllFormed k C rule s nodes values
   -- .. or they are not "the 64 sizes", which a state's are by their type
   size-count : length (s .sizes) ≢ 64 → IllFormed k C rule s nodes values
-  -- "a number other than 0 where the rest is 0": of the nodes, and of each list
+  -- "a number other than 0 where the rest is 0"
   node-rest : (i : ℕ) → 3 * s .kept ≤ i → getD nodes i 0 ≢ 0 → IllFormed k C rule s nodes values
-  value-rest : (v j : ℕ) → v < 4 → getD (s .counts) v 0 ≤ j → getD (part k values v) j 0 ≢ 0 → IllFormed k C rule s nodes values
-  -- "a value count over 2^k − 1"
-  count-over : (v : ℕ) → v < 4 → most k < getD (s .counts) v 0 → IllFormed k C rule s nodes values
-  -- "a value twice in one list"
-  value-twice : (v i j : ℕ) → v < 4 → i < length (listOf k s values v) → j < i → getD (listOf k s values v) i 0 ≡ getD (listOf k s values v) j 0
-      → IllFormed k C rule s nodes values
+  -- "a free entry is 0": an entry other than 0 with its bit clear
+  free-entry : (v n : ℕ) → v < 4 → n < most k → isTaken (wordsOf k values v) n ≡ false → getD (valuesOf k values v) n 0 ≢ 0 → IllFormed k C rule s nodes values
+  -- "counts count these": a count that isn't the taken bits'
+  count-other : (v : ℕ) → v < 4 → getD (s .counts) v 0 ≢ taken (listOf k values v) → IllFormed k C rule s nodes values
+  -- a bit at 2^k − 1 or above; and no word has more than 32 bits, which is so of every slice that is lent
+  bit-above : (v n : ℕ) → v < 4 → most k ≤ n → isTaken (wordsOf k values v) n ≡ true → IllFormed k C rule s nodes values
+  word-over : (v w : ℕ) → v < 4 → 2 ^ 32 ≤ getD (wordsOf k values v) w 0 → IllFormed k C rule s nodes values
+  -- "a value twice in one list", among taken numbers
+  value-twice : (v i j x : ℕ) → v < 4 → j < i → entry (listOf k values v) i ≡ holds x → entry (listOf k values v) j ≡ holds x → IllFormed k C rule s nodes values
 
 -- 5: "event count over 3, or not the rule's count for its predicate", of one fact
 pub record OtherCount (rows : List ℕ) (f : Given) : Type 0 where
@@ -121,11 +125,21 @@ abbrev pub SomeBad : List ℕ → List Given → Type 0
 SomeBad rows [] = ⊥
 SomeBad rows (f ∷ fs) = BadFact rows f ⊎ SomeBad rows fs
 
--- 6: "a variable asks more numbers than it has left": v is the "lowest such variable"
+-- the numbers of v after freeing, the values that v asks and that have none there, each once, and the numbers that v has left there
+abbrev pub after : List ℕ → Machine → Event → ℕ → List Entry
+after rows m e = spared (m .state .k) (ruleOf rows) (saysAt (shows rows m .trees)) (factsOf e) (shows rows m .lists)
+
+abbrev pub asks : List ℕ → Machine → Event → ℕ → ℕ
+asks rows m e v = missing (listed (after rows m e v)) (askedFacts v (factsOf e) (ruleOf rows))
+
+abbrev pub has : List ℕ → Machine → Event → ℕ → ℕ
+has rows m e v = left (after rows m e v)
+
+-- 6: "a variable asks more numbers than it has left", "exactly if numbers are short after freeing": v is the "lowest such variable"
 pub record Short (rows : List ℕ) (m : Machine) (e : Event) (v : ℕ) : Type 0 where
   pub bound : v < 4
-  pub over : most (m .state .k) < length (askFacts (factsOf e) (shows rows m .lists) (ruleOf rows) v)
-  pub lowest : (w : ℕ) → w < v → length (askFacts (factsOf e) (shows rows m .lists) (ruleOf rows) w) ≤ most (m .state .k)
+  pub over : has rows m e v < asks rows m e v
+  pub lowest : (w : ℕ) → w < v → asks rows m e w ≤ has rows m e w
 
 -- 7: "room over C", by the room of `Room`
 pub record NoRoom (rows : List ℕ) (m : Machine) (e : Event) : Type 0 where

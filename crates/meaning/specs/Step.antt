@@ -2,7 +2,7 @@
 -- Assumes nothing: these are definitions.
 use Prim.Native.Nat.{ℕ, zero, suc, _+_, _*_, _<_}
 use mathlib.Core.Path.{_≡_}
-use mathlib.Core.Bool.{Bool, true, false, not, _&&_, _||_}
+use mathlib.Core.Bool.{true, false, not, _&&_, _||_}
 use mathlib.Core.List.{List, [], _∷_, _++_, map}
 use lib.Dec.{eqb}
 use lib.ListN.{length, getD, replicate}
@@ -11,7 +11,8 @@ use Rattle.trees.specs.Tree.{Tree, off, eval, treeOf}
 use Rattle.trees.specs.Table.{addTrees}
 use Rattle.meaning.specs.Qtl.{Argument, variable, constant, Fact}
 use Rattle.meaning.specs.Rows.{Row, truth, atom, both, neg, since, previous, exists}
-use Rattle.meaning.specs.Numbering.{Lists, place, listed, askFacts}
+use Rattle.meaning.specs.Numbering.{vacant, Lists, most, place, listed}
+use Rattle.meaning.specs.Forgetting.{numbered, four}
 
 -- an atom's arguments: each constant is the value there, and each variable's bits show the number of the value there
 unfoldable pub argumentsSay : ℕ → Lists → List Argument → List ℕ → Function
@@ -58,18 +59,22 @@ pub record Shown : Type 0 where
   pub trees : List Tree
 
 -- before the first event: no values, and no for every row
-unfoldable pub fresh : List Row → Shown
-fresh rule = record { lists = λ v. []; trees = replicate (length rule) off }
+unfoldable pub fresh : ℕ → List Row → Shown
+fresh k rule = record { lists = four (λ v. replicate (most k) vacant); trees = replicate (length rule) off }
+
+-- the lists after an event
+abbrev pub nextLists : ℕ → List Row → Shown → List Fact → Lists
+nextLists k rule s es = four (numbered k rule (saysAt (s .trees)) es (s .lists))
 
 -- one event
 unfoldable pub step : ℕ → List Row → Shown → List Fact → Shown
 step k rule s es =
-    let L = askFacts es (s .lists) rule in
+    let L = nextLists k rule s es in
     record { lists = L; trees = rowTrees k L es (s .trees) [] rule }
 
 -- "one step of the meaning, read over numbers": s′ is got from s by the facts es
 pub record OneStep (k : ℕ) (rule : List Row) (s : Shown) (es : List Fact) (s′ : Shown) : Type 0 where
-  pub lists-are : s′ .lists ≡ askFacts es (s .lists) rule
+  pub lists-are : s′ .lists ≡ nextLists k rule s es
   pub rows-say : (i : ℕ) → i < length rule
       → Same (saysAt (s′ .trees) i) (rowSays k (s′ .lists) es (saysAt (s .trees)) (saysAt (s′ .trees)) i (getD rule i truth))
 

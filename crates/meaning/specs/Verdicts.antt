@@ -1,7 +1,7 @@
--- What a verdict says: of any well-formed state, and of a run from a fresh start. Assumes nothing: these are definitions.
+-- What a verdict says: of any well-formed state, and of a run from a fresh start; and which numbers are freed. Assumes nothing: these are definitions.
 use Prim.Native.Nat.{ℕ, suc, _-_, _*_, _≤_, _<_}
 use mathlib.Core.Path.{_≡_}
-use mathlib.Core.Bool.{Bool, true}
+use mathlib.Core.Bool.{Bool, true, false}
 use mathlib.Core.List.{List, [], _∷_, _++_}
 use mathlib.Core.Logic.{_↔_}
 use lib.ListN.{length, getD}
@@ -12,9 +12,19 @@ use Rattle.trees.specs.Sizes.{nodeCount}
 use Rattle.meaning.specs.declared.Event.{Event}
 use Rattle.meaning.specs.Qtl.{Fact, Assignment, Holds}
 use Rattle.meaning.specs.Rows.{ruleOf, formulaAt}
-use Rattle.meaning.specs.Step.{OneStep, counted}
+use Rattle.meaning.specs.Numbering.{isShort, among, askedFacts}
+use Rattle.meaning.specs.Forgetting.{NoneTells}
+use Rattle.meaning.specs.Step.{saysAt, OneStep, counted}
 use Rattle.meaning.specs.Tables.{keptTable, wellFormed}
 use Rattle.meaning.specs.Outcome.{capacity, cleared, factsOf, Machine, shows, log}
+
+-- "when a variable lacks numbers for an event, first free every one of its numbers that no old set read by the coming step tells apart from the
+-- reserved number, however the other bits are set .. A value that the event asks for and that has a number keeps it": the number n of v, whose
+-- value is x
+pub record Frees (rows : List ℕ) (m : Machine) (e : Event) (v n x : ℕ) : Type 0 where
+  pub lacks : isShort (shows rows m .lists v) (askedFacts v (factsOf e) (ruleOf rows)) ≡ true
+  pub untold : NoneTells (m .state .k) (ruleOf rows) (saysAt (shows rows m .trees)) v n
+  pub not-asked : among x (askedFacts v (factsOf e) (ruleOf rows)) ≡ false
 
 -- "Keep the 64 sizes in the state": of each row the count of its diagram's nodes, each node once ("Shared nodes count in each"), and 0 past the rows
 pub record Sized (rows : List ℕ) (m : Machine) : Type 0 where

@@ -3,3 +3,4 @@ pub mod ReadLaws
 pub mod ZeroLaws
 pub mod ChainLaws
 pub mod PartLaws
+pub mod KeptTables

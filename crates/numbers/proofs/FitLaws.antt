@@ -22,7 +22,7 @@ use Rattle.rule.specs.Decoded.{argumentOf, rowOf}
 use Rattle.numbers.specs.Matching.{matchesRow, sameAt, fitsFirst}
 
 -- nothing is taken from nothing
-take-nil : {A : Type 0} (n : ℕ) → take {A = A} n [] ≡ []
+pub take-nil : {A : Type 0} (n : ℕ) → take {A = A} n [] ≡ []
 take-nil zero = refl
 take-nil (suc n) = refl
 
@@ -148,7 +148,7 @@ fits-length (variable v ∷ gs) (y ∷ ys) h = rw (fits-length gs ys (λ e. h (a
 fits-length (constant c ∷ gs) (y ∷ ys) h = rw (fits-length gs ys (λ e. h (ap suc e))) (and-none (eqb c y))
 
 -- three values, and the first n of them
-three-are : {A : Type 0} (d : A) (xs : List A) → length xs ≡ 3 → xs ≡ getD xs 0 d ∷ getD xs 1 d ∷ getD xs 2 d ∷ []
+pub three-are : {A : Type 0} (d : A) (xs : List A) → length xs ≡ 3 → xs ≡ getD xs 0 d ∷ getD xs 1 d ∷ getD xs 2 d ∷ []
 three-are d [] h = absurd (omega arith)
 three-are d (x ∷ []) h = absurd (omega arith)
 three-are d (x ∷ y ∷ []) h = absurd (omega arith)

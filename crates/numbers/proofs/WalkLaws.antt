@@ -1,262 +1,208 @@
 -- Laws of the walk over arguments and rows: what each step carries, the walk carries. Assumes nothing.
-use Prim.Native.Nat.{ℕ, zero, suc, _+_, _-_, _*_, _≤_, _<_}
+use Prim.Native.Nat.{ℕ, zero, suc, _+_, _-_, _≤_, _<_}
 use mathlib.Core.Path.{_≡_, refl, ap, sym, _∙_}
-use mathlib.Core.Bool.{true, false}
-use mathlib.Core.List.{List, [], _∷_, _++_}
+use mathlib.Core.Bool.{Bool, true, false, cond}
+use mathlib.Core.List.{List, [], _∷_, _++_, append-nil, append-assoc}
 use mathlib.Core.Logic.{_⊎_, inl, inr, ⊎-elim}
 use native.Mathlib.Numerals.{add-one}
 use native.Mathlib.Omega.{arith}
-use lib.ListN.{length, getD, take, List·getD-eq-default}
-use lib.Seq.{take-suc, take-all, length-take-le}
-use Rattle.trees.proofs.Tests.{lt-or-ge, false-true}
-use Rattle.meaning.specs.declared.Fact.{Fact as Handed}
+use lib.Dec.{eqb}
+use lib.ListN.{length, getD, length-append, List·getD-append, List·getD-eq-default}
+use lib.Seq.{getD-append-seam}
+use Rattle.trees.proofs.Tests.{lt-or-ge, false-true, and-true-r}
 use Rattle.meaning.specs.Qtl.{Argument, variable, constant, Fact}
-use Rattle.meaning.specs.Rows.{Row, truth, atom, both, neg, since, previous, exists, rowRight, argumentAt, rowAt, rowsUpTo}
-use Rattle.meaning.specs.Numbering.{Lists, ask, askArguments, askRow, askRows}
-use Rattle.meaning.specs.Outcome.{factOf}
-use Rattle.meaning.proofs.RowsLaws.{ArgumentOk, ArgumentsOk, row-ok}
-use Rattle.numbers.specs.Matching.{matchesRow, argumentsIn, argumentsOf, Sized, Readable}
-use Rattle.numbers.specs.Asking.{Sheet, AsksFor, AskedBy, Steady, Carried, Pair, AtPlace, AtPlaces, askOne, Asking, NextMatch}
-use Rattle.numbers.proofs.MatchingLaws.{values-length, arguments-length, argument-is, is-variable, is-constant, atom-is, match-kind, match-count}
-use Rattle.numbers.proofs.TallyLaws.{same-or-not}
+use Rattle.meaning.specs.Rows.{Row, truth, atom, both, neg, since, previous, exists, rowAt, rowsUpTo}
+use Rattle.meaning.specs.Numbering.{fits, askedArguments, askedRow, askedRows}
+use Rattle.meaning.proofs.RowsLaws.{ArgumentsOk, RowOk}
+use Rattle.numbers.specs.Matching.{matchesRow, argumentsIn}
+use Rattle.numbers.specs.Asking.{joined, Names, AsksFor, AskedBy, Sheet, Steady, Carried, OnePlace, Asking, ArgumentsAsk, RowAsks, AllFit}
+use Rattle.numbers.proofs.FitLaws.{fits-length}
+use Rattle.numbers.proofs.JoinedLaws.{same-or-not, joined-none, joined-append}
 
--- from the counts `before` and the lists L on
-module _ (before : List ℕ) (L : Lists) where
+-- of one fact
+module _ (f : ℕ) (ys : List ℕ) where
   -- nothing is asked
-  carried-none : (ys : List ℕ) (f : Lists → Lists) (P : ℕ → ℕ → Type 0) (a : Sheet) → ((M : Lists) → f M ≡ M) → ((v j : ℕ) → P v j → ⊥) → Steady before a → Carried before L ys f P a a
-  carried-none ys f P a e none st = record {
+  pub carried-none : (S : ℕ → List ℕ) (P : ℕ → ℕ → Type 0) (a : Sheet) → ((v : ℕ) → S v ≡ []) → ((v j : ℕ) → P v j → ⊥) → Steady f a → Carried f ys S P a a
+  carried-none S P a e none st = record {
     steady = st;
     fewer = λ v h. omega arith;
-    lists = λ M t. rw (e M) t;
+    grows = λ v n y h s. s;
+    unused = λ u. u;
+    tally = λ t. t;
+    lists = λ t v h. rw (e v) (sym (joined-none _));
     kept = λ v j h k g. g;
     asked = λ v j h k p. absurd (none v j p);
     only = λ v j h k g. inl g;
+    others = λ g v j d h k. refl;
   }
 
   -- one step after another: what either asks is asked
-  carried-then : (ys : List ℕ) (f g h : Lists → Lists) (P Q R : ℕ → ℕ → Type 0) (a b r : Sheet) → ((M : Lists) → h M ≡ g (f M))
-      → ((v j : ℕ) → R v j → P v j ⊎ Q v j) → ((v j : ℕ) → P v j ⊎ Q v j → R v j) → Carried before L ys f P a b → Carried before L ys g Q b r → Carried before L ys h R a r
-  carried-then ys f g h P Q R a b r e into from p q = record {
+  pub carried-then : (S T U : ℕ → List ℕ) (P Q R : ℕ → ℕ → Type 0) (a b r : Sheet) → ((v : ℕ) → U v ≡ S v ++ T v)
+      → ((v j : ℕ) → R v j → P v j ⊎ Q v j) → ((v j : ℕ) → P v j ⊎ Q v j → R v j) → Carried f ys S P a b → Carried f ys T Q b r → Carried f ys U R a r
+  carried-then S T U P Q R a b r e into from p q = record {
     steady = q .steady;
     fewer = λ v h. omega (arith, p .fewer v h, q .fewer v h);
-    lists = λ M t. rw (e M) (q .lists (f M) (p .lists M t));
+    grows = λ v n y h s. q .grows v n y h (p .grows v n y h s);
+    unused = λ u. q .unused (p .unused u);
+    tally = λ t. q .tally (p .tally t);
+    lists = λ t v h. q .lists (p .tally t) v h ∙ (ap (λ (xs : List ℕ). joined xs (T v)) (p .lists t v h) ∙ (sym (joined-append _ (S v) (T v)) ∙ ap (joined _) (sym (e v))));
     kept = λ v j h k z. q .kept v j h k (p .kept v j h k z);
     asked = λ v j h k z. ⊎-elim (λ x. q .kept v j h k (p .asked v j h k x)) (λ x. q .asked v j h k x) (into v j z);
     only = λ v j h k z. ⊎-elim
         (λ x. ⊎-elim (λ y. inl y) (λ y. inr (from v j (inl y))) (p .only v j h k x))
         (λ x. inr (from v j (inr x)))
         (q .only v j h k z);
+    others = λ g v j d h k. q .others g v j d h k ∙ p .others g v j d h k;
   }
 
-  -- the same step and the same pairs, said in other words
-  carried-as : (ys : List ℕ) (f g : Lists → Lists) (P Q : ℕ → ℕ → Type 0) (a r : Sheet) → ((M : Lists) → g M ≡ f M) → ((v j : ℕ) → Q v j → P v j) → ((v j : ℕ) → P v j → Q v j)
-      → Carried before L ys f P a r → Carried before L ys g Q a r
-  carried-as ys f g P Q a r e into from p = record {
+  -- the same values and the same pairs, said in other words
+  pub carried-as : (S T : ℕ → List ℕ) (P Q : ℕ → ℕ → Type 0) (a r : Sheet) → ((v : ℕ) → T v ≡ S v) → ((v j : ℕ) → Q v j → P v j) → ((v j : ℕ) → P v j → Q v j)
+      → Carried f ys S P a r → Carried f ys T Q a r
+  carried-as S T P Q a r e into from p = record {
     steady = p .steady;
     fewer = p .fewer;
-    lists = λ M t. rw (e M) (p .lists M t);
+    grows = p .grows;
+    unused = p .unused;
+    tally = p .tally;
+    lists = λ t v h. p .lists t v h ∙ ap (joined _) (sym (e v));
     kept = p .kept;
     asked = λ v j h k z. p .asked v j h k (into v j z);
     only = λ v j h k z. ⊎-elim (λ x. inl x) (λ x. inr (from v j x)) (p .only v j h k z);
+    others = p .others;
   }
 
--- a variable is no constant, and which it is shows
+-- a variable is no constant
 not-both : (g : Argument) (v c : ℕ) → g ≡ variable v → g ≡ constant c → ⊥
 not-both g v c e f = let z : _≡_ {A = ℕ} 0 1 = cc in omega arith
 
-one-name : (g : Argument) (v w : ℕ) → g ≡ variable v → g ≡ variable w → v ≡ w
-one-name g v w e f = cc
+-- a constant asks nothing
+pub constant-asks : (f : ℕ) (g : Argument) (c j y : ℕ) (a : Sheet) → g ≡ constant c → Steady f a → Asking f g j y a a
+unfolding askedArguments
+constant-asks f g c j y a e st ys is =
+    carried-none f ys (λ v. askedArguments v (g ∷ []) (y ∷ [])) (OnePlace g j) a (λ v. rw e refl) (λ v i p. not-both g v c (p .0) e) st
 
--- the argument at place j of row i, where it is a constant and where it is a variable
-module _ (before : List ℕ) (L : Lists) (ys raw : List ℕ) (i j y : ℕ) where
-  pub one-constant : (a : Sheet) → Steady before a → (getD raw (9 * i + (3 + 2 * j)) 0 ≡ 0 → ⊥) → Carried before L ys (askOne (argumentAt raw i j) y) (AtPlace raw i j) a a
-  unfolding askOne
-  one-constant a st h =
-      carried-none before L ys (askOne (argumentAt raw i j) y) (AtPlace raw i j) a (λ M. rw (is-constant raw i j h))
-      (λ v k p. not-both (argumentAt raw i j) v (getD raw (9 * i + (4 + 2 * j)) 0) (p .0) (is-constant raw i j h)) st
-
-  pub one-variable : (a r : Sheet) → getD raw (9 * i + (3 + 2 * j)) 0 ≡ 0 → Carried before L ys (λ M. ask M (getD raw (9 * i + (4 + 2 * j)) 0) y) (Pair (getD raw (9 * i + (4 + 2 * j)) 0) j) a r
-      → Carried before L ys (askOne (argumentAt raw i j) y) (AtPlace raw i j) a r
-  unfolding askOne
-  one-variable a r h p =
-      let x = getD raw (9 * i + (4 + 2 * j)) 0 in
-      carried-as before L ys (λ M. ask M x y) (askOne (argumentAt raw i j) y) (Pair x j) (AtPlace raw i j) a r (λ M. rw (is-variable raw i j h))
-      (λ v k q. (one-name (argumentAt raw i j) v x (q .0) (is-variable raw i j h), q .1))
-      (λ v k q. (is-variable raw i j h ∙ ap variable (sym (q .0)), q .1)) p
-
--- the arguments in order
-ask-snoc : (gs : List Argument) (ys : List ℕ) (g : Argument) (y : ℕ) (M : Lists) → length gs ≡ length ys → askArguments M (gs ++ g ∷ []) (ys ++ y ∷ []) ≡ askOne g y (askArguments M gs ys)
-unfolding askArguments askOne
-ask-snoc [] [] (variable v) y M e = refl
-ask-snoc [] [] (constant c) y M e = refl
-ask-snoc [] (z ∷ zs) g y M e = absurd (omega arith)
-ask-snoc (h ∷ gs) [] g y M e = absurd (omega arith)
-ask-snoc (variable v ∷ gs) (z ∷ zs) g y M e = ask-snoc gs zs g y (ask M v z) (omega arith)
-ask-snoc (constant c ∷ gs) (z ∷ zs) g y M e = ask-snoc gs zs g y M (omega arith)
-
-pub arguments-none : (before : List ℕ) (L : Lists) (ys raw : List ℕ) (i : ℕ) (gs : List Argument) (a : Sheet) → Steady before a
-    → Carried before L ys (λ M. askArguments M (take 0 gs) (take 0 ys)) (AtPlaces raw i 0) a a
-unfolding askArguments
-arguments-none before L ys raw i gs a st = carried-none before L ys (λ M. askArguments M (take 0 gs) (take 0 ys)) (AtPlaces raw i 0) a (λ M. refl) (λ v k p. let h = p .1 in omega arith) st
-
-module _ (before : List ℕ) (L : Lists) (raw : List ℕ) (i : ℕ) (e : Handed) (r : Readable raw i e) where
-  pub arguments-more : (j : ℕ) (a b c : Sheet) → j < e .count
-      → Carried before L (factOf e .values) (λ M. askArguments M (take j (argumentsOf raw i (e .count))) (take j (factOf e .values))) (AtPlaces raw i j) a b
-      → Carried before L (factOf e .values) (askOne (argumentAt raw i j) (getD (factOf e .values) j 0)) (AtPlace raw i j) b c
-      → Carried before L (factOf e .values) (λ M. askArguments M (take (j + 1) (argumentsOf raw i (e .count))) (take (j + 1) (factOf e .values))) (AtPlaces raw i (j + 1)) a c
-  arguments-more j a b c h p q =
-      let gs = argumentsOf raw i (e .count) in
-      let ys = factOf e .values in
-      let m : length gs ≡ e .count = arguments-length raw i (e .count) (r .sized .few) in
-      let n : length ys ≡ e .count = values-length e (r .sized) in
-      let u : length (take j gs) ≡ length (take j ys) = length-take-le j gs (omega arith) ∙ sym (length-take-le j ys (omega arith)) in
-      carried-then before L ys (λ M. askArguments M (take j gs) (take j ys)) (askOne (argumentAt raw i j) (getD ys j 0)) (λ M. askArguments M (take (j + 1) gs) (take (j + 1) ys))
-      (AtPlaces raw i j) (AtPlace raw i j) (AtPlaces raw i (j + 1)) a b c
-      (λ M. rw (add-one j, take-suc gs j (constant 0) (omega arith), take-suc ys j 0 (omega arith), argument-is raw i (e .count) j h (r .sized .few))
-      (ask-snoc (take j gs) (take j ys) (argumentAt raw i j) (getD ys j 0) M u)) into from p q
-    where
-      into : (v k : ℕ) → AtPlaces raw i (j + 1) v k → AtPlaces raw i j v k ⊎ AtPlace raw i j v k
-      into v k x = ⊎-elim (λ l. inl (x .0, l)) (λ l. let w = x .1 in let z : k ≡ j = omega arith in inr (rw (← z) (x .0), z)) (lt-or-ge k j)
-
-      from : (v k : ℕ) → AtPlaces raw i j v k ⊎ AtPlace raw i j v k → AtPlaces raw i (j + 1) v k
-      from v k x = ⊎-elim
-          (λ l. let w = l .1 in (l .0, omega arith))
-          (λ l. let z : k ≡ j = l .1 in (rw z (l .0), omega arith))
-          x
-
-  pub arguments-all : (j : ℕ) (a b : Sheet) → j ≡ e .count
-      → Carried before L (factOf e .values) (λ M. askArguments M (take j (argumentsOf raw i (e .count))) (take j (factOf e .values))) (AtPlaces raw i j) a b
-      → Carried before L (factOf e .values) (λ M. askArguments M (argumentsOf raw i (e .count)) (factOf e .values)) (AtPlaces raw i (e .count)) a b
-  arguments-all j a b h p =
-      let gs = argumentsOf raw i (e .count) in
-      let ys = factOf e .values in
-      carried-as before L ys (λ M. askArguments M (take j gs) (take j ys)) (λ M. askArguments M gs ys) (AtPlaces raw i j) (AtPlaces raw i (e .count)) a b
-      (λ M. rw (take-all j gs (omega (arith, arguments-length raw i (e .count) (r .sized .few))), take-all j ys (omega (arith, values-length e (r .sized)))))
-      (λ v k q. let l = q .1 in (q .0, omega arith)) (λ v k q. let l = q .1 in (q .0, omega arith)) p
-
--- a row that matches is an atom of the fact's count
-matched : (raw : List ℕ) (i : ℕ) (e : Handed) → Sized e → rowRight raw i ≡ true → matchesRow (factOf e) (rowAt raw i) ≡ true
-    → (getD raw (9 * i) 0 ≡ 2) × (getD raw (9 * i + 2) 0 ≡ e .count)
-matched raw i e s right h = ⊎-elim
-    (λ k. (k, ⊎-elim (λ q. q) (λ q. absurd (false-true (sym (match-count raw i e k right s q)) h)) (same-or-not (getD raw (9 * i + 2) 0) (e .count))))
-    (λ k. absurd (false-true (sym (match-kind raw i e k)) h))
-    (same-or-not (getD raw (9 * i) 0) 2)
-
-ok-at : (gs : List Argument) (j : ℕ) → ArgumentsOk gs → j < length gs → ArgumentOk (getD gs j (constant 0))
-ok-at [] j o h = absurd (omega arith)
-ok-at (g ∷ gs) zero o h = o .0
-ok-at (g ∷ gs) (suc j) o h = ok-at gs j (o .1) (omega arith)
-
-pub asking-of : (raw : List ℕ) (i : ℕ) (e : Handed) → Readable raw i e → rowRight raw i ≡ true → matchesRow (factOf e) (rowAt raw i) ≡ true → Asking raw i e
-asking-of raw i e r right h = record { readable = r; variables = vars }
+-- the arguments in order: nothing, and one more
+asked-snoc : (v : ℕ) (gs : List Argument) (ys : List ℕ) (g : Argument) (y : ℕ) → length gs ≡ length ys
+    → askedArguments v (gs ++ g ∷ []) (ys ++ y ∷ []) ≡ askedArguments v gs ys ++ askedArguments v (g ∷ []) (y ∷ [])
+unfolding askedArguments
+asked-snoc v [] [] g y e = refl
+asked-snoc v [] (z ∷ zs) g y e = absurd (omega arith)
+asked-snoc v (h ∷ gs) [] g y e = absurd (omega arith)
+asked-snoc v (constant c ∷ gs) (z ∷ zs) g y e = asked-snoc v gs zs g y (omega arith)
+asked-snoc v (variable w ∷ gs) (z ∷ zs) g y e = go (eqb w v) (asked-snoc v gs zs g y (omega arith))
   where
-    two : getD raw (9 * i) 0 ≡ 2
-    two = matched raw i e (r .sized) right h .0
+    go : (t : Bool) → askedArguments v (gs ++ g ∷ []) (zs ++ y ∷ []) ≡ askedArguments v gs zs ++ askedArguments v (g ∷ []) (y ∷ [])
+        → cond t (z ∷ askedArguments v (gs ++ g ∷ []) (zs ++ y ∷ [])) (askedArguments v (gs ++ g ∷ []) (zs ++ y ∷ []))
+        ≡ cond t (z ∷ askedArguments v gs zs) (askedArguments v gs zs) ++ askedArguments v (g ∷ []) (y ∷ [])
+    go true q = ap (λ (l : List ℕ). z ∷ l) q
+    go false q = q
 
-    count : getD raw (9 * i + 2) 0 ≡ e .count
-    count = matched raw i e (r .sized) right h .1
+-- past the arguments there is no variable
+no-name : (gs : List Argument) (v j : ℕ) → length gs ≤ j → Names gs v j → ⊥
+no-name gs v j h e = not-both (constant 0) v 0 (sym (List·getD-eq-default gs (constant 0) h) ∙ e) refl
 
-    ok : ArgumentsOk (argumentsOf raw i (e .count))
-    ok = rw (atom-is raw i two, count) at (row-ok raw i right)
+pub no-arguments : (f : ℕ) (ys : List ℕ) (a : Sheet) → Steady f a → Carried f ys (λ v. askedArguments v [] []) (Names []) a a
+unfolding askedArguments
+no-arguments f ys a st = carried-none f ys (λ v. askedArguments v [] []) (Names []) a (λ v. refl) (λ v j p. no-name [] v j (omega arith) p) st
 
-    vars : (j : ℕ) → j < e .count → getD raw (9 * i + (3 + 2 * j)) 0 ≡ 0 → getD raw (9 * i + (4 + 2 * j)) 0 < 4
-    vars j k z =
-        rw (argument-is raw i (e .count) j k (r .sized .few), is-variable raw i j z) at
-        (ok-at (argumentsOf raw i (e .count)) j ok (rw (arguments-length raw i (e .count) (r .sized .few)) k))
+pub arguments-more : (f : ℕ) (ys : List ℕ) (gs : List Argument) (zs : List ℕ) (g : Argument) (j y : ℕ) (a b r : Sheet) → j ≡ length gs → length gs ≡ length zs → getD ys j 0 ≡ y
+    → Carried f ys (λ v. askedArguments v gs zs) (Names gs) a b → Asking f g j y b r → Carried f ys (λ v. askedArguments v (gs ++ g ∷ []) (zs ++ y ∷ [])) (Names (gs ++ g ∷ [])) a r
+arguments-more f ys gs zs g j y a b r at same is p q =
+    carried-then f ys (λ v. askedArguments v gs zs) (λ v. askedArguments v (g ∷ []) (y ∷ [])) (λ v. askedArguments v (gs ++ g ∷ []) (zs ++ y ∷ []))
+    (Names gs) (OnePlace g j) (Names (gs ++ g ∷ [])) a b r (λ v. asked-snoc v gs zs g y same) into from p (q ys is)
+  where
+    old : (i : ℕ) → i < length gs → getD (gs ++ g ∷ []) i (constant 0) ≡ getD gs i (constant 0)
+    old i h = List·getD-append gs (g ∷ []) (constant 0) i h
 
--- a row that matches asks by its arguments, and one that does not asks nothing
-ask-matched : (e : Fact) (M : Lists) (p : ℕ) (gs : List Argument) → matchesRow e (atom p gs) ≡ true → askRow e M (atom p gs) ≡ askArguments M gs (e .values)
-unfolding askRow matchesRow
-ask-matched e M p gs h = rw h
+    new : (i : ℕ) → i ≡ length gs → getD (gs ++ g ∷ []) i (constant 0) ≡ g
+    new i h = rw h (getD-append-seam gs g [] (constant 0))
 
-ask-unmatched : (e : Fact) (M : Lists) (r : Row) → matchesRow e r ≡ false → askRow e M r ≡ M
-unfolding askRow matchesRow
-ask-unmatched e M truth h = refl
-ask-unmatched e M (atom p gs) h = rw h
-ask-unmatched e M (both l r) h = refl
-ask-unmatched e M (neg r) h = refl
-ask-unmatched e M (since l r) h = refl
-ask-unmatched e M (previous r) h = refl
-ask-unmatched e M (exists x r) h = refl
+    into : (v i : ℕ) → Names (gs ++ g ∷ []) v i → Names gs v i ⊎ OnePlace g j v i
+    into v i x = ⊎-elim
+        (λ l. inl (sym (old i l) ∙ x))
+        (λ l. ⊎-elim
+        (λ m. absurd (no-name (gs ++ g ∷ []) v i (let n = length-append gs (g ∷ []) in omega arith) x))
+        (λ m. let z : i ≡ length gs = omega arith in inr (sym (new i z) ∙ x, z ∙ sym at))
+        (lt-or-ge (length gs) i))
+        (lt-or-ge i (length gs))
 
--- what a row that matches asks for: its variables, at their places
-names-in : (raw : List ℕ) (i n v j : ℕ) → n ≤ 3 → getD (argumentsOf raw i n) j (constant 0) ≡ variable v → AtPlaces raw i n v j
-names-in raw i n v j few e = ⊎-elim
-    (λ h. (sym (argument-is raw i n j h few) ∙ e, h))
-    (λ h. let d : length (argumentsOf raw i n) ≤ j = rw (arguments-length raw i n few) h in absurd (not-both (getD (argumentsOf raw i n) j (constant 0)) v 0 e (List·getD-eq-default (argumentsOf raw i n) (constant 0) d)))
-    (lt-or-ge j n)
+    from : (v i : ℕ) → Names gs v i ⊎ OnePlace g j v i → Names (gs ++ g ∷ []) v i
+    from v i x = ⊎-elim
+        (λ l. ⊎-elim (λ m. old i m ∙ l) (λ m. absurd (no-name gs v i m l)) (lt-or-ge i (length gs)))
+        (λ l. new i (l .1 ∙ at) ∙ l .0)
+        x
 
-module _ (raw : List ℕ) (i : ℕ) (e : Handed) (s : Sized e) (right : rowRight raw i ≡ true) where
-  row-is : matchesRow (factOf e) (rowAt raw i) ≡ true → rowAt raw i ≡ atom (getD raw (9 * i + 1) 0) (argumentsOf raw i (e .count))
-  row-is h = let m = matched raw i e s right h in atom-is raw i (m .0) ∙ ap (λ n. atom (getD raw (9 * i + 1) 0) (argumentsOf raw i n)) (m .1)
+-- a row that does not match asks nothing
+unmatched : (v : ℕ) (e : Fact) (r : Row) → matchesRow e r ≡ false → askedRow v e r ≡ []
+unfolding askedRow matchesRow
+unmatched v e truth h = refl
+unmatched v e (atom p gs) h = rw h refl
+unmatched v e (both l r) h = refl
+unmatched v e (neg r) h = refl
+unmatched v e (since l r) h = refl
+unmatched v e (previous r) h = refl
+unmatched v e (exists x r) h = refl
 
-  pub asks-in : (v j : ℕ) → AsksFor (factOf e) (rowAt raw i) v j → AtPlaces raw i (e .count) v j
-  unfolding argumentsIn
-  asks-in v j q = names-in raw i (e .count) v j (s .few) (rw (row-is (q .matches)) at (q .names))
+pub row-silent : (f : ℕ) (e : Fact) (r : Row) (a : Sheet) → Steady f a → matchesRow e r ≡ false → RowAsks f e r a a
+row-silent f e r a st h = carried-none f (e .values) (λ v. askedRow v e r) (AsksFor e r) a (λ v. unmatched v e r h) (λ v j p. false-true h (p .matches)) st
 
-  asks-of : matchesRow (factOf e) (rowAt raw i) ≡ true → (v j : ℕ) → AtPlaces raw i (e .count) v j → AsksFor (factOf e) (rowAt raw i) v j
-  unfolding argumentsIn
-  asks-of h v j q = record { matches = h; names = rw (row-is h) (argument-is raw i (e .count) j (q .1) (s .few) ∙ q .0) }
+-- an atom that matches asks by its arguments, as many as the fact has values
+pub atom-fits : (e : Fact) (p : ℕ) (gs : List Argument) → matchesRow e (atom p gs) ≡ true → length gs ≡ length (e .values)
+unfolding matchesRow
+atom-fits e p gs h = ⊎-elim
+    (λ q. q)
+    (λ q. absurd (false-true (fits-length gs (e .values) q) (and-true-r (eqb (e .predicate) p) (fits gs (e .values)) h)))
+    (same-or-not (length gs) (length (e .values)))
 
-  row-matched : (before : List ℕ) (L : Lists) (a b : Sheet) → matchesRow (factOf e) (rowAt raw i) ≡ true
-      → Carried before L (factOf e .values) (λ M. askArguments M (argumentsOf raw i (e .count)) (factOf e .values)) (AtPlaces raw i (e .count)) a b
-      → Carried before L (factOf e .values) (λ M. askRow (factOf e) M (rowAt raw i)) (AsksFor (factOf e) (rowAt raw i)) a b
-  row-matched before L a b h p =
-      let row = row-is h in
-      let h′ : matchesRow (factOf e) (atom (getD raw (9 * i + 1) 0) (argumentsOf raw i (e .count))) ≡ true = rw row at h in
-      carried-as before L (factOf e .values) (λ M. askArguments M (argumentsOf raw i (e .count)) (factOf e .values)) (λ M. askRow (factOf e) M (rowAt raw i))
-      (AtPlaces raw i (e .count)) (AsksFor (factOf e) (rowAt raw i)) a b
-      (λ M. rw (row, ask-matched (factOf e) M (getD raw (9 * i + 1) 0) (argumentsOf raw i (e .count)) h′)) asks-in (asks-of h) p
+pub atom-asks : (f : ℕ) (e : Fact) (p : ℕ) (gs : List Argument) (a r : Sheet) → matchesRow e (atom p gs) ≡ true → ArgumentsAsk f e gs a r → RowAsks f e (atom p gs) a r
+unfolding askedRow matchesRow argumentsIn
+atom-asks f e p gs a r h c =
+    carried-as f (e .values) (λ v. askedArguments v gs (e .values)) (λ v. askedRow v e (atom p gs)) (Names gs) (AsksFor e (atom p gs)) a r
+    (λ v. rw h refl) (λ v j q. q .names) (λ v j q. record { matches = h; names = q }) c
+
+-- the variables of a row that keeps the rules are the four
+pub arguments-fit : (gs : List Argument) → ArgumentsOk gs → AllFit gs
+arguments-fit [] o j h = absurd (omega arith)
+arguments-fit (variable w ∷ gs) o zero h = λ v e. let z : w ≡ v = cc in rw (← z) (o .0)
+arguments-fit (constant c ∷ gs) o zero h = λ v e. absurd (not-both (constant c) v c e refl)
+arguments-fit (g ∷ gs) o (suc j) h = arguments-fit gs (o .1) j (omega arith)
+
+pub row-fits : (n : ℕ) (r : Row) → RowOk n r → AllFit (argumentsIn r)
+unfolding argumentsIn
+row-fits n truth o = λ j h. absurd (omega arith)
+row-fits n (atom p gs) o = arguments-fit gs o
+row-fits n (both l r) o = λ j h. absurd (omega arith)
+row-fits n (neg r) o = λ j h. absurd (omega arith)
+row-fits n (since l r) o = λ j h. absurd (omega arith)
+row-fits n (previous r) o = λ j h. absurd (omega arith)
+row-fits n (exists x r) o = λ j h. absurd (omega arith)
 
 -- the rows in order
-askRows-snoc : (e : Fact) (rs : List Row) (r : Row) (M : Lists) → askRows e M (rs ++ r ∷ []) ≡ askRow e (askRows e M rs) r
-unfolding askRows
-askRows-snoc e [] r M = refl
-askRows-snoc e (q ∷ rs) r M = askRows-snoc e rs r (askRow e M q)
+rows-snoc : (v : ℕ) (e : Fact) (rs : List Row) (r : Row) → askedRows v e (rs ++ r ∷ []) ≡ askedRows v e rs ++ askedRow v e r
+unfolding askedRows
+rows-snoc v e [] r = append-nil (askedRow v e r)
+rows-snoc v e (q ∷ rs) r = ap (λ (l : List ℕ). askedRow v e q ++ l) (rows-snoc v e rs r) ∙ sym (append-assoc (askedRow v e q) (askedRows v e rs) (askedRow v e r))
 
 -- the walk over the first i rows
-module _ (before : List ℕ) (L : Lists) (raw : List ℕ) (e : Handed) where
+module _ (f : ℕ) (raw : List ℕ) (e : Fact) where
   abbrev pub Rows : ℕ → Sheet → Sheet → Type 0
-  Rows i a b = Carried before L (factOf e .values) (λ M. askRows (factOf e) M (rowsUpTo raw i)) (AskedBy (factOf e) raw i) a b
+  Rows i a b = Carried f (e .values) (λ v. askedRows v e (rowsUpTo raw i)) (AskedBy e raw i) a b
 
-  pub rows-none : (a : Sheet) → Steady before a → Rows 0 a a
-  unfolding askRows rowsUpTo
-  rows-none a st = carried-none before L (factOf e .values) (λ M. askRows (factOf e) M (rowsUpTo raw 0)) (AskedBy (factOf e) raw 0) a (λ M. refl) (λ v j p. let h = p .1 in omega arith) st
+  pub rows-none : (a : Sheet) → Steady f a → Rows 0 a a
+  unfolding askedRows rowsUpTo
+  rows-none a st = carried-none f (e .values) (λ v. askedRows v e (rowsUpTo raw 0)) (AskedBy e raw 0) a (λ v. refl) (λ v j p. let h = p .1 in omega arith) st
 
-  rows-more : (i : ℕ) (a b c : Sheet) → Rows i a b → Carried before L (factOf e .values) (λ M. askRow (factOf e) M (rowAt raw i)) (AsksFor (factOf e) (rowAt raw i)) b c → Rows (i + 1) a c
+  pub rows-more : (i : ℕ) (a b c : Sheet) → Rows i a b → RowAsks f e (rowAt raw i) b c → Rows (i + 1) a c
   unfolding rowsUpTo
   rows-more i a b c p q =
-      carried-then before L (factOf e .values) (λ M. askRows (factOf e) M (rowsUpTo raw i)) (λ M. askRow (factOf e) M (rowAt raw i)) (λ M. askRows (factOf e) M (rowsUpTo raw (i + 1)))
-      (AskedBy (factOf e) raw i) (AsksFor (factOf e) (rowAt raw i)) (AskedBy (factOf e) raw (i + 1)) a b c
-      (λ M. rw (add-one i) (askRows-snoc (factOf e) (rowsUpTo raw i) (rowAt raw i) M)) into from p q
+      carried-then f (e .values) (λ v. askedRows v e (rowsUpTo raw i)) (λ v. askedRow v e (rowAt raw i)) (λ v. askedRows v e (rowsUpTo raw (i + 1)))
+      (AskedBy e raw i) (AsksFor e (rowAt raw i)) (AskedBy e raw (i + 1)) a b c (λ v. rw (add-one i) (rows-snoc v e (rowsUpTo raw i) (rowAt raw i))) into from p q
     where
-      into : (v j : ℕ) → AskedBy (factOf e) raw (i + 1) v j → AskedBy (factOf e) raw i v j ⊎ AsksFor (factOf e) (rowAt raw i) v j
+      into : (v j : ℕ) → AskedBy e raw (i + 1) v j → AskedBy e raw i v j ⊎ AsksFor e (rowAt raw i) v j
       into v j x = ⊎-elim
           (λ l. inl (x .0, l, x .2))
           (λ l. let w = x .1 in let z : x .0 ≡ i = omega arith in inr (rw z at (x .2)))
           (lt-or-ge (x .0) i)
 
-      from : (v j : ℕ) → AskedBy (factOf e) raw i v j ⊎ AsksFor (factOf e) (rowAt raw i) v j → AskedBy (factOf e) raw (i + 1) v j
+      from : (v j : ℕ) → AskedBy e raw i v j ⊎ AsksFor e (rowAt raw i) v j → AskedBy e raw (i + 1) v j
       from v j x = ⊎-elim (λ l. let w = l .1 in (l .0, omega arith, l .2)) (λ l. (i, omega arith, l)) x
-
-  -- rows that do not match are passed over
-  rows-skip : (from d : ℕ) (a b : Sheet) → ((i : ℕ) → from ≤ i → i < from + d → matchesRow (factOf e) (rowAt raw i) ≡ false) → Rows from a b → Rows (from + d) a b
-  rows-skip from zero a b none p = let z : from + 0 ≡ from = omega arith in rw z p
-  rows-skip from (suc d) a b none p =
-      let z : from + suc d ≡ from + d + 1 = omega arith in
-      let q = rows-skip from d a b (λ i h k. none i h (omega arith)) p in
-      let n = none (from + d) (omega arith) (omega arith) in
-      rw z
-      (rows-more (from + d) a b b q
-      (carried-none before L (factOf e .values) (λ M. askRow (factOf e) M (rowAt raw (from + d))) (AsksFor (factOf e) (rowAt raw (from + d))) b
-      (λ M. ask-unmatched (factOf e) M (rowAt raw (from + d)) n) (λ v j x. false-true n (x .matches)) (q .steady)))
-
-  pub rows-to : (from r : ℕ) (a b : Sheet) → NextMatch raw e from r → Rows from a b → Rows r a b
-  rows-to from r a b n p =
-      let z : from + (r - from) ≡ r = omega (arith, n .later) in
-      rw z at (rows-skip from (r - from) a b (λ i h k. n .skipped i h (omega arith)) p)
-
-  -- a row that matches, and then the next one
-  pub rows-next : (i r : ℕ) (a b c : Sheet) → Sized e → rowRight raw i ≡ true → matchesRow (factOf e) (rowAt raw i) ≡ true → NextMatch raw e (i + 1) r → Rows i a b
-      → Carried before L (factOf e .values) (λ M. askArguments M (argumentsOf raw i (e .count)) (factOf e .values)) (AtPlaces raw i (e .count)) b c → Rows r a c
-  rows-next i r a b c s right m n p q = rows-to (i + 1) r a c n (rows-more i a b c p (row-matched raw i e s right before L b c m q))

@@ -2,3 +2,4 @@
 pub mod Matching
 pub mod Asking
 pub mod Looking
+pub mod Finding

@@ -1,13 +1,13 @@
 -- When a row is an atom that matches a fact, and the parts of that. Assumes nothing: these are definitions.
-use Prim.Native.Nat.{ℕ, _/_, _≤_, _<_}
+use Prim.Native.Nat.{ℕ, _≤_}
 use mathlib.Core.Path.{_≡_}
 use mathlib.Core.Bool.{Bool, true, false, not, _&&_, _||_}
-use mathlib.Core.List.{List, [], _∷_}
+use mathlib.Core.List.{List, []}
 use lib.Dec.{eqb}
-use lib.ListN.{length, take}
+use lib.ListN.{length}
 use Rattle.meaning.specs.declared.Fact.{Fact as Handed}
 use Rattle.meaning.specs.Qtl.{Argument, variable, constant, Fact}
-use Rattle.meaning.specs.Rows.{Row, truth, atom, both, neg, since, previous, exists, argumentAt}
+use Rattle.meaning.specs.Rows.{Row, truth, atom, both, neg, since, previous, exists}
 use Rattle.meaning.specs.Numbering.{repeats, fits}
 
 -- "Each atom that matches the event [the fact] (predicate, constants, and equal values where a variable repeats)"
@@ -30,10 +30,6 @@ argumentsIn (since l r) = []
 argumentsIn (previous r) = []
 argumentsIn (exists x r) = []
 
--- the first n arguments of the row at place i
-unfoldable pub argumentsOf : List ℕ → ℕ → ℕ → List Argument
-argumentsOf raw i n = take n (argumentAt raw i 0 ∷ argumentAt raw i 1 ∷ argumentAt raw i 2 ∷ [])
-
 -- where the argument is the variable v, the value z is y
 unfoldable pub sameAt : ℕ → ℕ → Argument → ℕ → Bool
 sameAt v y (variable w) z = not (eqb v w) || eqb y z
@@ -48,8 +44,3 @@ fitsFirst (constant c) y gs ys = eqb c y
 pub record Sized (e : Handed) : Type 0 where
   pub few : e .count ≤ 3
   pub three : length (e .values) ≡ 3
-
--- the row at place i is one of the slice's, and the fact is sized
-pub record Readable (raw : List ℕ) (i : ℕ) (e : Handed) : Type 0 where
-  pub inside : i < length raw / 9
-  pub sized : Sized e

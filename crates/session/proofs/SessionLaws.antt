@@ -6,7 +6,8 @@ use mathlib.Core.List.{List, [], _∷_, _++_, append-assoc}
 use lib.ListN.{length, getD, take, drop, take-append-drop}
 use lib.Seq.{take-all}
 use borrow.Author.Tests.{lt-ltb}
-use Rattle.meaning.specs.Tables.{most}
+use Rattle.meaning.specs.Numbering.{most}
+use Rattle.meaning.specs.Outcome.{valuesSize}
 use Rattle.transcript.specs.Output.{valuesAsked}
 use Rattle.answers.proofs.PutLaws.{Putting}
 
@@ -17,9 +18,9 @@ listed-none k h = rw (lt-ltb 10 k h) refl
 
 -- the table of the source
 pub listed-entry : (k : ℕ) → k ≤ 10
-    → (getD (0 ∷ 4 ∷ 12 ∷ 28 ∷ 60 ∷ 124 ∷ 252 ∷ 508 ∷ 1020 ∷ 2044 ∷ 4092 ∷ []) k 0 ≡ valuesAsked k)
-    × (getD (0 ∷ 4 ∷ 12 ∷ 28 ∷ 60 ∷ 124 ∷ 252 ∷ 508 ∷ 1020 ∷ 2044 ∷ 4092 ∷ []) k 0 ≤ 4092)
-unfolding valuesAsked most
+    → (getD (128 ∷ 132 ∷ 140 ∷ 156 ∷ 188 ∷ 252 ∷ 380 ∷ 636 ∷ 1148 ∷ 2172 ∷ 4220 ∷ []) k 0 ≡ valuesAsked k)
+    × (getD (128 ∷ 132 ∷ 140 ∷ 156 ∷ 188 ∷ 252 ∷ 380 ∷ 636 ∷ 1148 ∷ 2172 ∷ 4220 ∷ []) k 0 ≤ 4220)
+unfolding valuesAsked valuesSize most
 listed-entry zero h = (refl, omega arith)
 listed-entry (suc zero) h = (refl, omega arith)
 listed-entry (suc (suc zero)) h = (refl, omega arith)

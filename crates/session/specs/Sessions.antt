@@ -18,7 +18,7 @@ pub record Sound (s : Session) : Type 0 where
 pub record Tables (rows nodes values work : List ℕ) : Type 0 where
   pub rows-long : length rows ≡ 585
   pub nodes-long : length nodes ≡ 1536
-  pub values-long : length values ≡ 4092
+  pub values-long : length values ≡ 4220
   pub work-long : length work ≡ 9216
 
 -- as much of each table as the sizes and the rule ask for: there is room for it
@@ -29,7 +29,7 @@ pub record Sized (s : Session) (p : Lent) : Type 0 where
   pub work-is : p .work ≡ 16 * s .c + 1024
   pub rows-few : p .rows ≤ 585
   pub nodes-few : p .nodes ≤ 1536
-  pub values-few : p .values ≤ 4092
+  pub values-few : p .values ≤ 4220
   pub work-few : p .work ≤ 9216
 
 -- the parts of the tables that the sizes ask for, with the state

@@ -47,13 +47,13 @@ pub struct After {
     pub told: Told,
 }
 
-// 4 × (2^k − 1) for each k from 0 to 10.
-const LISTED: [usize; 11] = [0, 4, 12, 28, 60, 124, 252, 508, 1020, 2044, 4092];
+// 4 × (2^k − 1) + 128 for each k from 0 to 10.
+const LISTED: [usize; 11] = [128, 132, 140, 156, 188, 252, 380, 636, 1148, 2172, 4220];
 
 // The length of the value slice. A k past 10 is refused before the slice is looked at.
 fn listed(k: u32) -> usize
     ensures { λ r. ⌜ r ≡ valuesAsked k ⌝ }
-    ensures { λ r. ⌜ r ≤ 4092 ⌝ }
+    ensures { λ r. ⌜ r ≤ 4220 ⌝ }
 {
     if 10 < k {
         return 0;
@@ -218,7 +218,7 @@ fn row(s: Session, nine: [u32; 9], rows: &mut [u32; 585]) -> After
 // Start, with the header, or with the line that says why not.
 fn begin(s: Session, rows: &[u32], nodes: &mut [u32], values: &mut [u32]) -> After
     requires { ⌜ Sound s ⌝ }
-    requires { ⌜ (length (now rows) ≡ 585) × (length (now nodes) ≡ 1536) × (length (now values) ≡ 4092) ⌝ }
+    requires { ⌜ (length (now rows) ≡ 585) × (length (now nodes) ≡ 1536) × (length (now values) ≡ 4220) ⌝ }
     ensures { λ r. ⌜ Begins (beginLeft s (started s (now (rows .entry)) (now (nodes .entry)) (now (values .entry))) (now (nodes .entry)) (now (values .entry))) r (now (nodes .exit)) (now (values .exit)) ⌝ }
 {
     let lent = lend(s);
@@ -258,7 +258,7 @@ pub fn ready(
     s: Session,
     rows: &[u32; 585],
     nodes: &mut [u32; 1536],
-    values: &mut [u32; 4092],
+    values: &mut [u32; 4220],
 ) -> After
     requires { ⌜ Sound s ⌝ }
     ensures { λ r. ⌜ Begins (readyAs (s .part) s (now (rows .entry)) (now (nodes .entry)) (now (values .entry))) r (now (nodes .exit)) (now (values .exit)) ⌝ }
@@ -340,7 +340,7 @@ fn event(
     event: Event,
     rows: &[u32; 585],
     nodes: &mut [u32; 1536],
-    values: &mut [u32; 4092],
+    values: &mut [u32; 4220],
     work: &mut [u32; 9216],
 ) -> After
     requires { ⌜ Sound s × (s .ordinal < 18446744073709551615) ⌝ }
@@ -362,7 +362,7 @@ pub fn line(
     found: Line,
     rows: &mut [u32; 585],
     nodes: &mut [u32; 1536],
-    values: &mut [u32; 4092],
+    values: &mut [u32; 4220],
     work: &mut [u32; 9216],
 ) -> After
     requires { ⌜ Sound s × (s .ordinal < 18446744073709551615) ⌝ }

@@ -1,24 +1,18 @@
 -- Well kept diagrams meet what this crate's functions ask, before an event and after it: a state's are so, and so is every canonical layout
--- (`layout-kept`, crates/trees). Assumes nothing.
-use Prim.Native.Nat.{ℕ, _*_, _≤_, _<_}
+-- (`layout-kept`, crates/trees). They are a table by `kept-table` (crates/nodes). Assumes nothing.
+use Prim.Native.Nat.{ℕ, _≤_, _<_}
 use mathlib.Core.Path.{_≡_, ap}
 use mathlib.Core.Bool.{Bool}
 use mathlib.Core.List.{List, [], map, _++_}
-use native.Mathlib.Omega.{arith}
 use lib.ListN.{length, getD, replicate}
 use Rattle.trees.specs.Tree.{Tree, off, Fine}
 use Rattle.trees.specs.Table.{addTrees, refOf, show}
 use Rattle.trees.specs.Kept.{diagrams, WellKept}
-use Rattle.trees.proofs.CanonicalLaws.{kept-back, kept-one}
 use Rattle.trees.proofs.LayoutLaws.{layout-diagrams}
-use Rattle.nodes.specs.Nodes.{Table}
 use Rattle.trees.specs.Sizes.{sizesOf}
 use Rattle.sizes.specs.Leading.{Leading}
 
 module _ (free : ℕ → ℕ → Bool) (C n : ℕ) (refs : List ℕ) (kept : ℕ) (ns : List ℕ) (w : WellKept free C n refs kept ns) where
-  pub kept-table : length ns ≡ 3 * C → C ≤ 4096 → Table ns kept
-  kept-table size small = record { small = omega arith; fits = omega (arith, w .fits); back = kept-back free C n refs kept ns w; one = kept-one free C n refs kept ns w }
-
   pub kept-leading : n ≤ 64 → length refs ≡ 64 → Leading refs n kept
   kept-leading few wide = record { few = few; wide = wide; inside = w .inside }
 

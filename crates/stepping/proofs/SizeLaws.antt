@@ -17,7 +17,8 @@ use Rattle.trees.proofs.SizesLaws.{sizes-right, right-sizes}
 use Rattle.nodes.specs.Nodes.{Table, Rest, Decides}
 use Rattle.keeping.specs.Checks.{freeBy, CheckLeaves}
 use Rattle.sizes.specs.Leading.{Leading}
-use Rattle.sizes.proofs.AskedLaws.{kept-table, kept-leading, layout-sizes}
+use Rattle.nodes.proofs.KeptTables.{kept-table}
+use Rattle.sizes.proofs.AskedLaws.{kept-leading, layout-sizes}
 use Rattle.diagram.specs.Steps.{keptRight}
 use Rattle.diagram.specs.Works.{Fits}
 use Rattle.stepping.proofs.LendLaws.{chained-part}

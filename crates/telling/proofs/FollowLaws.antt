@@ -1,24 +1,17 @@
 -- Following paths tells exactly whether the function tells two numbers apart. Assumes nothing.
-use Prim.Native.Nat.{ℕ, zero, suc, _+_, _-_, _/_, _%_, _^_, _≤_, _<_}
+use Prim.Native.Nat.{ℕ, zero, suc, _+_, _-_, _/_, _^_, _≤_, _<_}
 use mathlib.Core.Path.{_≡_, refl, ap, sym, _∙_}
-use mathlib.Core.Bool.{Bool, true, false, cond, not, _&&_}
+use mathlib.Core.Bool.{Bool, true, false, cond, _&&_}
 use mathlib.Core.Logic.{_↔_, inl, inr}
 use native.Mathlib.Nat.{div-div-eq-div-mul}
 use native.Mathlib.Omega.{arith}
-use lib.Dec.{eqb, ltb}
-use Rattle.trees.specs.Bits.{Bits, put}
+use lib.Dec.{ltb}
+use Rattle.trees.specs.Bits.{Bits, put, write}
 use Rattle.trees.specs.Tree.{Tree, off, on, node, eval, same, Fine}
 use Rattle.telling.specs.Follow.{bitOf, follow, untold}
 use Rattle.trees.proofs.Tests.{LtCase, below, above, lt-case, and-true, and-true-l, and-true-r}
-use Rattle.trees.proofs.BitsLaws.{put-own, put-other, put-agree, write, write-outside}
+use Rattle.trees.proofs.BitsLaws.{put-own, put-other, write-outside, write-agree}
 use Rattle.trees.proofs.TreeLaws.{same-true, same-eq, node-fine, fine-node, fine-lower, eval-agree, canon}
-
--- bits that agree still agree after the writing
-pub write-agree : (s t : Bits) (base n m i : ℕ) → s i ≡ t i → write s base n m i ≡ write t base n m i
-unfolding write
-write-agree s t base zero m i e = e
-write-agree s t base (suc n) m i e =
-    put-agree (write s (suc base) n (m / 2)) (write t (suc base) n (m / 2)) base (not (eqb (m % 2) 0)) i (write-agree s t (suc base) n (m / 2) i e)
 
 -- the bit that is written at a level
 write-bit : (s : Bits) (base n m j : ℕ) → j < n → write s base n m (base + j) ≡ bitOf m j

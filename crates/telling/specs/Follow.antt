@@ -1,16 +1,9 @@
--- Whether a set tells two numbers of a variable apart: the claim about its function, and the test on its diagram, which follows paths and makes no node.
--- Assumes nothing: these are definitions.
+-- Whether a diagram tells two numbers of a variable apart, by following paths: no node is made. That it does so exactly if its function does
+-- (`Untold` of trees) is a theorem. Assumes nothing: these are definitions.
 use Prim.Native.Nat.{ℕ, _+_, _-_, _/_, _%_, _^_}
-use mathlib.Core.Path.{_≡_}
 use mathlib.Core.Bool.{Bool, true, not, cond, _&&_}
 use lib.Dec.{eqb, ltb}
-use Rattle.trees.specs.Bits.{Bits, Function}
 use Rattle.trees.specs.Tree.{Tree, off, on, node, same}
-use Rattle.trees.proofs.BitsLaws.{write}
-
--- the set says the same with the k bits from base on showing n as with them showing m, "however the other bits are set"
-abbrev pub Untold : ℕ → ℕ → ℕ → ℕ → Function → Type 0
-Untold base k n m g = (s : Bits) → g (write s base k n) ≡ g (write s base k m)
 
 -- bit j of a number
 unfoldable pub bitOf : ℕ → ℕ → Bool

@@ -16,9 +16,9 @@ use Rattle.meaning.specs.declared.Event.{Event}
 use Rattle.meaning.specs.declared.State.{State}
 use Rattle.meaning.specs.Rows.{Row, Found, right, fault, ruleOf, checkRows}
 use Rattle.meaning.specs.Step.{Shown, step}
-use Rattle.meaning.specs.Tables.{most, keptTable, layState, layNodes, layValues}
-use Rattle.meaning.specs.Outcome.{Arrays, kRight, capacity, nodesRight, valuesRight, workSize, cleared, factsOf, Decision, taken, refused, judgeStart, judgeEvent, Machine, shows, decideEvent, settleEvent, eventOutcome}
-use Rattle.meaning.proofs.PartsLaws.{padded-length}
+use Rattle.meaning.specs.Tables.{keptTable, layState, layNodes, layValues}
+use Rattle.meaning.specs.Outcome.{Arrays, kRight, capacity, nodesRight, valuesSize, valuesRight, workSize, cleared, factsOf, Decision, taken, refused, judgeStart, judgeEvent, Machine, shows, decideEvent, settleEvent, eventOutcome}
+use Rattle.meaning.proofs.PartsLaws.{padded-length, lay-length}
 use Rattle.meaning.proofs.ProperLaws.{Proper}
 use Rattle.meaning.proofs.RunLaws.{start-taken, few, laid-on}
 use Rattle.meaning.proofs.AnyState.{passed, laid-of}
@@ -31,18 +31,9 @@ nodes-length k C rule s p =
     padded-length (3 * C) _ (let r = p .room in unfold keptTable in omega arith)
 
 -- the value slice that is laid out
-values-length : (k C : ℕ) (rule : List Row) (s : Shown) → Proper k C rule s → length (layValues k (s .lists)) ≡ 4 * most k
-unfolding layValues most
-values-length k C rule s p =
-    rw (
-      length-append,
-      length-append,
-      length-append,
-      padded-length (most k) (s .lists 0) (p .enough 0 (omega arith)),
-      padded-length (most k) (s .lists 1) (p .enough 1 (omega arith)),
-      padded-length (most k) (s .lists 2) (p .enough 2 (omega arith)),
-      padded-length (most k) (s .lists 3) (p .enough 3 (omega arith)),
-    ) (omega arith)
+values-length : (k C : ℕ) (rule : List Row) (s : Shown) → Proper k C rule s → length (layValues (s .lists)) ≡ valuesSize k
+unfolding valuesSize
+values-length k C rule s p = lay-length k (s .lists) (p .sized)
 
 -- the references that are laid out
 refs-length : (k C : ℕ) (rule : List Row) (s : Shown) → length rule ≤ 64 → Proper k C rule s → length (layState k s .refs) ≡ 64

@@ -8,8 +8,7 @@ use lib.ListN.{length, replicate}
 use Rattle.meaning.specs.declared.Event.{Event}
 use Rattle.meaning.specs.declared.Answer.{Answer}
 use Rattle.meaning.specs.declared.Answer.the-variants.{Started, Verdict, Refused}
-use Rattle.meaning.specs.Tables.{most}
-use Rattle.meaning.specs.Outcome.{workSize, StartOutcome, startOutcome, Machine, machineOf, eventOutcome}
+use Rattle.meaning.specs.Outcome.{valuesSize, workSize, StartOutcome, startOutcome, Machine, machineOf, eventOutcome}
 use Rattle.lines.specs.declared.Line.{Line}
 use Rattle.lines.specs.declared.Line.the-variants as line
 use Rattle.answers.specs.Answers.{header, badLine, noStart, answerLine}
@@ -59,9 +58,9 @@ startReply C rows o (Refused number place) = record { stand = ended; bytes = noS
 startReply C rows o Started = record { stand = judging rows 0 (machineOf o (replicate (workSize C) 0)); bytes = header }
 startReply C rows o (Verdict holds kept room) = record { stand = judging rows 0 (machineOf o (replicate (workSize C) 0)); bytes = header }
 
--- the length of the value slice, "4 × (2^k − 1)"; a k past 10 is refused before the slice is looked at
+-- the length of the value slice, "4 × (2^k − 1)" and the taken words behind them; a k past 10 is refused before the slice is looked at
 unfoldable pub valuesAsked : ℕ → ℕ
-valuesAsked k = cond (ltb 10 k) 0 (4 * most k)
+valuesAsked k = cond (ltb 10 k) 0 (valuesSize k)
 
 -- start, on slices of the lengths that k and C ask for
 unfoldable pub begins : ℕ → ℕ → List ℕ → StartOutcome

@@ -2,9 +2,11 @@
 use Prim.Native.Nat.{ℕ, zero, suc, _+_, _-_, _≤_, _<_}
 use mathlib.Core.Path.{_≡_, refl, sym, ap, ap₂, _∙_, fun-ext}
 use mathlib.Core.Bool.{Bool, true, false, cond, not, _&&_, _||_}
+use mathlib.Core.Logic.{_↔_}
 use native.Mathlib.Omega.{arith}
-use Rattle.trees.specs.Bits.{Bits, Function, Same, Asks, put, drop}
+use Rattle.trees.specs.Bits.{Bits, Function, Same, Asks, put, sameFrom, drop}
 use Rattle.trees.specs.Tree.{Tree, eval, Fine, mk, leaf, treeFrom, treeOf, notT, sinceT, dropT}
+use Rattle.trees.proofs.Tests.{and-true, and-true-l, and-true-r}
 use Rattle.trees.proofs.BitsLaws.{put-back, asks-put, asks-wider, asks-drop}
 use Rattle.trees.proofs.TreeLaws.{eval-mk, fine-mk, fine-lower, fine-leaf, eval-leaf, canon, eval-agree}
 
@@ -31,6 +33,31 @@ eval-from (suc n) lo hi g h a s =
     let half : (x : Bool) → eval (treeFrom (suc lo) n (λ t. g (put t lo x))) s ≡ g (put s lo x) = λ x.
     eval-from n (suc lo) hi (λ t. g (put t lo x)) (omega arith) (asks-put lo hi g x a) s in
     eval-mk lo _ _ s ∙ rw (half false, half true) (join lo hi lo g a s)
+
+-- what the test of two functions says
+pub same-from : (n lo hi : ℕ) (f g : Function) → hi ≡ lo + n → Asks lo hi f → Asks lo hi g → (sameFrom lo n f g ≡ true) ↔ Same f g
+unfolding sameFrom
+same-from zero lo hi f g h a b =
+    let at : (s : Bits) → f (λ _. false) ≡ f s = λ s. a .only (λ _. false) s (λ i x y. absurd (omega arith)) in
+    let bt : (s : Bits) → g (λ _. false) ≡ g s = λ s. b .only (λ _. false) s (λ i x y. absurd (omega arith)) in
+    (λ e s. sym (at s) ∙ says (f (λ _. false)) (g (λ _. false)) e ∙ bt s, λ e. test (f (λ _. false)) (g (λ _. false)) (e (λ _. false)))
+  where
+    says : (x y : Bool) → cond x y (not y) ≡ true → x ≡ y
+    says true y e = sym e
+    says false true e = e
+    says false false e = refl
+
+    test : (x y : Bool) → x ≡ y → cond x y (not y) ≡ true
+    test true y e = sym e
+    test false true e = e
+    test false false e = refl
+same-from (suc n) lo hi f g h a b =
+    let part : Bool → Bool = λ x. sameFrom (suc lo) n (λ s. f (put s lo x)) (λ s. g (put s lo x)) in
+    let half : (x : Bool) → (part x ≡ true) ↔ Same (λ s. f (put s lo x)) (λ s. g (put s lo x)) = λ x.
+    same-from n (suc lo) hi (λ s. f (put s lo x)) (λ s. g (put s lo x)) (omega arith) (asks-put lo hi f x a) (asks-put lo hi g x b) in (
+      λ e s. sym (join lo hi lo f a s) ∙ ap₂ (cond (s lo)) (half true .0 (and-true-r (part false) (part true) e) s) (half false .0 (and-true-l (part false) (part true) e) s) ∙ join lo hi lo g b s,
+      λ e. and-true (part false) (part true) (half false .1 (λ s. e (put s lo false))) (half true .1 (λ s. e (put s lo true))),
+    )
 
 module _ (n : ℕ) where
   pub fine-of : (g : Function) → Fine 0 n (treeOf n g)

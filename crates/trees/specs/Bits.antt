@@ -1,7 +1,7 @@
 -- Functions of the bits at the levels. Assumes nothing: these are definitions.
-use Prim.Native.Nat.{ℕ, zero, suc, _+_, _*_, _≤_, _<_}
+use Prim.Native.Nat.{ℕ, zero, suc, _+_, _*_, _/_, _%_, _≤_, _<_}
 use mathlib.Core.Path.{_≡_}
-use mathlib.Core.Bool.{Bool, true, false, cond, _||_}
+use mathlib.Core.Bool.{Bool, true, false, not, cond, _&&_, _||_}
 use lib.Dec.{eqb, ltb}
 
 -- a bit for each level
@@ -41,6 +41,21 @@ bit false = 0
 unfoldable pub number : Bits → ℕ → ℕ → ℕ
 number s base zero = 0
 number s base (suc n) = bit (s base) + 2 * number s (suc base) n
+
+-- the bits with n of them, from base on, set to show m
+unfoldable pub write : Bits → ℕ → ℕ → ℕ → Bits
+write s base zero m = s
+write s base (suc n) m = put (write s (suc base) n (m / 2)) base (not (eqb (m % 2) 0))
+
+-- the set says the same with the k bits from base on showing n as with them showing m, "however the other bits are set"
+abbrev pub Untold : ℕ → ℕ → ℕ → ℕ → Function → Type 0
+Untold base k n m g = (s : Bits) → g (write s base k n) ≡ g (write s base k m)
+
+-- the test of two functions that ask no levels but n from lo on: the same answer for either bit at each of them
+unfoldable pub sameFrom : ℕ → ℕ → Function → Function → Bool
+sameFrom lo zero f g = cond (f (λ _. false)) (g (λ _. false)) (not (g (λ _. false)))
+sameFrom lo (suc n) f g =
+    sameFrom (suc lo) n (λ s. f (put s lo false)) (λ s. g (put s lo false)) && sameFrom (suc lo) n (λ s. f (put s lo true)) (λ s. g (put s lo true))
 
 -- g with the bit at a level removed: it holds for some bit there
 unfoldable pub drop : ℕ → Function → Function

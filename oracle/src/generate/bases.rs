@@ -49,19 +49,15 @@ pub fn setting(random: &mut Random) -> (u32, Vec<u32>) {
     };
     let mut rows = rule(random, wish);
     if random.once_in(20) {
-        fill_up(random, &mut rows);
+        fill_up(&mut rows);
     }
     (k as u32, rows)
 }
 
-/// Makes a rule one of 64 rows, by nots of any rows and one of its last row.
-fn fill_up(random: &mut Random, rows: &mut Vec<u32>) {
-    let last = rows.len() / FIELDS - 1;
-    while rows.len() < FIELDS * (MOST_ROWS - 1) {
-        let below = random.below(rows.len() / FIELDS);
-        rows.extend(encode(&Row::Not(below)));
-    }
-    if rows.len() < FIELDS * MOST_ROWS {
+/// Makes a rule one of 64 rows, by rows that say the last row again and again.
+fn fill_up(rows: &mut Vec<u32>) {
+    while rows.len() < FIELDS * MOST_ROWS {
+        let last = rows.len() / FIELDS - 1;
         rows.extend(encode(&Row::Not(last)));
     }
 }

@@ -3,11 +3,10 @@
 use crate::case::{Begin, Case};
 use crate::event::State;
 use crate::random::Random;
-use crate::rows::{Rule, VARIABLES};
-use crate::sizes::led_to;
-use crate::well_formed::{broken, Clause};
+use crate::rows::VARIABLES;
+use crate::well_formed::Clause;
 
-pub const CLAUSES: [Clause; 19] = [
+pub const CLAUSES: [Clause; 17] = [
     Clause::RowCount,
     Clause::MoreKeptThanNodes,
     Clause::RowReferencePastKept,
@@ -21,8 +20,6 @@ pub const CLAUSES: [Clause; 19] = [
     Clause::NodeOutOfOrder,
     Clause::NodeOfNoRow,
     Clause::LevelOutsideFree,
-    Clause::SizeOfRow,
-    Clause::SizePastRows,
     Clause::NodeRest,
     Clause::ValueCount,
     Clause::ValueRest,
@@ -42,11 +39,8 @@ pub fn disturb(random: &mut Random, case: &Case, clause: Clause) -> Option<Case>
             state.refs[random.below(state.rows as usize)] = above(random, state.kept + 1);
         }
         Clause::ReferencePastRows => {
-            *past_rows(random, &mut state.refs, state.rows)? = random.number().max(1);
-        }
-        Clause::SizeOfRow => disturb_size(random, &mut state)?,
-        Clause::SizePastRows => {
-            *past_rows(random, &mut state.sizes, state.rows)? = random.number().max(1);
+            let rows = state.rows as usize;
+            *state.refs[rows..].get_mut(random.below(64 - rows + 1))? = random.number().max(1);
         }
         Clause::ValueCount => {
             let most = case.values.len() / VARIABLES;
@@ -57,42 +51,8 @@ pub fn disturb(random: &mut Random, case: &Case, clause: Clause) -> Option<Case>
         }
         _ => disturb_nodes(random, &mut state, &mut disturbed.nodes, clause)?,
     }
-    if clause != Clause::SizeOfRow {
-        fit_sizes(&mut state, &disturbed);
-    }
     disturbed.begin = Begin::Given(state);
     Some(disturbed)
-}
-
-/// Makes the sizes those of the disturbed diagrams, where there are such, so that they break nothing more.
-fn fit_sizes(state: &mut State, case: &Case) {
-    let rule = Rule::read(&case.rows).expect("made rules are right");
-    if broken(state, &rule, &case.nodes, &case.values).contains(&Clause::SizeOfRow) {
-        for row in 0..rule.rows.len() {
-            state.sizes[row] = led_to(&case.nodes, state.refs[row]);
-        }
-    }
-}
-
-/// A place past the rows, or nothing for one past all 64.
-fn past_rows<'a>(random: &mut Random, numbers: &'a mut [u32], rows: u32) -> Option<&'a mut u32> {
-    let rest = &mut numbers[rows as usize..];
-    let place = random.below(rest.len() + 1);
-    rest.get_mut(place)
-}
-
-/// One size is one more or one less, or any number, or two rows have each other's.
-fn disturb_size(random: &mut Random, state: &mut State) -> Option<()> {
-    let sizes = &mut state.sizes[..state.rows as usize];
-    let (one, other) = (random.below(sizes.len()), random.below(sizes.len()));
-    match random.below(4) {
-        0 => sizes[one] += 1,
-        1 => sizes[one] = sizes[one].checked_sub(1)?,
-        2 if sizes[one] == sizes[other] => return None,
-        2 => sizes.swap(one, other),
-        _ => sizes[one] = random.number(),
-    }
-    Some(())
 }
 
 fn near(random: &mut Random, number: u32) -> u32 {

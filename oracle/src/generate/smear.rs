@@ -35,7 +35,7 @@ pub fn smear(random: &mut Random, case: &mut Case) {
             slice[random.below(slice.len())] = number;
         }
     };
-    match (random.below(7), &mut case.begin) {
+    match (random.below(6), &mut case.begin) {
         (0, _) => set(random, &mut case.rows),
         (1, Begin::Given(state)) => {
             let used = 3 * state.kept as usize;
@@ -45,7 +45,6 @@ pub fn smear(random: &mut Random, case: &mut Case) {
         (2, _) => set(random, &mut case.values),
         (3, Begin::Given(state)) => set(random, &mut state.refs),
         (4, Begin::Given(state)) => set(random, &mut state.counts),
-        (6, Begin::Given(state)) => set(random, &mut state.sizes),
         (5, Begin::Given(state)) => match random.below(3) {
             0 => state.k = number,
             1 => state.rows = number,

@@ -6,7 +6,6 @@ use crate::layout::lay_out;
 use crate::numbering::{numbers, Lists};
 use crate::random::Random;
 use crate::rows::{Rule, VARIABLES};
-use crate::sizes::sizes;
 use crate::table::{Shape, Table};
 
 /// A state and what its slices hold first; the nodes are those kept, without the rest.
@@ -44,7 +43,6 @@ pub fn state(random: &mut Random, k: u32, rule: &Rule, most: usize) -> Option<Ma
         rows: rule.rows.len() as u32,
         kept: nodes.len() as u32 / 3,
         counts: lists.counts(),
-        sizes: sizes(&shape, &tables),
         ..State::ZERO
     };
     state.refs[..references.len()].copy_from_slice(&references);

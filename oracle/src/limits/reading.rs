@@ -181,7 +181,6 @@ fn state(rest: &str) -> Result<State, String> {
             "kept" => std::slice::from_mut(&mut state.kept),
             "counts" => &mut state.counts[..],
             "refs" => &mut state.refs[..],
-            "sizes" => &mut state.sizes[..],
             _ => return Err(format!("'{name}' is no part of a state")),
         };
         place.copy_from_slice(&filled(numbers, place.len())?);

@@ -3,11 +3,10 @@
 pub mod facts;
 
 use crate::coverage::Coverage;
-use crate::event::{Answer, Event, Fact, State, MOST_FACTS};
+use crate::event::{Answer, Event, Fact, State};
 use crate::numbering::{numbers, Lists};
-use crate::refusals::{unfit, work_used};
+use crate::refusals::work_used;
 use crate::rows::{Row, Rule, FIELDS, MOST_ROWS, VARIABLES};
-use crate::well_formed::{broken, Clause};
 
 /// The slices of a call as they were handed in.
 pub struct Handed<'a> {
@@ -127,7 +126,7 @@ fn past_slices(
     answer: Answer,
 ) {
     if let Answer::Refused { number: 4, .. } = answer {
-        return misfit(coverage, handed, state, rule, event);
+        return;
     }
     let before = Lists::read(state.k, &state.counts, handed.values);
     if let Answer::Refused { number: 5, .. } = answer {
@@ -162,36 +161,6 @@ fn past_slices(
                 coverage.add("last number given out");
             }
         }
-    }
-}
-
-/// An event that is refused for a size and nothing else of the state: what later refusals would be given for.
-fn misfit(coverage: &mut Coverage, handed: &Handed, state: &State, rule: &Rule, event: &Event) {
-    let clauses = broken(state, rule, handed.nodes, handed.values);
-    if clauses
-        .into_iter()
-        .any(|clause| clause != Clause::SizeOfRow)
-    {
-        return;
-    }
-    let before = Lists::read(state.k, &state.counts, handed.values);
-    if event.facts.len() > MOST_FACTS || event.facts.iter().any(|fact| unfit(rule, fact)) {
-        coverage.add("event refused 4, a size alone, facts unfit too");
-    } else if before.asked(rule, event).short(state.k).is_some() {
-        coverage.add("event refused 4, a size alone, numbers short too");
-    }
-}
-
-/// The sizes that a verdict left.
-pub fn sizes(coverage: &mut Coverage, left: &State) {
-    if left.sizes.iter().sum::<u32>() > left.kept {
-        coverage.add("verdict with a node in two rows' sizes");
-    }
-    if left.sizes[32..].iter().any(|&size| size > 0) {
-        coverage.add("verdict with a size past row 31");
-    }
-    if left.sizes[MOST_ROWS - 2] > 0 {
-        coverage.add("verdict with a size of row 62");
     }
 }
 

@@ -1,11 +1,9 @@
 //! Room and kept nodes with a fault in them.
 
-use std::collections::HashSet;
-
 use oracle::layout::lay_out;
 use oracle::numbering::Lists;
 use oracle::room::room;
-use oracle::rows::{Row, MOST_ROWS};
+use oracle::rows::Row;
 use oracle::table::{Shape, Table};
 
 use crate::fault::Fault;
@@ -66,40 +64,6 @@ impl Step<'_> {
             (Row::Atom { .. }, Fault::RoomOfPointsForTurns) => points().collect(),
             (Row::Atom { .. }, _) => (1..=facts.len()).map(after).collect(),
             _ => Vec::new(),
-        }
-    }
-
-    /// The sizes of the rows, from the nodes that the event leaves.
-    pub fn sizes(&self, nodes: &[u32], references: &[u32]) -> [u32; MOST_ROWS] {
-        let mut sizes = [0; MOST_ROWS];
-        let mut met: HashSet<u32> = HashSet::new();
-        for (size, &reference) in sizes.iter_mut().zip(references) {
-            if self.fault != Fault::SizesOfSharedNodesOnce {
-                met.clear();
-            }
-            let before = met.len();
-            self.meet(nodes, reference, &mut met);
-            *size = (met.len() - before) as u32;
-        }
-        match self.fault {
-            Fault::SizesLeftByVerdict => sizes = self.state.sizes,
-            Fault::SizesOfRowBefore => sizes.rotate_right(1),
-            Fault::SizesOf32RowsOnly => sizes[32..].fill(0),
-            _ => {}
-        }
-        sizes
-    }
-
-    /// Puts what a reference leads to with the rest that is met.
-    fn meet(&self, nodes: &[u32], reference: u32, met: &mut HashSet<u32>) {
-        let leaf = reference < 2;
-        if leaf && self.fault != Fault::SizesCountLeaves || !met.insert(reference) || leaf {
-            return;
-        }
-        let place = 3 * (reference as usize - 2);
-        self.meet(nodes, nodes[place + 1], met);
-        if self.fault != Fault::SizesOfLowSidesOnly {
-            self.meet(nodes, nodes[place + 2], met);
         }
     }
 

@@ -5,7 +5,7 @@ use oracle::monitor::{event, look_up, start, Monitor};
 use oracle::numbering::Lists;
 use oracle::refusals::{at_event, at_start, unfit, work_used};
 use oracle::rows::{Rule, FIELDS};
-use oracle::well_formed::{broken, Clause};
+use oracle::well_formed::broken;
 
 use crate::facts::seen;
 use crate::fault::Fault;
@@ -102,9 +102,6 @@ impl Monitor for Mutant {
             }
             (Fault::NodesLeftByRefusedEvent, Answer::Refused { number: 7, .. }) => {
                 nodes[3 * state.kept as usize..].fill(LEFT);
-            }
-            (Fault::SizesOfRefusedEvent, Answer::Refused { number: 7, .. }) => {
-                next.sizes = State::ZERO.sizes;
             }
             (Fault::NumberGivenByRefusedEvent, Answer::Refused { number: 7, .. }) => {
                 let rule = Rule::read(rows).expect("refusal 2 was not given");
@@ -234,15 +231,6 @@ impl Mutant {
             (Fault::ClauseSkipped(clause), 4, Ok(rule)) => {
                 let found = broken(call.state, &rule, call.nodes, call.values);
                 (found.len() == 1 && found.contains(&clause)).then_some(taken)
-            }
-            (Fault::SizesLookedAtLast, 4, Ok(rule)) => {
-                let found = broken(call.state, &rule, call.nodes, call.values);
-                let sizes = found.len() == 1 && found.contains(&Clause::SizeOfRow);
-                let unfit = call.event.facts.iter().any(|fact| unfit(&rule, fact));
-                (sizes && unfit).then_some(Answer::Refused {
-                    number: 5,
-                    place: 0,
-                })
             }
             (Fault::CountLookedAtBeforeState, 4, _) => {
                 let over = call.event.facts.iter().any(|fact| fact.count > 3);

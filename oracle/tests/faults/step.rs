@@ -251,7 +251,6 @@ impl Step<'_> {
         let mut state = State {
             kept: nodes.len() as u32 / 3,
             refs: State::ZERO.refs,
-            sizes: self.sizes(&nodes, &references),
             counts: lists.counts(),
             ..*self.state
         };

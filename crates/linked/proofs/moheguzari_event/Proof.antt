@@ -31,7 +31,8 @@ event-requires c κs = tt
 
 event-on-requires : tie.Need-event-on-requires
 event-on-requires c κs =
-    let h = c .before .before .before .before .before .before .before .before .before .before .before .before .before .if2 .left in (
+    let h = c .before .before .before .before .before .before .before .before .before .before .before .before .before .if2 .left in
+    (
       four-counts _ _ h (c .before .before .before .before .before .before .before .before .before .before .figures .ensures),
       many-references _ _ h (c .before .before .before .before .before .before .before .before .references .ensures),
       many-sizes _ _ h (c .before .before .before .before .before .before .sizes .ensures),

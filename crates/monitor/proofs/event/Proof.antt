@@ -7,7 +7,8 @@ use Rattle.monitor.proofs.event.Tie as tie
 
 event-on-requires : tie.Need-event-on-requires
 event-on-requires c κs =
-    let s = c .before .before .before .before .before .before .before .before .before .before .before .before in (
+    let s = c .before .before .before .before .before .before .before .before .before .before .before .before in
+    (
       sym (length-map (s .args .state .counts) _) ∙ s .good .0 .1 .1 .1 .1 .1 .0 .1 .0 .1,
       sym (length-map (s .args .state .refs) _) ∙ s .good .0 .1 .1 .1 .1 .1 .1 .0 .1 .0 .1,
       sym (length-map (s .args .state .sizes) _) ∙ s .good .0 .1 .1 .1 .1 .1 .1 .1 .0 .1 .0 .1,

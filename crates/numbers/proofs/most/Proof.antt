@@ -5,7 +5,7 @@ use mathlib.Core.List.{[], _∷_}
 use native.Mathlib.Omega.{arith}
 use lib.ListN.{getD}
 use borrow.Author.Needs.{needs}
-use Rattle.meaning.specs.Tables.{most}
+use Rattle.meaning.specs.Numbering.{most}
 use Rattle.numbers.proofs.most.Statement.{statement}
 use Rattle.numbers.proofs.most.Tie as tie
 

@@ -1,46 +1,31 @@
--- `all_differ` meets its contract. The loop's invariant: the first j places stand in the table, and their values differ. The measure is what is
--- left of the list. Assumes nothing.
-use Prim.Native.Nat.{ℕ, _+_, _≤_, _-_}
+-- `all_differ` meets its contract. The loop's invariant: the taken places of the first w words stand in the table, and their values differ. The measure is the
+-- count of words left. Assumes nothing.
+use native.Mathlib.Omega.{arith}
+use Prim.Native.Nat.{ℕ, _-_, _*_, _≤_}
 use mathlib.Core.Path.{_≡_, refl, ap, _∙_}
 use mathlib.Core.List.{List}
-use native.Mathlib.Omega.{arith}
-use lib.ListN.{length, getD, drop, length-set}
-use lib.Seq.{drop-set-lt}
+use lib.ListN.{length, getD, drop}
+use borrow.Author.Tests.{not-true, not-false}
+use Rattle.lists.specs.Slots.{Table, Apart}
+use Rattle.lists.proofs.ListsLaws.{clear-zero, clear-beyond, apart-distinct, twice-distinct, further}
+use Rattle.lists.proofs.SlotsLaws.{table-none}
 use borrow.Author.Needs.{needs}
-use Rattle.lists.specs.Slots.{Table, Searchable, Apart}
-use Rattle.lists.proofs.ListsLaws.{clear-zero, clear-beyond}
-use Rattle.lists.proofs.SlotsLaws.{table-none, table-more, apart-more, apart-distinct, twice-distinct}
 use Rattle.lists.proofs.checking.all_differ.Statement.{statement}
 use Rattle.lists.proofs.checking.all_differ.Tie as tie
 
 abbrev Inv-loop : tie.InvT-loop
-Inv-loop list room work₀ size j₀ j-end work j = (j ≤ length list) × (j-end ≡ length list) × (length work ≡ length work₀) × (drop room work ≡ drop room work₀) × Table list work size j × Apart list j
+Inv-loop count list words room work₀ size last w₀ work w = (w ≤ last) × (length work ≡ length work₀) × (drop room work ≡ drop room work₀) × Table list words work size (32 * w) × Apart list words (32 * w)
 
 abbrev μ-loop : tie.MeasureT-loop
-μ-loop list room work₀ size j₀ j-end work j = j-end - j
-
--- the table can be searched for the value at place j
-searchable : (c : tie.In-loop Inv-loop μ-loop) → let l = c .before in let t = l .before .before .before .before .before in
-    Searchable (t .before .before .before .args .list .now) (l .loop .work) (t .slots .result) (l .loop .j)
-searchable c =
-    let l = c .before in
-    let t = l .before .before .before .before .before in
-    let z = t .slots .ensures in
-    record {
-      table = l .loop .inv .4;
-      place = omega arith;
-      more = omega (arith, z .more);
-      few = z .few;
-      inside = omega (arith, z .inside, l .loop .inv .2, l .before .before .before .clear .kept .0, t .before .before .before .pre .0 .inside);
-    }
+μ-loop count list words room work₀ size last w₀ work w = last - w
 
 -- what lies beyond the room is as it was at entry
-beyond : (l : tie.At-loop Inv-loop μ-loop) → let s = l .before .before .before .before .before .before .before .before in
+beyond : (l : tie.At-loop Inv-loop μ-loop) → let s = l .before .before .before .before .before .before .before .before .before in
     drop (s .args .room) (l .loop .work) ≡ drop (s .args .room) (s .args .work .now)
 beyond l =
     let t = l .before .before .before .before .before in
-    let a = t .before .before .before .args in
-    l .loop .inv .3
+    let a = t .before .before .before .before .args in
+    l .loop .inv .2
     ∙ (ap (drop (a .room)) (l .before .before .before .clear .ensures) ∙ clear-beyond (t .slots .result) (a .room) (a .work .now) (t .slots .ensures .inside))
 
 slots-requires : tie.Need-slots-requires Inv-loop μ-loop
@@ -49,79 +34,84 @@ slots-requires c κs = search needs
 clear-requires : tie.Need-clear-requires Inv-loop μ-loop
 clear-requires c κs = search needs
 
+add-last : tie.Need-add-last Inv-loop μ-loop
+add-last c = search needs
+
 loop-holds : tie.Need-loop-holds Inv-loop μ-loop
 loop-holds c =
     let t = c .before .before .before .before in
-    let a = t .before .before .before .args in
+    let a = t .before .before .before .before .args in
     let w = c .before .before .clear in (
       omega arith,
       refl,
       refl,
-      refl,
-      table-none (a .list .now) (w .last .0) (t .slots .result) (λ p h. ap (λ (xs : List ℕ). getD xs p 0) (w .ensures) ∙ clear-zero (t .slots .result) (a .work .now) p h),
+      table-none (a .list .now) (a .words .now) (w .last .0) (t .slots .result) (λ p h. ap (λ (xs : List ℕ). getD xs p 0) (w .ensures) ∙ clear-zero (t .slots .result) (a .work .now) p h),
       λ i j h. absurd (omega arith),
     )
 
-seek-requires : tie.Need-seek-requires Inv-loop μ-loop
-seek-requires c κs = searchable (c .before)
-
-mul-if1 : tie.Need-mul-if1 Inv-loop μ-loop
-mul-if1 c = search needs
-
-slice-read-if1 : tie.Need-slice-read-if1 Inv-loop μ-loop
-slice-read-if1 c = search needs
+enter-word-requires : tie.Need-enter-word-requires Inv-loop μ-loop
+enter-word-requires c κs =
+    let l = c .before .before in
+    let t = l .before .before .before .before .before in
+    let s = t .before .before .before .before in
+    let z = t .slots .ensures in
+    let d = s .pre .1 in
+    record {
+      table = l .loop .inv .3;
+      apart = l .loop .inv .4;
+      word = omega (arith, c .before .loop-test .taken, d .short, d .words-size);
+      low = omega (arith, c .before .loop-test .taken, d .short);
+      listed = d .listed;
+      more = λ n. omega (arith, d .counted n, z .more);
+      few = z .few;
+      inside = omega (arith, z .inside, l .loop .inv .1, l .before .before .before .clear .kept .0, s .pre .0 .inside);
+    }
 
 same-length : tie.Need-same-length Inv-loop μ-loop
-same-length c = search needs
+same-length c =
+    let l = c .before .before .before .before .before .before in
+    c .before .before .before .enter-word .kept .1 .1 .1 .1 .0 ∙ l .loop .inv .1 ∙ l .before .before .before .clear .kept .0
 
 returns : tie.Need-returns Inv-loop μ-loop
 returns c =
-    let l = c .before .before .before .before .before in
-    let a = l .before .before .before .before .before .before .before .before .args in
-    let f = c .before .before .seek .ensures .met (c .if1 .taken) in
-    record { answer = twice-distinct (a .list .now) (f .0) (l .loop .j) (f .1) (omega arith) (f .2); beyond = beyond l }
+    let l = c .before .before .before .before .before .before in
+    let t = l .before .before .before .before .before in
+    let s = t .before .before .before .before in
+    let a = s .args in
+    let d = c .before .before .before .enter-word .ensures in
+    record {
+      answer = twice-distinct (a .list .now) (a .words .now) (s .pre .1 .listed) (d .twice (not-true _ (c .if1 .taken)));
+      beyond = further (t .slots .result) (a .room) _ _ (t .slots .ensures .inside) (d .beyond) ∙ beyond l;
+    }
 
-cast-work : tie.Need-cast-work Inv-loop μ-loop
-cast-work c = search needs
-
-add-work : tie.Need-add-work Inv-loop μ-loop
-add-work c = search needs
-
-mul-work : tie.Need-mul-work Inv-loop μ-loop
-mul-work c = search needs
-
-slice-write-work : tie.Need-slice-write-work Inv-loop μ-loop
-slice-write-work c = search needs
-
-add-j : tie.Need-add-j Inv-loop μ-loop
-add-j c = search needs
+add-w : tie.Need-add-w Inv-loop μ-loop
+add-w c = search needs
 
 loop-less : tie.Need-loop-less Inv-loop μ-loop
 loop-less c = search needs
 
 loop-again : tie.Need-loop-again Inv-loop μ-loop
 loop-again c =
-    let i = c .before .before .before .before in
-    let l = i .before in
+    let l = c .before .before .before .before .before .before in
     let t = l .before .before .before .before .before in
-    let a = t .before .before .before .args in
-    let r = c .before .before .seek in (
-      omega arith,
-      refl,
-      simp length-set (l .loop .inv .2),
-      drop-set-lt (a .room) (l .loop .work) (r .result) (l .loop .j + 1) (omega (arith, r .ensures .inside, t .slots .ensures .inside)) ∙ l .loop .inv .3,
-      table-more (a .list .now) (l .loop .work) (t .slots .result) (l .loop .j) (r .result) (searchable i) (r .ensures) (c .if1 .left),
-      apart-more (a .list .now) (l .loop .work) (t .slots .result) (l .loop .j) (r .result) (searchable i) (r .ensures) (c .if1 .left) (l .loop .inv .5),
+    let a = t .before .before .before .before .args in
+    let w = c .before .before .before .enter-word in
+    let d = w .ensures .all (not-false _ (c .if1 .left)) in (
+      omega (arith, c .before .before .before .before .before .loop-test .taken),
+      w .kept .1 .1 .1 .1 .0 ∙ l .loop .inv .1,
+      further (t .slots .result) (a .room) _ _ (t .slots .ensures .inside) (w .ensures .beyond) ∙ l .loop .inv .2,
+      d .0,
+      d .1,
     )
 
 same-length-2 : tie.Need-same-length-2 Inv-loop μ-loop
-same-length-2 c = search needs
+same-length-2 c = c .before .loop .inv .1 ∙ c .before .before .before .before .clear .kept .0
 
 returns-2 : tie.Need-returns-2 Inv-loop μ-loop
 returns-2 c =
     let l = c .before in
-    let a = l .before .before .before .before .before .before .before .before .args in
-    record { answer = apart-distinct (a .list .now) (l .loop .j) (omega arith) (l .loop .inv .5); beyond = beyond l }
+    let a = l .before .before .before .before .before .before .before .before .before .args in
+    record { answer = apart-distinct (a .list .now) (a .words .now) (32 * l .loop .w) (omega (arith, c .loop-test .left)) (l .loop .inv .4); beyond = beyond l }
 
 pub all-differ-spec : {M : Type 1} → statement M
 all-differ-spec =
@@ -131,17 +121,12 @@ all-differ-spec =
     μ-loop
     slots-requires
     clear-requires
+    add-last
     loop-holds
-    seek-requires
-    mul-if1
-    slice-read-if1
+    enter-word-requires
     same-length
     returns
-    cast-work
-    add-work
-    mul-work
-    slice-write-work
-    add-j
+    add-w
     loop-less
     loop-again
     same-length-2

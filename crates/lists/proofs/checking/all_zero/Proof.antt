@@ -7,7 +7,7 @@ use lib.Dec.{eqb}
 use lib.ListN.{length, getD}
 use borrow.Author.Needs.{needs}
 use Rattle.trees.specs.Kept.{allBelow}
-use Rattle.lists.proofs.ListsLaws.{zero-more}
+use Rattle.lists.proofs.FreeEntryLaws.{zero-more}
 use Rattle.lists.proofs.checking.all_zero.Statement.{statement}
 use Rattle.lists.proofs.checking.all_zero.Tie as tie
 
@@ -34,7 +34,7 @@ loop-less : tie.Need-loop-less Inv-loop μ-loop
 loop-less c = search needs
 
 loop-again : tie.Need-loop-again Inv-loop μ-loop
-loop-again c = let l = c .before .before .loop in (omega arith, refl, zero-more (c .before .before .before .args .list .now) (l .i) (l .bits) (l .inv .2))
+loop-again c = let l = c .before .before .loop in (omega arith, refl, zero-more (λ j. getD (c .before .before .before .args .list .now) j 0) (l .i) (l .bits) (l .inv .2))
 
 returns : tie.Need-returns Inv-loop μ-loop
 returns c =

@@ -1,8 +1,6 @@
 -- `lists_right` meets its contract. Assumes nothing.
 use native.Mathlib.Omega.{arith}
-use mathlib.Core.Path.{_∙_}
-use Rattle.numbers.proofs.StartLaws.{most-le}
-use Rattle.lists.proofs.ListsLaws.{lists-same}
+use Rattle.lists.proofs.PartLaws.{most-le, lists-same}
 use borrow.Author.Needs.{needs}
 use Rattle.lists.proofs.checking.lists_right.Statement.{statement}
 use Rattle.lists.proofs.checking.lists_right.Tie as tie
@@ -24,10 +22,11 @@ same-length c = search needs
 
 returns : tie.Need-returns
 returns c =
-    let a = c .before .before .before .before .before .before .before .args in
+    let s = c .before .before .before .before .before .before .before in
+    let a = s .args in
     let d = c .before .before .all-right .ensures in
     let m = c .before .before .before .before .most in
-    record { answer = d .answer ∙ lists-same (a .k) (m .result) (a .counts) (a .values .now) (m .ensures); beyond = d .beyond }
+    record { answer = lists-same (a .k) (m .result) (a .counts) (a .values .now) (m .ensures) (rw (m .ensures) (s .pre .1)) _ (d .answer); beyond = d .beyond }
 
 pub lists-right-spec : {M : Type 1} → statement M
 lists-right-spec = tie.close (tie.spec most-requires cast-m all-right-requires same-length returns)

@@ -119,9 +119,8 @@ sizes-requires c κs =
     let s = c .before .before .before .before .before .before .before .before .before .before .before .before .before .before .before .before .before .before .before .before .before .before .before .before .before .before .before .before .before .before .before in
     let f = s .pre .1 .0 in
     let back = lent-back (s .args .nodes .now) f _ (c .before .before .before .before .before .before .before .before .before .before .before .before .before .before .before .before .before .before .before .before .before .before .before .before .before .before .before .slots-for .ensures .1) (c .before .before .before .before .before .before .before .before .before .before .before .before .before .before .before .before .before .before .before .before .before .before .before .before .before .zero .ensures) (rows .last .1 .0) (rows .kept .1 .0) in
-    let t = rw (c .before .before .before .before .before .before .before .before .before .before .before .before .before .if1 .left) at (rows .ensures) in
-    let asked = sizes-ready (s .args .k) (rowCount (now (s .args .rows))) (planned (now (s .args .rows)) (s .args .event) (now (s .args .given))) (s .args .refs .now) (s .args .kept) (s .args .nodes .now) (s .args .work .now) f t (swept .ensures) (swept .kept .0) (swept .kept .1 .1 .0 ∙ back .1) in
-    (asked .0, (asked .1, omega (arith, s .pre .0 .3, t .new-lead .wide)))
+    let asked = sizes-ready (s .args .k) (rowCount (now (s .args .rows))) (planned (now (s .args .rows)) (s .args .event) (now (s .args .given))) (s .args .refs .now) (s .args .kept) (s .args .nodes .now) (s .args .work .now) f (rw (c .before .before .before .before .before .before .before .before .before .before .before .before .before .if1 .left) at (rows .ensures)) (swept .ensures) (swept .kept .0) (swept .kept .1 .1 .0 ∙ back .1) in
+    (asked .0, (asked .1, s .pre .0 .3))
 
 mul-zero-6 : tie.Need-mul-zero-6
 mul-zero-6 c = omega (arith, c .before .before .before .before .before .before .before .before .before .before .before .before .before .before .before .before .before .before .before .before .before .before .before .before .before .before .before .before .before .before .before .before .before .before .before .pre .1 .0 .small)

@@ -1,0 +1,3 @@
+-- The runs, computed.
+pub mod Cases
+pub mod Forgettings

@@ -1,0 +1,2 @@
+-- What is claimed of a run.
+pub mod Runs

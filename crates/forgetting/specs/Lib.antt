@@ -1,0 +1,3 @@
+-- Which sets are read, and which numbers go.
+pub mod Reading
+pub mod Freeing

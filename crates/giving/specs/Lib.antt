@@ -1,0 +1,2 @@
+-- What giving numbers promises.
+pub mod Giving

@@ -1,0 +1,2 @@
+-- What settling an event's numbers promises.
+pub mod Settling

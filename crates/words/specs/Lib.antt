@@ -1,0 +1,2 @@
+-- What words of taken numbers say.
+pub mod Taken
