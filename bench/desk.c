@@ -7,7 +7,7 @@
 void desk_start(struct desk *d, const struct monitor *m, const struct workload *w)
 {
     d->nodes_len = 3 * w->capacity;
-    d->values_len = 4 * ((1u << w->k) - 1);
+    d->values_len = 4 * ((1u << w->k) - 1) + 128;
     d->work_len = 16 * w->capacity + 1024 + PAST;
     m->start(w->k, w->rows, 9 * w->row_count, d->nodes, d->nodes_len, d->values, d->values_len, d->state, STATE,
              d->answer, ANSWER);

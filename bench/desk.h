@@ -5,7 +5,7 @@
 #include "calls.h"
 #include "workload.h"
 
-enum { STATE = 135, ANSWER = 10, PAST = 8, MOST_C = 4096, MOST_VALUES = 4 * 1023 };
+enum { STATE = 135, ANSWER = 10, PAST = 8, MOST_C = 4096, MOST_VALUES = 4 * 1023 + 128 };
 
 // Lent tables. The work slice is `PAST` numbers longer than it need be, and those must stay as they are.
 struct desk {

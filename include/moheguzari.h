@@ -16,8 +16,7 @@
  *   values  MOHEGUZARI_VALUES(k)
  *   facts   MOHEGUZARI_FACTS(n) for an event of n facts, 0 to MOHEGUZARI_MOST_FACTS; only read
  *   work    MOHEGUZARI_WORK(C) or more; 0 in its first MOHEGUZARI_WORK(C) numbers after every event but one refused with 1 to 3
- *   state   MOHEGUZARI_STATE numbers: k, the row count, the count of kept nodes, four value counts, 64 references, and 64 sizes: of each
- *           row the count of its diagram's nodes, a node that rows share counted in each, and 0 past the rows
+ *   state   MOHEGUZARI_STATE numbers: k, the row count, the count of kept nodes, four value counts, 64 references, 64 sizes
  *   answer  MOHEGUZARI_ANSWER numbers, or MOHEGUZARI_FOUND for a lookup; only written
  *
  * A fact is five numbers: a predicate, how many values it has (0 to 3), and three values; those past the count are ignored.

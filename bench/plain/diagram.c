@@ -183,6 +183,45 @@ uint32_t diagrams_sweep(struct diagrams *d, uint32_t *refs, uint32_t rows)
     return kept;
 }
 
+// ---- which numbers are told apart
+
+// Lists the nodes at which r comes to the variable's levels; each once.
+static void enter(struct diagrams *d, uint32_t r, uint32_t base, uint32_t k, uint32_t *entries, uint32_t *count)
+{
+    if (r < 2 || d->nodes[r - 2].level >= base + k || d->notes[r - 2] != 0)
+        return;
+    d->notes[r - 2] = 1;
+    if (d->nodes[r - 2].level >= base) {
+        entries[(*count)++] = r;
+        return;
+    }
+    enter(d, d->nodes[r - 2].low, base, k, entries, count);
+    enter(d, d->nodes[r - 2].high, base, k, entries, count);
+}
+
+// Where r leads with the variable's bits those of a number.
+static uint32_t followed(const struct diagrams *d, uint32_t r, uint32_t base, uint32_t k, uint32_t number)
+{
+    while (level_of(d, r) < base + k) {
+        const struct node *node = &d->nodes[r - 2];
+        r = number >> (node->level - base) & 1 ? node->high : node->low;
+    }
+    return r;
+}
+
+void diagrams_tell(struct diagrams *d, uint32_t r, uint32_t base, uint32_t k, uint32_t *words)
+{
+    uint32_t *entries = (uint32_t *)d->swept, count = 0, reserved = (1u << k) - 1;
+    enter(d, r, base, k, entries, &count);
+    memset(d->notes, 0, d->count * sizeof *d->notes);
+    for (uint32_t i = 0; i < count; i++) {
+        uint32_t other = followed(d, entries[i], base, k, reserved);
+        for (uint32_t n = 0; n < reserved; n++)
+            if (words[n / 32] >> n % 32 & 1 && followed(d, entries[i], base, k, n) != other)
+                words[n / 32] &= ~(1u << n % 32);
+    }
+}
+
 // ---- the sizes
 
 // The word of a node: the rows whose diagrams it belongs to. The slice need not be aligned for words.

@@ -68,6 +68,10 @@ uint32_t diagrams_without(struct diagrams *d, uint32_t level, uint32_t p);
 // Makes the nodes the canonical table of the rows' diagrams, and refs their references there. Gives the count of nodes.
 uint32_t diagrams_sweep(struct diagrams *d, uint32_t *refs, uint32_t rows);
 
+// Clears the bits of the numbers that r tells apart from the reserved one, however the bits of the other variables are set. The variable has
+// the k levels from `base` on. What it works in is free before the sweep.
+void diagrams_tell(struct diagrams *d, uint32_t r, uint32_t base, uint32_t k, uint32_t *words);
+
 // How many of the kept nodes each row's reference leads to, a node that several rows share counting in each. What it works in is free
 // before the sweep and after it.
 void diagrams_sizes(struct diagrams *d, uint32_t kept, const uint32_t *refs, uint32_t rows, uint32_t *sizes);

@@ -31,7 +31,7 @@ static uint32_t refused(uint32_t k, struct rule *rule, const uint32_t *rows, siz
     if (!rule_read(rule, rows, rows_len, place))
         return 2;
     *place = 0;
-    if (nodes_len % 3 != 0 || nodes_len < 3 || nodes_len > 3 * MOST_NODES || values_len != VARIABLES * ((1u << k) - 1))
+    if (nodes_len % 3 != 0 || nodes_len < 3 || nodes_len > 3 * MOST_NODES || values_len != lists_length((1u << k) - 1))
         return 3;
     return 0;
 }
@@ -57,14 +57,14 @@ bool plain_start(uint32_t k, const uint32_t *rows, size_t rows_len, uint32_t *no
 }
 
 // The point of an atom: its variables have the numbers of a fact's values. Gives the count of levels.
-static uint32_t point(struct fixed *way, uint32_t k, const struct row *row, uint32_t numbers[VARIABLES][ARGUMENTS])
+static uint32_t point(struct fixed *way, uint32_t k, const struct row *row, const struct asked *asked, size_t fact)
 {
     uint32_t number[VARIABLES], count = 0;
     memset(number, 0xff, sizeof number);
     for (uint32_t j = 0; j < row->q; j++) {
         uint32_t v = row->arguments[j].value;
         if (row->arguments[j].mark == 0)
-            number[v] = numbers[v][j];
+            number[v] = asked->numbers[v][asked->places[fact][v][j]];
     }
     for (uint32_t v = 0; v < VARIABLES; v++)
         for (uint32_t b = 0; b < k && number[v] != NO_NUMBER; b++)
@@ -80,7 +80,7 @@ static uint32_t work_atom(struct diagrams *d, uint32_t k, const struct row *row,
     uint32_t is = 0;
     for (size_t i = 0; i < event->count && is != FULL; i++)
         if (row_matches(row, &event->facts[i]))
-            is = diagrams_with(d, is, way, point(way, k, row, asked->numbers[i]));
+            is = diagrams_with(d, is, way, point(way, k, row, asked, i));
     return is;
 }
 
@@ -138,6 +138,34 @@ static bool state_right(struct diagrams *d, const struct state *state, const str
     return memcmp(state->sizes, sizes, rule->count * sizeof sizes[0]) == 0;
 }
 
+// Whether the step reads the old diagram of row i: that of a since row, or of one that a previous names.
+static bool is_read(const struct rule *rule, uint32_t i)
+{
+    if (rule->rows[i].kind == SINCE)
+        return true;
+    for (uint32_t j = 0; j < rule->count; j++)
+        if (rule->rows[j].kind == PREVIOUS && rule->rows[j].p == i)
+            return true;
+    return false;
+}
+
+// Frees the numbers of a variable that no diagram read tells apart from the reserved one, but for those that are asked.
+static void forget(struct diagrams *d, const struct state *state, const struct rule *rule, struct asked *asked, uint32_t v)
+{
+    uint32_t goes[WORDS];
+    memcpy(goes, asked->words[v], sizeof goes);
+    for (uint32_t i = 0; i < asked->many[v]; i++) {
+        uint32_t n = asked->numbers[v][i];
+        if (n != NO_NUMBER)
+            goes[n / 32] &= ~(1u << n % 32);
+    }
+    for (uint32_t i = 0; i < rule->count; i++)
+        if (is_read(rule, i) && rule->free[i] >> v & 1)
+            diagrams_tell(d, state->refs[i], v * state->k, state->k, goes);
+    for (uint32_t w = 0; w < WORDS; w++)
+        asked->words[v][w] &= ~goes[w];
+}
+
 // Whether the list is too long, or a fact in it has more than three values or not as many as the rule's predicate.
 static bool event_wrong(const struct rule *rule, const struct event *event)
 {
@@ -165,29 +193,31 @@ static void judge(struct diagrams *d, struct state *state, const struct rule *ru
         return;
     }
     struct asked asked;
-    lists_ask(&asked, most, state->counts, values, rule, event);
+    lists_ask(&asked, most, values, rule, event);
     for (uint32_t v = 0; v < VARIABLES; v++)
-        if (asked.counts[v] > most) {
+        if (lists_short(&asked, most, v))
+            forget(d, state, rule, &asked, v);
+    for (uint32_t v = 0; v < VARIABLES; v++)
+        if (lists_short(&asked, most, v)) {
             say(answer, 6, v, 0, 0);
             return;
         }
+    lists_give(&asked);
     uint32_t news[MOST_ROWS];
     if (!work_rows(d, state, rule, event, &asked, news)) {
         say(answer, 7, 0, 0, 0);
         return;
     }
-    lists_write(&asked, most, state->counts, values);
-    uint32_t numbered[VARIABLES];
+    lists_write(&asked, most, values);
     for (uint32_t v = 0; v < VARIABLES; v++)
-        numbered[v] = asked.counts[v] - state->counts[v];
-    memcpy(state->counts, asked.counts, sizeof state->counts);
+        state->counts[v] = lists_taken(asked.words[v]);
     state->kept = diagrams_sweep(d, news, rule->count);
     memcpy(state->refs, news, rule->count * sizeof news[0]);
     diagrams_sizes(d, state->kept, state->refs, rule->count, state->sizes);
     say(answer, 0, state->refs[rule->count - 1], state->kept, d->count);
     answer[4] = d->complement_visits;
     answer[5] = d->sweep_visits;
-    memcpy(answer + 6, numbered, sizeof numbered);
+    memcpy(answer + 6, asked.missing, sizeof asked.missing);
 }
 
 bool plain_event(const uint32_t *rows, size_t rows_len, uint32_t *nodes, size_t nodes_len, uint32_t *values,
@@ -224,17 +254,21 @@ bool plain_lookup(const uint32_t *values, size_t values_len, const uint32_t *num
     const struct state *state = (const struct state *)numbers;
     answer[1] = 0;
     uint32_t most = state->k >= 1 && state->k <= 10 ? (1u << state->k) - 1 : 0;
-    if (most == 0 || values_len != (size_t)VARIABLES * most || variable >= VARIABLES || state->counts[variable] > most) {
+    if (most == 0 || values_len != lists_length(most) || variable >= VARIABLES) {
         answer[0] = 3;
         return true;
     }
-    const uint32_t *list = values + variable * most;
-    for (uint32_t n = 0; n < state->counts[variable]; n++)
-        if (list[n] == value) {
-            answer[0] = 0;
-            answer[1] = n;
-            return true;
-        }
-    answer[0] = state->counts[variable] < most ? 1 : 2;
+    uint32_t n = lists_find(most, values, variable, value);
+    if (n != NO_NUMBER) {
+        answer[0] = 0;
+        answer[1] = n;
+        return true;
+    }
+    // Any words may stand there: those from `most` on say nothing.
+    const uint32_t *words = values + VARIABLES * most + variable * WORDS;
+    answer[0] = 2;
+    for (n = 0; n < most; n++)
+        if ((words[n / 32] >> n % 32 & 1) == 0)
+            answer[0] = 1;
     return true;
 }

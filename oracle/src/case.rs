@@ -1,9 +1,8 @@
 //! A case: the slices as they are handed in, and the calls made on them.
 
 use crate::event::{Event, State};
-use crate::numbering::numbers;
+use crate::numbering::value_length;
 use crate::refusals::work_used;
-use crate::rows::VARIABLES;
 
 /// How a case begins.
 #[derive(Clone, Copy, Debug, PartialEq, Eq)]
@@ -34,7 +33,7 @@ impl Case {
             rows,
             work: vec![DIRT; work_used(&nodes) + 3],
             nodes,
-            values: vec![DIRT; VARIABLES * numbers(k)],
+            values: vec![DIRT; value_length(k)],
             events,
         }
     }

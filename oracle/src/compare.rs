@@ -1,11 +1,15 @@
 //! One case on two monitors, call by call: state, answer and every number of the slices must be the same.
 
+use std::collections::HashSet;
+
 use crate::case::{Begin, Case, DIRT};
 use crate::coverage::Coverage;
 use crate::enumerating::Oracle;
 use crate::event::{Answer, Event, Found, State};
 use crate::monitor::{look_up, Monitor};
-use crate::reached::{at_event, at_start, sizes, Handed};
+use crate::numbering::Lists;
+use crate::reached::{at_event, at_start, forgotten, sizes, Handed};
+use crate::rows::VARIABLES;
 
 /// What one call left.
 #[derive(Clone, Debug, PartialEq, Eq)]
@@ -37,6 +41,7 @@ pub fn compare(
         transcript.push(left);
     }
     let fresh = matches!(case.begin, Begin::Start { .. });
+    let mut gone = Gone::default();
     for (ordinal, event) in case.events.iter().enumerate() {
         // The work slice can hold anything before a call.
         now.work.fill(DIRT);
@@ -49,13 +54,38 @@ pub fn compare(
             .map_err(|differs| format!("event {} {event}: {differs}", ordinal + 1))?;
         let handed = now.handed(&case.rows);
         at_event(coverage, &handed, &now.state, fresh, event, left.answer);
-        if let Answer::Verdict { .. } = left.answer {
+        if let Answer::Verdict { numbered, .. } = left.answer {
             sizes(coverage, &left.state);
+            forgotten(coverage, &handed, &now.state, fresh, event, &left.values);
+            let lists = [&now, &left].map(|left| Lists::read(left.state.k, &left.values));
+            if numbered != [0; VARIABLES] && gone.again(&lists[1]) {
+                coverage.add("value forgotten and numbered again");
+            }
+            gone.note(&lists[0], &lists[1]);
         }
         now = left.clone();
         transcript.push(left);
     }
     Ok(transcript)
+}
+
+/// The values of each variable that have lost their numbers.
+#[derive(Default)]
+struct Gone([HashSet<u32>; VARIABLES]);
+
+impl Gone {
+    fn again(&self, lists: &Lists) -> bool {
+        let mut all = (0..VARIABLES).zip(&self.0);
+        all.any(|(variable, gone)| lists.values(variable).any(|value| gone.contains(&value)))
+    }
+
+    fn note(&mut self, before: &Lists, after: &Lists) {
+        for (variable, gone) in self.0.iter_mut().enumerate() {
+            gone.retain(|&value| after.number_of(variable, value).is_none());
+            let lost = |value: &u32| after.number_of(variable, *value).is_none();
+            gone.extend(before.values(variable).filter(lost));
+        }
+    }
 }
 
 impl Left {

@@ -129,7 +129,7 @@ fn stood_for(shape: &Shape, lists: &Lists, index: usize) -> Assignment {
     let mut assignment = [UNSEEN; VARIABLES];
     for &variable in &shape.variables {
         let number = shape.number_at(index, variable);
-        if let Some(&value) = lists.0[variable].get(number) {
+        if let Some(value) = lists.value_at(variable, number) {
             assignment[variable] = u64::from(value);
         }
     }

@@ -1,18 +1,20 @@
 //! The kept sets, read as values: what a state says of the rows, whatever numbers the values got.
 
+use std::collections::BTreeSet;
+
 use crate::compare::Left;
 use crate::layout::shown;
 use crate::numbering::{numbers, Lists};
-use crate::rows::Rule;
+use crate::rows::{Rule, VARIABLES};
 use crate::table::Shape;
 
 /// What differs between two states, read as values: the values of a variable that have numbers, or the set of a row.
 pub fn other_set(rule: &Rule, one: &Left, two: &Left) -> Option<String> {
     let shape = Shape::new(one.state.k, rule);
     let [of_one, of_two] = [one, two].map(lists);
-    for (variable, (first, second)) in of_one.0.iter().zip(&of_two.0).enumerate() {
-        let mut values = [first.clone(), second.clone()];
-        values.iter_mut().for_each(|list| list.sort_unstable());
+    for variable in 0..VARIABLES {
+        let values =
+            [&of_one, &of_two].map(|lists| lists.values(variable).collect::<BTreeSet<u32>>());
         if values[0] != values[1] {
             return Some(format!("variable {variable} has other values"));
         }
@@ -32,15 +34,15 @@ pub fn other_set(rule: &Rule, one: &Left, two: &Left) -> Option<String> {
 }
 
 fn lists(left: &Left) -> Lists {
-    Lists::read(left.state.k, &left.state.counts, &left.values)
+    Lists::read(left.state.k, &left.values)
 }
 
 /// For each index, the one whose numbers stand for the same values by other lists. A number without a value stands for an unseen
 /// one, as the reserved number does.
 fn carried(shape: &Shape, from: &Lists, to: &Lists) -> Vec<usize> {
     let number = |variable: usize, number: usize| {
-        let value = from.0[variable].get(number);
-        let found = value.and_then(|&value| to.number_of(variable, value));
+        let value = from.value_at(variable, number);
+        let found = value.and_then(|value| to.number_of(variable, value));
         found.unwrap_or(numbers(shape.k))
     };
     let at = |index: usize| {

@@ -6,6 +6,7 @@ pub mod compare;
 pub mod coverage;
 pub mod enumerating;
 pub mod event;
+pub mod forgetting;
 pub mod generate;
 pub mod kept_sets;
 pub mod laws;

@@ -240,7 +240,7 @@ mod tests {
 
     /// Calls start with a state and an answer of some lengths, and gives what it says and whether it wrote.
     fn start_with(state_len: usize, answer_len: usize) -> (bool, bool) {
-        let (mut nodes, mut values) = ([LEFT; 3], [LEFT; 4]);
+        let (mut nodes, mut values) = ([LEFT; 3], [LEFT; 132]);
         let (mut state, mut answer) = (vec![LEFT; state_len], vec![LEFT; answer_len]);
         let called = unsafe {
             moheguzari_start(
@@ -263,7 +263,7 @@ mod tests {
 
     /// The same of event, with facts of some length too.
     fn event_with(state_len: usize, answer_len: usize, facts_len: usize) -> (bool, bool) {
-        let (mut nodes, mut values, mut work) = ([LEFT; 3], [LEFT; 4], [LEFT; 1040]);
+        let (mut nodes, mut values, mut work) = ([LEFT; 3], [LEFT; 132], [LEFT; 1040]);
         let facts = vec![0; facts_len];
         let (mut state, mut answer) = (vec![LEFT; state_len], vec![LEFT; answer_len]);
         let called = unsafe {
@@ -312,7 +312,7 @@ mod tests {
     #[test]
     fn a_lookup_of_another_length_is_turned_down() {
         let looked_up = |state_len: usize, answer_len: usize| {
-            let (values, state) = ([LEFT; 4], vec![0; state_len]);
+            let (values, state) = ([LEFT; 132], vec![0; state_len]);
             let mut answer = vec![LEFT; answer_len];
             let called = unsafe {
                 moheguzari_lookup(
@@ -356,7 +356,7 @@ mod tests {
 
     #[test]
     fn more_than_eight_facts_are_refused_however_many() {
-        let (mut nodes, mut values, mut work) = ([0; 3], [0; 4], [0; 1040]);
+        let (mut nodes, mut values, mut work) = ([0; 3], [0; 132], [0; 1040]);
         let (state, _) = Linked.start(1, &ROWS, &mut nodes, &mut values);
         for count in [0, 1, 7, 8, 9, 255, 256, 257, 264, 65_536, 65_537] {
             let facts = vec![Fact::new(9, &[]); count];

@@ -2,7 +2,7 @@
 
 use crate::event::{Answer, Event, Found, State};
 use crate::layout::{lay_out, shown};
-use crate::numbering::{numbers, Lists};
+use crate::numbering::{is_taken, numbers, parts, value_length, Lists};
 use crate::refusals::{at_event, at_start, in_state, work_used, Refusal};
 use crate::room::room;
 use crate::rows::{Rule, VARIABLES};
@@ -35,20 +35,20 @@ pub trait Monitor {
     }
 }
 
-/// The lookup, by the value's place among those that have numbers.
+/// The lookup, among the numbers whose bits are set. Of the state it reads k alone.
 pub fn look_up(state: &State, values: &[u32], variable: u32, value: u32) -> Found {
     if !(1..=10).contains(&state.k) || variable as usize >= VARIABLES {
         return Found::Misfit;
     }
-    let (most, variable) = (numbers(state.k), variable as usize);
-    let count = state.counts[variable] as usize;
-    if values.len() != VARIABLES * most || count > most {
+    if values.len() != value_length(state.k) {
         return Found::Misfit;
     }
-    let listed = values.chunks(most).nth(variable).expect("four parts");
-    match (0..count).find(|&number| listed[number] == value) {
+    let (entries, words) = parts(state.k, values, variable as usize);
+    let mut all = 0..numbers(state.k);
+    let has = |&number: &usize| is_taken(words, number) && entries[number] == value;
+    match all.clone().find(has) {
         Some(number) => Found::Has(number as u32),
-        None if count == most => Found::NoneLeft,
+        None if all.all(|number| is_taken(words, number)) => Found::NoneLeft,
         None => Found::OneLeft,
     }
 }
@@ -181,9 +181,8 @@ fn judged(asked: Asked, after: &[Table], room: u32) -> Judged {
         kept: state.kept,
         room,
         numbered: std::array::from_fn(|variable| {
-            let before = &asked.lists_before.0[variable];
-            let after = asked.lists_after.0[variable].iter();
-            after.filter(|value| !before.contains(value)).count() as u32
+            let after: Vec<u32> = asked.lists_after.values(variable).collect();
+            asked.lists_before.missing(variable, &after) as u32
         }),
     };
     Judged {

@@ -5,8 +5,7 @@ use std::io::{BufRead, Result, Write};
 use crate::event::{Answer, Event, Fact, State};
 use crate::lines::{read, Line};
 use crate::monitor::Monitor;
-use crate::numbering::numbers;
-use crate::rows::VARIABLES;
+use crate::numbering::value_length;
 
 /// The most `r` lines that read. One more than a rule can have, so that start can refuse them.
 const MOST_LINES: usize = 65;
@@ -69,7 +68,7 @@ impl Run {
         rows: Vec<u32>,
     ) -> std::result::Result<Run, (u32, u32)> {
         // A k out of range is refused before any slice is looked at.
-        let listed = if k <= 10 { VARIABLES * numbers(k) } else { 0 };
+        let listed = if k <= 10 { value_length(k) } else { 0 };
         let mut nodes = vec![0; 3 * count as usize];
         let mut values = vec![0; listed];
         match monitor.start(k, &rows, &mut nodes, &mut values) {

@@ -1,8 +1,9 @@
-//! The refusals that need no function of a row: 1 to 6, in order, each with its place.
+//! Refusals 1 to 6, in order, each with its place. Only where a variable lacks numbers is a function of a row looked at.
 
 use crate::event::{Event, Fact, State, MOST_FACTS};
-use crate::numbering::{numbers, Lists};
-use crate::rows::{Rule, VARIABLES};
+use crate::forgetting::alike;
+use crate::numbering::{asked, value_length, Asked, Lists};
+use crate::rows::Rule;
 use crate::well_formed;
 
 /// A refusal number and its place.
@@ -21,7 +22,7 @@ pub fn at_start(k: u32, rows: &[u32], nodes: &[u32], values: &[u32]) -> Result<R
     let rule = Rule::read(rows).map_err(|place| (2, place))?;
     let right = nodes.len().is_multiple_of(3)
         && (1..=4096).contains(&(nodes.len() / 3))
-        && values.len() == VARIABLES * numbers(k);
+        && values.len() == value_length(k);
     if right {
         Ok(rule)
     } else {
@@ -59,12 +60,27 @@ pub fn in_state(
     if event.facts.len() > MOST_FACTS || event.facts.iter().any(|fact| unfit(rule, fact)) {
         return Err((5, 0));
     }
-    let before = Lists::read(state.k, &state.counts, values);
-    let after = before.asked(rule, event);
-    match after.short(state.k) {
+    let before = Lists::read(state.k, values);
+    let asked = asked(rule, event);
+    let mut after = spared(state, rule, nodes, &before, &asked);
+    match after.short(state.k, &asked) {
         Some(variable) => Err((6, variable)),
-        None => Ok((before, after)),
+        None => {
+            after.give(&asked);
+            Ok((before, after))
+        }
     }
+}
+
+/// The lists once each variable that lacks numbers has freed those that matter no more.
+pub fn spared(state: &State, rule: &Rule, nodes: &[u32], before: &Lists, asked: &Asked) -> Lists {
+    let mut spared = before.clone();
+    for (variable, asked) in asked.iter().enumerate() {
+        if before.lacks(state.k, variable, asked) {
+            spared.free(variable, &alike(state, rule, nodes, variable), asked);
+        }
+    }
+    spared
 }
 
 /// Whether a fact has more than three values, or not as many as the rule's atoms of its predicate.

@@ -31,10 +31,12 @@ pub fn bits(k: u32, rows: &[u32]) -> Option<usize> {
 
 impl Shape {
     pub fn new(k: u32, rule: &Rule) -> Shape {
-        let shape = Shape {
-            k,
-            variables: rule.variables(),
-        };
+        Shape::over(k, rule.variables())
+    }
+
+    /// Tables over the bits of some variables, in their order.
+    pub fn over(k: u32, variables: Vec<usize>) -> Shape {
+        let shape = Shape { k, variables };
         assert!(
             shape.bits() <= MOST_BITS,
             "{} bits are beyond the oracle's reach of {MOST_BITS}",
@@ -68,6 +70,14 @@ impl Shape {
         (0..self.k)
             .map(|b| (index >> self.place(variable, b) & 1) << b)
             .sum()
+    }
+
+    /// The index at which a variable has another number, and the others have theirs.
+    pub fn with_number(&self, index: usize, variable: usize, number: usize) -> usize {
+        (0..self.k).fold(index, |index, b| {
+            let place = self.place(variable, b);
+            index & !(1 << place) | (number >> b & 1) << place
+        })
     }
 
     pub fn constant(&self, yes: bool) -> Table {

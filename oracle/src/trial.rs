@@ -3,10 +3,11 @@
 use crate::case::{Begin, Case};
 use crate::compare::{compare, Left};
 use crate::coverage::Coverage;
-use crate::event::Answer;
+use crate::event::{Answer, State};
 use crate::generate::disguise::Renaming;
 use crate::kept_sets::other_set;
 use crate::monitor::Monitor;
+use crate::numbering::Lists;
 use crate::reached::facts;
 use crate::rows::Rule;
 use crate::well_formed::{broken, Clause};
@@ -146,11 +147,12 @@ fn seen_alike(
 /// The oracle's answers, states, nodes and work to two logs are the same, and the values are renamed.
 fn same_but_renamed(one: &Left, two: &Left, renaming: &Renaming) -> Result<(), String> {
     let mut renamed = one.clone();
-    let most = one.values.len() / one.state.counts.len();
-    for (list, count) in renamed.values.chunks_mut(most).zip(one.state.counts) {
-        for value in &mut list[..count as usize] {
+    if one.answer != Answer::Started && one.state != State::ZERO {
+        let mut lists = Lists::read(one.state.k, &one.values);
+        for value in lists.0.iter_mut().flatten().flatten() {
             *value = renaming.of(*value);
         }
+        lists.write(one.state.k, &mut renamed.values);
     }
     if renamed == *two {
         Ok(())

@@ -3,7 +3,7 @@
 use std::collections::{BTreeSet, HashSet};
 
 use crate::event::State;
-use crate::numbering::numbers;
+use crate::numbering::{is_taken, numbers, parts, WORDS};
 use crate::rows::{Rule, VARIABLES};
 use crate::sizes::led_to;
 
@@ -27,7 +27,8 @@ pub enum Clause {
     SizePastRows,
     NodeRest,
     ValueCount,
-    ValueRest,
+    BitPastNumbers,
+    FreeEntry,
     ValueTwice,
 }
 
@@ -153,15 +154,22 @@ fn broken_sizes(references: &[u32], sizes: &[u32], kept: &[u32]) -> Option<Claus
 
 fn broken_values(state: &State, values: &[u32]) -> Vec<Clause> {
     let mut found: Vec<Clause> = Vec::new();
-    for (list, count) in values.chunks(numbers(state.k)).zip(state.counts) {
-        let Some((list, rest)) = list.split_at_checked(count as usize) else {
+    for (variable, &count) in state.counts.iter().enumerate() {
+        let (entries, words) = parts(state.k, values, variable);
+        let all = numbers(state.k);
+        let (taken, free): (Vec<usize>, Vec<usize>) =
+            (0..all).partition(|&number| is_taken(words, number));
+        if taken.len() != count as usize {
             found.push(Clause::ValueCount);
-            continue;
-        };
-        if some_number(rest) {
-            found.push(Clause::ValueRest);
         }
-        if list.iter().collect::<HashSet<_>>().len() != list.len() {
+        if (all..32 * WORDS).any(|number| is_taken(words, number)) {
+            found.push(Clause::BitPastNumbers);
+        }
+        if free.iter().any(|&number| entries[number] != 0) {
+            found.push(Clause::FreeEntry);
+        }
+        let listed: HashSet<u32> = taken.iter().map(|&number| entries[number]).collect();
+        if listed.len() != taken.len() {
             found.push(Clause::ValueTwice);
         }
     }

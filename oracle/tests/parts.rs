@@ -10,6 +10,7 @@ use oracle::generate::calls::trial;
 use oracle::layout::{lay_out, shown};
 use oracle::meaning::{Meaning, UNSEEN};
 use oracle::monitor::Stepping;
+use oracle::numbering::Lists;
 use oracle::random::Random;
 use oracle::refusals::{at_event, in_state, unfit};
 use oracle::room::room;
@@ -135,7 +136,8 @@ fn a_made_event_asks_only_for_values_of_matching_atoms() {
             continue;
         };
         for variable in 0..4 {
-            for &value in &after.0[variable][before.0[variable].len()..] {
+            let new = |value: &u32| before.number_of(variable, *value).is_none();
+            for value in after.values(variable).filter(new) {
                 let asks = |row: &Row| {
                     matches!(row, Row::Atom { predicate, arguments }
                     if event.facts.iter().any(|fact| *predicate == fact.predicate
@@ -200,12 +202,13 @@ fn well_formed_by_layout(state: &State, rule: &Rule, nodes: &[u32], values: &[u3
         let (nodes, _) = lay_out(&shape, std::slice::from_ref(table));
         nodes.len() as u32 / 3
     });
-    let lists = values.chunks(values.len() / 4).zip(state.counts);
-    let right = |(list, count): (&[u32], u32)| {
-        let count = count as usize;
-        count <= list.len()
-            && list[count..].iter().all(|&value| value == 0)
-            && (0..count).all(|one| !list[..one].contains(&list[one]))
+    // Lists that are read and written again are the same, unless a bit is past the numbers or a free entry is not 0.
+    let lists = Lists::read(state.k, values);
+    let mut written = vec![0; values.len()];
+    lists.write(state.k, &mut written);
+    let different = |variable: usize| {
+        let listed: Vec<u32> = lists.values(variable).collect();
+        (0..listed.len()).all(|one| !listed[..one].contains(&listed[one]))
     };
     laid_out == kept
         && references == state.refs[..rows]
@@ -215,7 +218,9 @@ fn well_formed_by_layout(state: &State, rule: &Rule, nodes: &[u32], values: &[u3
             .chain(&state.refs[rows..])
             .chain(&state.sizes[rows..])
             .all(|&number| number == 0)
-        && lists.into_iter().all(right)
+        && written == values
+        && lists.counts() == state.counts
+        && (0..4).all(different)
 }
 
 #[test]

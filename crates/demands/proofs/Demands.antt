@@ -18,13 +18,13 @@ use Rattle.meaning.specs.Rows.{rowCount, ruleOf, formulaAt}
 use Rattle.meaning.specs.Numbering.{shown, Shows}
 use Rattle.meaning.specs.Outcome.{capacity, workSize, cleared, factsOf, SameEvent, stateOf, Machine, Arrays, WellFormed, enlarged, shows, log}
 use Rattle.meaning.specs.Refusals.{StartSentence, Sentence, First}
-use Rattle.meaning.specs.Verdicts.{Sized, Stepped, Answered}
+use Rattle.meaning.specs.Verdicts.{Stepped, Answered}
 use Rattle.meaning.specs.Disguise.{Disguise, Disguised, DisguisedLog, Alike}
 use Rattle.monitor.specs.Calls.{IsVerdict, IsRefusal, Starts, machine, Happens}
 use Rattle.monitor.specs.Runs.{Fresh, Call, Calls, takenIn, AllTaken}
 use Rattle.demands.proofs.AnsweredLaws.{starts-refuses, starts-keeps, starts-takes, starts-leaves, starts-answers, happens-refuses, happens-keeps, happens-takes, happens-answers, happens-steps, happens-alike, happens-larger}
 use Rattle.demands.proofs.LargerRuns.{runs-alike}
-use Rattle.demands.proofs.FreshRuns.{run-sets, run-numbers, run-sizes, run-verdict, same-sets, same-verdict, both-answer, both-alike, hidden-verdict}
+use Rattle.demands.proofs.FreshRuns.{run-sets, run-numbers, run-verdict, same-sets, same-verdict, both-answer, both-alike, hidden-verdict}
 
 -- Demand 1, of `start`, for any numbers whatever handed to it, and what it then answers and leaves.
 module _ (k : ℕ) (rows nodes values : List ℕ) (t : Turn) (ns vs : List ℕ) (s : Starts k rows nodes values t ns vs) where
@@ -40,7 +40,7 @@ module _ (k : ℕ) (rows nodes values : List ℕ) (t : Turn) (ns vs : List ℕ) 
   pub start-takes : (t .answer ≡ Started) ↔ ((n p : ℕ) → StartSentence k rows nodes values n p → ⊥)
   start-takes = starts-takes k rows nodes values t ns vs s
 
-  -- .. and "fills nodes and values with 0 and sets every reference to 0", and every size.
+  -- .. and "fills nodes and values with 0 and sets every reference to 0".
   pub start-leaves : t .answer ≡ Started → (t .state ≡ stateOf k (rowCount rows)) × (ns ≡ replicate (length nodes) 0) × (vs ≡ replicate (length values) 0)
   start-leaves q = starts-leaves k rows nodes values t ns vs s q
 
@@ -69,8 +69,8 @@ module _ (rows : List ℕ) (m : Machine) (e : Event) (t : Turn) (ns vs ws : List
   event-answers = happens-answers rows m e t ns vs ws h
 
   -- "Promise for any well-formed state, from a fresh start or not: the functions shown by the diagrams go to those that one step of the
-  -- meaning gives, read over numbers." The new state is well formed, its sizes are true, the verdict is the last row's, kept and room are
-  -- 01's, and after a verdict the work slice's "first W numbers are 0 and the rest untouched".
+  -- meaning gives, read over numbers." The new state is well formed, the verdict is the last row's, kept and room are 01's, and after
+  -- a verdict the work slice's "first W numbers are 0 and the rest untouched".
   pub any-state : Arrays m → (y : Bool) (n r : ℕ) → t .answer ≡ Verdict y n r → Stepped rows m e y n r (machine (t .state) ns vs ws)
   any-state a y n r q = happens-steps rows m e t ns vs ws h a y n r q
 
@@ -100,10 +100,6 @@ module _ (k : ℕ) (rows nodes values : List ℕ) (m₀ : Machine) (fresh : Fres
   -- the rule holds of the events taken so far, this one among them; n is the count of kept nodes, and r the room of document 01.
   pub verdicts : (e : Event) (y : Bool) (n r : ℕ) (m′ : Machine) → Call rows m e (Verdict y n r) m′ → Answered rows m e y n r m′ (takenIn es xs)
   verdicts e y n r m′ c = run-verdict k rows nodes values m₀ fresh es xs m calls e y n r m′ c
-
-  -- "Keep the 64 sizes in the state, true after start and after every event": of each row the count of the nodes of its diagram, 0 past the rows.
-  pub sizes-kept : Sized rows m
-  sizes-kept = run-sizes k rows nodes values m₀ fresh es xs m calls
 
 -- "Take the same rule and events from a fresh start, same k, and a larger C: up to the first refusal of the smaller, both answer alike."
 pub larger-runs : (k : ℕ) (rows nodes values nodes′ values′ : List ℕ) (m₀ n₀ : Machine) → Fresh k rows nodes values m₀ → Fresh k rows nodes′ values′ n₀

@@ -15,7 +15,7 @@ use Rattle.meaning.specs.Qtl.{Assignment, SameFacts, SameEvents, Holds}
 use Rattle.meaning.specs.Rows.{ruleOf, formulaAt}
 use Rattle.meaning.specs.Numbering.{shown, Shows}
 use Rattle.meaning.specs.Outcome.{factsOf, startOutcome, Machine, machineOf, shows, eventOutcome, runs, answers, takenOf, log}
-use Rattle.meaning.specs.Verdicts.{Sized, Answered}
+use Rattle.meaning.specs.Verdicts.{Answered}
 use Rattle.meaning.specs.Disguise.{Disguise, Disguised, DisguisedLog, Alike}
 use Rattle.meaning.proofs.OrderLaws.{same-length, same-snoc, same-holds}
 use Rattle.meaning.proofs.FromStart.{after, facts}
@@ -40,9 +40,6 @@ module _ (k : ℕ) (rows nodes values : List ℕ) (m₀ : Machine) (fresh : Fres
 
   pub run-numbers : (a : Assignment) → Shows k (shows rows m .lists) (shown k (shows rows m .lists) a) a
   run-numbers = rw after-is at (Demands.every-assignment k rows nodes values (m₀ .work) started es)
-
-  pub run-sizes : Sized rows m
-  run-sizes = rw after-is at (Demands.sizes-kept k rows nodes values (m₀ .work) started es)
 
   pub run-verdict : (e : Event) (y : Bool) (n r : ℕ) (m′ : Machine) → Call rows m e (Verdict y n r) m′ → Answered rows m e y n r m′ (takenIn es xs)
   run-verdict e y n r m′ c =

@@ -10,7 +10,6 @@ use lib.ListN.{length, replicate, length-append, length-replicate, length-drop, 
 use borrow.Author.Tests.{eqb-true, leb-true}
 use Rattle.trees.specs.Table.{refOf}
 use Rattle.trees.proofs.Tests.{and-true-l, and-true-r}
-use Rattle.trees.proofs.SizesLaws.{sizes-length}
 use Rattle.meaning.specs.declared.State.{State}
 use Rattle.meaning.specs.declared.Event.{Event}
 use Rattle.meaning.specs.declared.Answer.{Answer}
@@ -29,9 +28,9 @@ use Rattle.monitor.specs.Runs.{Fresh, Call, Calls, AllTaken}
 use Rattle.demands.proofs.RunLaws.{fresh-started, call-left}
 use Rattle.demands.proofs.AnsweredLaws.{verdict-taken, starts-leaves}
 
-state-arrays : (k : ℕ) (s : Shown) → length (s .trees) ≤ 64 → (length (layState k s .counts) ≡ 4) × (length (layState k s .refs) ≡ 64) × (length (layState k s .sizes) ≡ 64)
+state-arrays : (k : ℕ) (s : Shown) → length (s .trees) ≤ 64 → (length (layState k s .counts) ≡ 4) × (length (layState k s .refs) ≡ 64)
 unfolding layState
-state-arrays k s h = (refl, padded-length 64 (map (refOf (keptTable s)) (s .trees)) (omega (arith, length-map (s .trees) (refOf (keptTable s)))), sizes-length (s .trees) h)
+state-arrays k s h = (refl, padded-length 64 (map (refOf (keptTable s)) (s .trees)) (omega (arith, length-map (s .trees) (refOf (keptTable s)))))
 
 cleared-length : (C : ℕ) (w : List ℕ) → workSize C ≤ length w → length (cleared C w) ≡ length w
 unfolding cleared
@@ -56,11 +55,8 @@ module _ (rows : List ℕ) (m : Machine) (e : Event) (arrays : Arrays m) (t : de
 
   arrays-left : Arrays left
   arrays-left =
-      let a = state-arrays (m .state .k) after (omega (arith, laid .proper .count, few rows (m .state .k) (capacity (m .nodes)) (passed rows m e arrays t .0) (passed rows m e arrays t .1))) in (
-        ap (λ (s : State). length (s .counts)) (laid .state-is) ∙ a .0,
-        ap (λ (s : State). length (s .refs)) (laid .state-is) ∙ a .1,
-        ap (λ (s : State). length (s .sizes)) (laid .state-is) ∙ a .2,
-      )
+      let a = state-arrays (m .state .k) after (omega (arith, laid .proper .count, few rows (m .state .k) (capacity (m .nodes)) (passed rows m e arrays t .0) (passed rows m e arrays t .1))) in
+      (ap (λ (s : State). length (s .counts)) (laid .state-is) ∙ a .0, ap (λ (s : State). length (s .refs)) (laid .state-is) ∙ a .1)
 
 -- a verdict is no refusal
 no-refusal : (a : Answer) → IsVerdict a → a ≡ Refused 7 0 → ⊥
@@ -130,7 +126,7 @@ module _ (k : ℕ) (rows nodes values nodes′ values′ : List ℕ) (m₀ n₀ 
   unfolding stateOf
   arrays-start =
       let p = starts-leaves k rows nodes values (record { state = m₀ .state; answer = Started }) (m₀ .nodes) (m₀ .values) small refl in
-      (ap (λ (s : State). length (s .counts)) (p .0), ap (λ (s : State). length (s .refs)) (p .0), ap (λ (s : State). length (s .sizes)) (p .0))
+      (ap (λ (s : State). length (s .counts)) (p .0), ap (λ (s : State). length (s .refs)) (p .0))
 
   pub runs-alike : (es : List Event) (xs ys : List Answer) (m n : Machine) → Calls rows m₀ es xs m → Calls rows n₀ es ys n → AllTaken xs → ys ≡ xs
   runs-alike es xs ys m n c g v =

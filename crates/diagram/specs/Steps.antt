@@ -10,7 +10,6 @@ use Rattle.trees.specs.Bits.{Function, drop, drops}
 use Rattle.trees.specs.Tree.{Tree, off, eval, treeOf}
 use Rattle.trees.specs.Table.{addTrees, refOf, show, treesOf}
 use Rattle.trees.specs.Kept.{diagrams, wellKept}
-use Rattle.trees.specs.Sizes.{sizesOf, sizesRight}
 use Rattle.diagram.specs.declared.Instruction.{Instruction}
 use Rattle.diagram.specs.declared.Instruction.the-variants.{Yes, And, Not, Since, Old, Drop}
 use Rattle.diagram.specs.declared.Turn.{Turn}
@@ -101,11 +100,10 @@ workTable k count plan refs kept ns = addTrees (treesOf ns kept) (map (treeOf (4
 unfoldable pub counted : ℕ → ℕ → List Task → List ℕ → ℕ → List ℕ → List Function
 counted k count plan refs kept ns = map eval (diagrams ns kept refs count) ++ stages k plan (diagrams ns kept refs count) count
 
--- what a step leaves: what it tells, the references, the sizes of the rows' diagrams, the node slice and the work slice
+-- what a step leaves: what it tells, the references, the node slice and the work slice
 pub record Outcome : Type 0 where
   pub told : Told
   pub refs : List ℕ
-  pub sizes : List ℕ
   pub nodes : List ℕ
   pub work : List ℕ
 
@@ -122,44 +120,38 @@ fits k count nodes work =
 unfoldable pub cleared : ℕ → List ℕ → List ℕ
 cleared C w = replicate (16 * C + 1024) 0 ++ from (16 * C + 1024) w
 
--- the layout of the rows' diagrams ds: the canonical table and the references into it, zeros behind both, and the diagrams' sizes
+-- the layout of the rows' diagrams ds: the canonical table and the references into it, zeros behind both
 unfoldable pub layout : List Tree → ℕ → List Tree → ℕ → List ℕ → List ℕ → Outcome
 layout ds count T room ns w = record {
   told = Done (length T) room;
   refs = map (refOf T) ds ++ replicate (64 - count) 0;
-  sizes = sizesOf ds;
   nodes = show T T ++ replicate (length ns - 3 * length T) 0;
   work = cleared (length ns / 3) w;
 }
 
 -- what is left of well kept diagrams: all as it was where the room is over C, and else the new diagrams' layout
-unfoldable pub workOutcome : Bool → ℕ → ℕ → List Task → List ℕ → List ℕ → ℕ → List ℕ → List ℕ → Outcome
-workOutcome false k count plan refs sizes kept ns w = record { told = Full; refs = refs; sizes = sizes; nodes = ns; work = cleared (length ns / 3) w }
-workOutcome true k count plan refs sizes kept ns w =
+unfoldable pub workOutcome : Bool → ℕ → ℕ → List Task → List ℕ → ℕ → List ℕ → List ℕ → Outcome
+workOutcome false k count plan refs kept ns w = record { told = Full; refs = refs; nodes = ns; work = cleared (length ns / 3) w }
+workOutcome true k count plan refs kept ns w =
     let ds = newTrees k plan (diagrams ns kept refs count) count in
     layout ds count (addTrees [] ds) (length (workTable k count plan refs kept ns)) ns w
 
--- the diagrams are well kept, and the sizes are theirs: "sizes that don't fit the diagrams give 4"
-abbrev pub keptRight : ℕ → ℕ → List ℕ → List ℕ → List ℕ → ℕ → List ℕ → Bool
-keptRight k count allowed refs sizes kept ns = wellKept (freeBy k allowed) (length ns / 3) count refs kept ns && sizesRight sizes (diagrams ns kept refs count)
-
--- the cases in their order: are the numbers and lengths fit, are the diagrams well kept, their sizes right, and what follows then
-abbrev pub judge : Bool → Bool → List ℕ → List ℕ → List ℕ → List ℕ → Outcome → Outcome
-judge false good refs sizes ns w then = record { told = Unfit; refs = refs; sizes = sizes; nodes = ns; work = w }
-judge true false refs sizes ns w then = record { told = Bad; refs = refs; sizes = sizes; nodes = ns; work = cleared (length ns / 3) w }
-judge true true refs sizes ns w then = then
+-- the cases in their order: are the numbers and lengths fit, are the diagrams well kept, and what follows then
+abbrev pub judge : Bool → Bool → List ℕ → List ℕ → List ℕ → Outcome → Outcome
+judge false good refs ns w then = record { told = Unfit; refs = refs; nodes = ns; work = w }
+judge true false refs ns w then = record { told = Bad; refs = refs; nodes = ns; work = cleared (length ns / 3) w }
+judge true true refs ns w then = then
 
 -- what a step gives back and leaves
-unfoldable pub stepOutcome : ℕ → ℕ → List Task → List ℕ → List ℕ → List ℕ → ℕ → List ℕ → List ℕ → Outcome
-stepOutcome k count plan allowed refs sizes kept ns w =
-    judge (fits k count (length ns) (length w)) (keptRight k count allowed refs sizes kept ns) refs sizes ns w
-    (workOutcome (leb (length (workTable k count plan refs kept ns)) (length ns / 3)) k count plan refs sizes kept ns w)
+unfoldable pub stepOutcome : ℕ → ℕ → List Task → List ℕ → List ℕ → ℕ → List ℕ → List ℕ → Outcome
+stepOutcome k count plan allowed refs kept ns w =
+    judge (fits k count (length ns) (length w)) (wellKept (freeBy k allowed) (length ns / 3) count refs kept ns) refs ns w
+    (workOutcome (leb (length (workTable k count plan refs kept ns)) (length ns / 3)) k count plan refs kept ns w)
 
--- a step that told this and left these references, sizes and slices had this outcome
-pub record Leaves (o : Outcome) (t : Told) (refs′ sizes′ ns w : List ℕ) : Type 0 where
+-- a step that told this and left these references and slices had this outcome
+pub record Leaves (o : Outcome) (t : Told) (refs′ ns w : List ℕ) : Type 0 where
   pub told : t ≡ o .told
   pub refs : refs′ ≡ o .refs
-  pub sizes : sizes′ ≡ o .sizes
   pub nodes : ns ≡ o .nodes
   pub work : w ≡ o .work
 
@@ -175,8 +167,9 @@ judgeFormed true false C w = record { gives = formed.Bad; work = cleared C w }
 judgeFormed true true C w = record { gives = formed.Good; work = cleared C w }
 
 -- what a check gives back and leaves
-unfoldable pub formedOutcome : ℕ → ℕ → List ℕ → List ℕ → List ℕ → ℕ → List ℕ → List ℕ → Checked
-formedOutcome k count allowed refs sizes kept ns w = judgeFormed (fits k count (length ns) (length w)) (keptRight k count allowed refs sizes kept ns) (length ns / 3) w
+unfoldable pub formedOutcome : ℕ → ℕ → List ℕ → List ℕ → ℕ → List ℕ → List ℕ → Checked
+formedOutcome k count allowed refs kept ns w =
+    judgeFormed (fits k count (length ns) (length w)) (wellKept (freeBy k allowed) (length ns / 3) count refs kept ns) (length ns / 3) w
 
 -- a check that gave this back and left this work slice had this outcome
 pub record Tells (o : Checked) (gives : Formed) (w : List ℕ) : Type 0 where

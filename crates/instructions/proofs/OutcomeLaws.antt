@@ -79,10 +79,10 @@ module _ (k C : ℕ) (pos : 0 < k) (rule : List Row) (ok : RowsOk 0 rule) (befor
       L = askFacts es (before .lists) rule
 
   -- what is laid out
-  pub plan-layout : (room : ℕ) (ns w : List ℕ) → length rule ≤ 64 → length ns ≡ 3 * C → length ns / 3 ≡ C → room ≡ roomOf k rule before es (step k rule before es) → (refs sizes : List ℕ)
-      → layout (step k rule before es .trees) (length rule) (addTrees [] (step k rule before es .trees)) room ns w ≡ workedOutcome true k C rule before es (step k rule before es) refs sizes ns w
+  pub plan-layout : (room : ℕ) (ns w : List ℕ) → length rule ≤ 64 → length ns ≡ 3 * C → length ns / 3 ≡ C → room ≡ roomOf k rule before es (step k rule before es) → (refs : List ℕ)
+      → layout (step k rule before es .trees) (length rule) (addTrees [] (step k rule before es .trees)) room ns w ≡ workedOutcome true k C rule before es (step k rule before es) refs ns w
   unfolding layout workedOutcome keptTable layState layNodes padded cleared Meant.cleared Meant.workSize
-  plan-layout room ns w few n c r refs sizes = rw (r, c, n, refs-count, show-count)
+  plan-layout room ns w few n c r refs = rw (r, c, n, refs-count, show-count)
     where
       refs-count : length (map (refOf (addTrees [] (step k rule before es .trees))) (step k rule before es .trees)) ≡ length rule
       refs-count = length-map (step k rule before es .trees) (refOf (addTrees [] (step k rule before es .trees))) ∙ after-count
@@ -90,23 +90,23 @@ module _ (k C : ℕ) (pos : 0 < k) (rule : List Row) (ok : RowsOk 0 rule) (befor
       show-count : length (show (addTrees [] (step k rule before es .trees)) (addTrees [] (step k rule before es .trees))) ≡ 3 * length (addTrees [] (step k rule before es .trees))
       show-count = show-length (addTrees [] (step k rule before es .trees)) (addTrees [] (step k rule before es .trees)) (sound-adds (step k rule before es .trees) [] sound-nil .nodes)
 
-  work-true : (refs sizes ns w : List ℕ) (kept : ℕ) → length rule ≤ 64 → length ns ≡ 3 * C → length ns / 3 ≡ C
+  work-true : (refs ns w : List ℕ) (kept : ℕ) → length rule ≤ 64 → length ns ≡ 3 * C → length ns / 3 ≡ C
       → before .trees ≡ diagrams ns kept refs (length rule) → addTrees [] (before .trees) ≡ treesOf ns kept
-      → workOutcome true k (length rule) plan refs sizes kept ns w ≡ workedOutcome true k C rule before es (step k rule before es) refs sizes ns w
+      → workOutcome true k (length rule) plan refs kept ns w ≡ workedOutcome true k C rule before es (step k rule before es) refs ns w
   unfolding workOutcome
-  work-true refs sizes ns w kept few n c d o = rw (sym d, plan-trees) (plan-layout (length (workTable k (length rule) plan refs kept ns)) ns w few n c (plan-room refs ns kept d o) refs sizes)
+  work-true refs ns w kept few n c d o = rw (sym d, plan-trees) (plan-layout (length (workTable k (length rule) plan refs kept ns)) ns w few n c (plan-room refs ns kept d o) refs)
 
-  work-false : (refs sizes ns w : List ℕ) (kept : ℕ) → length ns / 3 ≡ C → workOutcome false k (length rule) plan refs sizes kept ns w ≡ workedOutcome false k C rule before es (step k rule before es) refs sizes ns w
+  work-false : (refs ns w : List ℕ) (kept : ℕ) → length ns / 3 ≡ C → workOutcome false k (length rule) plan refs kept ns w ≡ workedOutcome false k C rule before es (step k rule before es) refs ns w
   unfolding workOutcome workedOutcome cleared Meant.cleared Meant.workSize
-  work-false refs sizes ns w kept c = rw c
+  work-false refs ns w kept c = rw c
 
   -- the whole work, where there is room and where there is none
-  pub plan-work : (refs sizes ns w : List ℕ) (kept : ℕ) → length rule ≤ 64 → length ns ≡ 3 * C → length ns / 3 ≡ C
+  pub plan-work : (refs ns w : List ℕ) (kept : ℕ) → length rule ≤ 64 → length ns ≡ 3 * C → length ns / 3 ≡ C
       → before .trees ≡ diagrams ns kept refs (length rule) → addTrees [] (before .trees) ≡ treesOf ns kept
-      → workOutcome (leb (length (workTable k (length rule) plan refs kept ns)) (length ns / 3)) k (length rule) plan refs sizes kept ns w
-      ≡ workedOutcome (leb (roomOf k rule before es (step k rule before es)) C) k C rule before es (step k rule before es) refs sizes ns w
-  plan-work refs sizes ns w kept few n c d o = rw (plan-room refs ns kept d o, c) (go (leb (roomOf k rule before es (step k rule before es)) C))
+      → workOutcome (leb (length (workTable k (length rule) plan refs kept ns)) (length ns / 3)) k (length rule) plan refs kept ns w
+      ≡ workedOutcome (leb (roomOf k rule before es (step k rule before es)) C) k C rule before es (step k rule before es) refs ns w
+  plan-work refs ns w kept few n c d o = rw (plan-room refs ns kept d o, c) (go (leb (roomOf k rule before es (step k rule before es)) C))
     where
-      go : (b : Bool) → workOutcome b k (length rule) plan refs sizes kept ns w ≡ workedOutcome b k C rule before es (step k rule before es) refs sizes ns w
-      go true = work-true refs sizes ns w kept few n c d o
-      go false = work-false refs sizes ns w kept c
+      go : (b : Bool) → workOutcome b k (length rule) plan refs kept ns w ≡ workedOutcome b k C rule before es (step k rule before es) refs ns w
+      go true = work-true refs ns w kept few n c d o
+      go false = work-false refs ns w kept c

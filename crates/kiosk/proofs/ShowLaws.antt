@@ -29,7 +29,7 @@ standAs Over s rows nodes values work = ended
 unfoldable pub Due : Part → Session → List ℕ → List ℕ → List ℕ → Type 0
 Due First s nodes values work = (s .ordinal ≡ 0) × (nodes ≡ replicate 1536 0) × (values ≡ replicate 4092 0) × (work ≡ replicate 9216 0)
 Due Rows s nodes values work = (s .ordinal ≡ 0) × (nodes ≡ replicate 1536 0) × (values ≡ replicate 4092 0) × (work ≡ replicate 9216 0)
-Due Events s nodes values work = (length (s .state .counts) ≡ 4) × (length (s .state .refs) ≡ 64) × (length (s .state .sizes) ≡ 64)
+Due Events s nodes values work = (length (s .state .counts) ≡ 4) × (length (s .state .refs) ≡ 64)
 Due Over s nodes values work = Unit {0}
 
 -- a session and its tables show a stand

@@ -51,15 +51,13 @@ start-values k rows nodes values = go (decideStart k rows nodes values)
     go (refused n p) = unfold settleStart in refl
 
 start-arrays : (k : ℕ) (rows nodes values : List ℕ)
-    → (length (startOutcome k rows nodes values .state .counts) ≡ 4) × (length (startOutcome k rows nodes values .state .refs) ≡ 64) × (length (startOutcome k rows nodes values .state .sizes) ≡ 64)
+    → (length (startOutcome k rows nodes values .state .counts) ≡ 4) × (length (startOutcome k rows nodes values .state .refs) ≡ 64)
 unfolding startOutcome settleStart stateOf
 start-arrays k rows nodes values = go (decideStart k rows nodes values)
   where
-    go : (d : Decision)
-        → (length (settleStart d k (rowCount rows) nodes values .state .counts) ≡ 4) × (length (settleStart d k (rowCount rows) nodes values .state .refs) ≡ 64)
-        × (length (settleStart d k (rowCount rows) nodes values .state .sizes) ≡ 64)
-    go taken = (refl, refl, refl)
-    go (refused n p) = (refl, refl, refl)
+    go : (d : Decision) → (length (settleStart d k (rowCount rows) nodes values .state .counts) ≡ 4) × (length (settleStart d k (rowCount rows) nodes values .state .refs) ≡ 64)
+    go taken = (refl, refl)
+    go (refused n p) = (refl, refl)
 
 -- the value slice fits its table
 listed-few : (k : ℕ) → valuesAsked k ≤ 4092
@@ -101,7 +99,7 @@ module _ (s : Session) (rows nodes values work : List ℕ) (h : Sound s) (t : Ta
     unfolding started
     vs-long = start-values (s .k) (take (s .rows) rows) (take (3 * s .c) nodes) (take (valuesAsked (s .k)) values) ∙ values-part
 
-    arrays : (length (started s rows nodes values .state .counts) ≡ 4) × (length (started s rows nodes values .state .refs) ≡ 64) × (length (started s rows nodes values .state .sizes) ≡ 64)
+    arrays : (length (started s rows nodes values .state .counts) ≡ 4) × (length (started s rows nodes values .state .refs) ≡ 64)
     unfolding started
     arrays = start-arrays (s .k) (take (s .rows) rows) (take (3 * s .c) nodes) (take (valuesAsked (s .k)) values)
 
@@ -160,7 +158,7 @@ module _ (s : Session) (rows nodes values work : List ℕ) (h : Sound s) (t : Ta
         (begun-replies (started s rows nodes values .answer))
 
   -- an event, behind what was told before it
-  module _ (e : Event) (arrays : (length (s .state .counts) ≡ 4) × (length (s .state .refs) ≡ 64) × (length (s .state .sizes) ≡ 64)) where
+  module _ (e : Event) (arrays : (length (s .state .counts) ≡ 4) × (length (s .state .refs) ≡ 64)) where
     kept : Keeps (take (s .rows) rows) (session.machineOf s nodes values work) e
     kept = event-keeps (take (s .rows) rows) (session.machineOf s nodes values work) e (unfold session.machineOf in arrays)
 

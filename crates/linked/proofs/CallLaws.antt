@@ -21,19 +21,19 @@ use Rattle.linked.specs.Happening.{eventOf}
 use Rattle.linked.specs.Calls.{fits, fitsEvent, settleStart, startLeft, LinkedStart, machineOf, settleEvent, eventLeft, LinkedEvent, fitsLookup, settleLookup, lookupLeft, LinkedLookup}
 
 -- a state of another length
-pub other-state : (state answer : List ℕ) → (length state ≡ 135 → ⊥) → fits state answer ≡ false
+pub other-state : (state answer : List ℕ) → (length state ≡ 71 → ⊥) → fits state answer ≡ false
 unfolding fits
-other-state state answer h = rw (ne-eqb (length state) 135 h) refl
+other-state state answer h = rw (ne-eqb (length state) 71 h) refl
 
 -- an answer of another length
-pub other-answer : (state answer : List ℕ) → length state ≡ 135 → (length answer ≡ 10 → ⊥) → fits state answer ≡ false
+pub other-answer : (state answer : List ℕ) → length state ≡ 71 → (length answer ≡ 10 → ⊥) → fits state answer ≡ false
 unfolding fits
-other-answer state answer e h = rw (eq-eqb (length state) 135 e, ne-eqb (length answer) 10 h) refl
+other-answer state answer e h = rw (eq-eqb (length state) 71 e, ne-eqb (length answer) 10 h) refl
 
 -- both lengths are right
-pub right-lengths : (state answer : List ℕ) → length state ≡ 135 → length answer ≡ 10 → fits state answer ≡ true
+pub right-lengths : (state answer : List ℕ) → length state ≡ 71 → length answer ≡ 10 → fits state answer ≡ true
 unfolding fits
-right-lengths state answer e h = rw (eq-eqb (length state) 135 e, eq-eqb (length answer) 10 h) refl
+right-lengths state answer e h = rw (eq-eqb (length state) 71 e, eq-eqb (length answer) 10 h) refl
 
 -- a start that is not made
 pub start-not-made : (k : ℕ) (rows nodes values state answer : List ℕ) → fits state answer ≡ false
@@ -42,7 +42,7 @@ unfolding startLeft settleStart
 start-not-made k rows nodes values state answer e = record { called = rw e refl; nodes-are = rw e refl; values-are = rw e refl; state-is = rw e refl; answer-is = rw e refl }
 
 -- a start that is made
-pub start-made : (k : ℕ) (rows nodes values state answer : List ℕ) (t : Turn) (ns vs ss as′ : List ℕ) → length state ≡ 135 → length answer ≡ 10
+pub start-made : (k : ℕ) (rows nodes values state answer : List ℕ) (t : Turn) (ns vs ss as′ : List ℕ) → length state ≡ 71 → length answer ≡ 10
     → Starts k rows nodes values t ns vs → ss ≡ packedState (t .state) → as′ ≡ packedAnswer (t .answer) 0 0 (replicate 4 0)
     → LinkedStart k rows nodes values state answer true ns vs ss as′
 unfolding startLeft settleStart
@@ -81,7 +81,7 @@ event-not-made rows nodes values work facts state answer h = record {
 
 -- an event that is made on the state and the facts that the numbers are
 pub event-made : (rows nodes values work facts state answer : List ℕ) (s : State) (e : Event) (t : Turn) (complements swept : ℕ) (numbered ns vs ws ss as′ : List ℕ)
-    → length facts % 5 ≡ 0 → length state ≡ 135 → length answer ≡ 10 → s ≡ unpackedState state → e ≡ eventOf facts
+    → length facts % 5 ≡ 0 → length state ≡ 71 → length answer ≡ 10 → s ≡ unpackedState state → e ≡ eventOf facts
     → Happens rows (machine s nodes values work) e t ns vs ws → Looks rows (machine s nodes values work) e (t .answer) complements swept
     → Numbers rows (machine s nodes values work) e (t .answer) numbered → ss ≡ packedState (t .state) → as′ ≡ packedAnswer (t .answer) complements swept numbered
     → LinkedEvent rows nodes values work facts state answer true ns vs ws ss as′
@@ -105,19 +105,19 @@ event-made rows nodes values work facts state answer s e t complements swept num
     }
 
 -- a lookup that is not made: the state or the answer has another length
-pub lookup-no-state : (values state : List ℕ) (v y : ℕ) (answer : List ℕ) → (length state ≡ 135 → ⊥) → LinkedLookup values state v y answer false answer
+pub lookup-no-state : (values state : List ℕ) (v y : ℕ) (answer : List ℕ) → (length state ≡ 71 → ⊥) → LinkedLookup values state v y answer false answer
 unfolding lookupLeft fitsLookup settleLookup
-lookup-no-state values state v y answer h = let e = ne-eqb (length state) 135 h in record { called = rw e refl; answer-is = rw e refl }
+lookup-no-state values state v y answer h = let e = ne-eqb (length state) 71 h in record { called = rw e refl; answer-is = rw e refl }
 
-pub lookup-no-answer : (values state : List ℕ) (v y : ℕ) (answer : List ℕ) → length state ≡ 135 → (length answer ≡ 2 → ⊥) → LinkedLookup values state v y answer false answer
+pub lookup-no-answer : (values state : List ℕ) (v y : ℕ) (answer : List ℕ) → length state ≡ 71 → (length answer ≡ 2 → ⊥) → LinkedLookup values state v y answer false answer
 unfolding lookupLeft fitsLookup settleLookup
-lookup-no-answer values state v y answer h g = let e = eq-eqb (length state) 135 h in let f = ne-eqb (length answer) 2 g in record { called = rw (e, f) refl; answer-is = rw (e, f) refl }
+lookup-no-answer values state v y answer h g = let e = eq-eqb (length state) 71 h in let f = ne-eqb (length answer) 2 g in record { called = rw (e, f) refl; answer-is = rw (e, f) refl }
 
 -- a lookup that is made on the figures that the numbers are
-pub lookup-made : (values state : List ℕ) (v y : ℕ) (answer : List ℕ) (f : Figures) (found : Lookup) (as′ : List ℕ) → length state ≡ 135 → length answer ≡ 2 → f ≡ figuresOf state
+pub lookup-made : (values state : List ℕ) (v y : ℕ) (answer : List ℕ) (f : Figures) (found : Lookup) (as′ : List ℕ) → length state ≡ 71 → length answer ≡ 2 → f ≡ figuresOf state
     → found ≡ lookUp (f .k) (f .counts) values v y → as′ ≡ packedLookup found → LinkedLookup values state v y answer true as′
 unfolding lookupLeft fitsLookup settleLookup unpackedState
 lookup-made values state v y answer f found as′ h g e l p =
-    let a = eq-eqb (length state) 135 h in
+    let a = eq-eqb (length state) 71 h in
     let b = eq-eqb (length answer) 2 g in
     record { called = rw (a, b) refl; answer-is = rw (a, b) (p ∙ ap packedLookup (l ∙ ap (λ (x : Figures). lookUp (x .k) (x .counts) values v y) e)) }

@@ -13,9 +13,9 @@ use Rattle.monitor.specs.Numbered.{numberedTold}
 use Rattle.linked.specs.Packing.{packedState, unpackedState, packedAnswer, packedLookup}
 use Rattle.linked.specs.Happening.{eventOf}
 
--- a start is made if the state has 135 numbers and the answer 10
+-- a start is made if the state has 71 numbers and the answer 10
 unfoldable pub fits : List ℕ → List ℕ → Bool
-fits state answer = eqb (length state) 135 && eqb (length answer) 10
+fits state answer = eqb (length state) 71 && eqb (length answer) 10
 
 -- what a start gives back, and what each lent slice then holds
 pub record StartLeft : Type 0 where
@@ -85,9 +85,9 @@ pub record LinkedEvent (rows nodes values work facts state answer : List ℕ) (r
   pub state-is : state′ ≡ eventLeft rows nodes values work facts state answer .state
   pub answer-is : answer′ ≡ eventLeft rows nodes values work facts state answer .answer
 
--- a lookup is made if the state has 135 numbers and the answer 2
+-- a lookup is made if the state has 71 numbers and the answer 2
 unfoldable pub fitsLookup : List ℕ → List ℕ → Bool
-fitsLookup state answer = eqb (length state) 135 && eqb (length answer) 2
+fitsLookup state answer = eqb (length state) 71 && eqb (length answer) 2
 
 -- what a lookup gives back, and what the answer then holds
 pub record LookupLeft : Type 0 where

@@ -11,23 +11,20 @@ use Rattle.monitor.specs.Said.{whole}
 use Rattle.meaning.specs.declared.Answer.{Answer}
 use Rattle.meaning.specs.declared.Answer.the-variants.{Started, Verdict, Refused}
 
--- "The state carries k, the row count, the count of kept nodes, four value counts and 64 references", and "the 64 sizes": 135 numbers, in this order
+-- "The state carries k, the row count, the count of kept nodes, four value counts and 64 references": 71 numbers, in this order
 unfoldable pub packedState : State → List ℕ
-packedState s = s .k ∷ s .rows ∷ s .kept ∷ (s .counts ++ (s .refs ++ s .sizes))
+packedState s = s .k ∷ s .rows ∷ s .kept ∷ (s .counts ++ s .refs)
 
--- the figures of the state that 135 numbers are, its references and its sizes
+-- the figures of the state that 71 numbers are, and its references
 unfoldable pub figuresOf : List ℕ → Figures
 figuresOf xs = record { k = getD xs 0 0; rows = getD xs 1 0; kept = getD xs 2 0; counts = take 4 (drop 3 xs) }
 
 unfoldable pub referencesOf : List ℕ → List ℕ
 referencesOf xs = take 64 (drop 7 xs)
 
-unfoldable pub sizesIn : List ℕ → List ℕ
-sizesIn xs = take 64 (drop 71 xs)
-
--- the state that 135 numbers are
+-- the state that 71 numbers are
 unfoldable pub unpackedState : List ℕ → State
-unpackedState xs = whole (figuresOf xs) (referencesOf xs) (sizesIn xs)
+unpackedState xs = whole (figuresOf xs) (referencesOf xs)
 
 -- yes is 1 and no is 0
 unfoldable pub bit : Bool → ℕ

@@ -7,7 +7,7 @@ ghost use Prim.Native.Nat.{_+_, _≤_};
 ghost use mathlib.Core.List.{[], _∷_, _++_};
 ghost use lib.ListN.{length, take, drop};
 ghost use Rattle.monitor.specs.Said.{whole};
-ghost use Rattle.linked.specs.Packing.{packedState, figuresOf, referencesOf, sizesIn, bit, firstSix, packedAnswer, packedLookup};
+ghost use Rattle.linked.specs.Packing.{packedState, figuresOf, referencesOf, bit, firstSix, packedAnswer, packedLookup};
 
 // Writes all of `from` into `to`, from place `at` on.
 fn copy(from: &[u32], to: &mut [u32], at: usize)
@@ -19,9 +19,9 @@ fn copy(from: &[u32], to: &mut [u32], at: usize)
     }
 }
 
-// The figures of the state that 135 numbers are.
+// The figures of the state that 71 numbers are.
 pub fn figures(numbers: &[u32]) -> Figures
-    requires { ⌜ length (now numbers) ≡ 135 ⌝ }
+    requires { ⌜ length (now numbers) ≡ 71 ⌝ }
     ensures { λ r. ⌜ r ≡ figuresOf (now (numbers .entry)) ⌝ }
 {
     let mut counts = [0; 4];
@@ -36,7 +36,7 @@ pub fn figures(numbers: &[u32]) -> Figures
 
 // Its references.
 pub fn references(numbers: &[u32]) -> [u32; 64]
-    requires { ⌜ length (now numbers) ≡ 135 ⌝ }
+    requires { ⌜ length (now numbers) ≡ 71 ⌝ }
     ensures { λ r. ⌜ r ≡ referencesOf (now (numbers .entry)) ⌝ }
 {
     let mut refs = [0; 64];
@@ -44,20 +44,10 @@ pub fn references(numbers: &[u32]) -> [u32; 64]
     refs
 }
 
-// Its sizes.
-pub fn sizes(numbers: &[u32]) -> [u32; 64]
-    requires { ⌜ length (now numbers) ≡ 135 ⌝ }
-    ensures { λ r. ⌜ r ≡ sizesIn (now (numbers .entry)) ⌝ }
-{
-    let mut sizes = [0; 64];
-    copy(&numbers[71..135], &mut sizes, 0);
-    sizes
-}
-
-// Writes a state as 135 numbers: its figures, its references, and then its sizes.
-pub fn pack(figures: Figures, refs: [u32; 64], sizes: [u32; 64], numbers: &mut [u32])
-    requires { ⌜ length (now numbers) ≡ 135 ⌝ }
-    ensures { λ _. ⌜ now (numbers .exit) ≡ packedState (whole figures refs sizes) ⌝ }
+// Writes a state as 71 numbers: its figures, and then its references.
+pub fn pack(figures: Figures, refs: [u32; 64], numbers: &mut [u32])
+    requires { ⌜ length (now numbers) ≡ 71 ⌝ }
+    ensures { λ _. ⌜ now (numbers .exit) ≡ packedState (whole figures refs) ⌝ }
 {
     numbers[0] = figures.k;
     numbers[1] = figures.rows;
@@ -65,7 +55,6 @@ pub fn pack(figures: Figures, refs: [u32; 64], sizes: [u32; 64], numbers: &mut [
     let counts = figures.counts;
     copy(&counts, numbers, 3);
     copy(&refs, numbers, 7);
-    copy(&sizes, numbers, 71);
 }
 
 // 1 for yes and 0 for no.

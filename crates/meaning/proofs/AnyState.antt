@@ -24,12 +24,11 @@ use Rattle.meaning.specs.Numbering.{Lists, askFacts}
 use Rattle.meaning.specs.Step.{rowSays, saysAt, rowTree, rowTrees, Shown, step, OneStep}
 use Rattle.meaning.specs.Tables.{most, read, freeLevel, layState, layNodes, layValues, wellFormed}
 use Rattle.meaning.specs.Outcome.{kRight, capacity, nodesRight, valuesRight, workSize, cleared, factsOf, Decision, taken, judgeStart, judgeEvent, Machine, Arrays, WellFormed, shows, decideEvent, settleEvent, eventOutcome}
-use Rattle.meaning.specs.Verdicts.{Sized, Stepped}
+use Rattle.meaning.specs.Verdicts.{Stepped}
 use Rattle.meaning.proofs.RowsLaws.{RowOk, RowsOk, Checked, checked}
 use Rattle.meaning.proofs.StepLaws.{AllFine, fine-snoc, fine-row, eval-row, trees-keep}
 use Rattle.meaning.proofs.ProperLaws.{Proper, Shaped, proper-read, lay-nodes, lay-state, lay-values}
 use Rattle.meaning.proofs.RunLaws.{start-taken, event-taken, positive, few, Laid, k-is, C-is, shows-is, formed-is, laid-on}
-use Rattle.meaning.proofs.SizedLaws.{sized-of}
 use Rattle.meaning.proofs.AnswerLaws.{verdict-taken, verdict-parts, counts-of, last-row, closed-all}
 
 -- a row reads the functions of earlier rows only
@@ -182,14 +181,8 @@ module _ (rows : List ℕ) (m : Machine) (e : Event) (arrays : Arrays m) (y : Bo
     C-stays = C-left;
     verdict = says;
     counts = counts-of rows (m .state .k) (capacity (m .nodes)) (passed rows m e arrays d .0) (passed rows m e arrays d .1) m (shows rows m) (laid-of rows m e arrays d) e y n r q;
-    sizes = sized-of rows (m .state .k) (capacity (m .nodes)) (passed rows m e arrays d .0) (passed rows m e arrays d .1) left _ (left-laid rows m e arrays d);
     work = work-left rows m e d;
   }
-
--- the sizes of a well-formed state are true
-pub sizes-true : (rows : List ℕ) (m : Machine) → WellFormed rows m → Sized rows m
-sizes-true rows m p =
-    sized-of rows (m .state .k) (capacity (m .nodes)) (p .k-right) (p .rows-right) m (shows rows m) (laid-formed rows m (p .arrays) (p .k-right) (p .rows-right) (p .lengths) (p .formed))
 
 -- two well-formed states that show the same lists and functions are the same numbers
 module _ (rows : List ℕ) (m n : Machine) (p : WellFormed rows m) (q : WellFormed rows n) where

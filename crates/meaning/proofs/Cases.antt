@@ -4,13 +4,11 @@ use mathlib.Core.Path.{_≡_, refl}
 use mathlib.Core.Bool.{Bool, true, false, cond, not, _&&_, _||_}
 use mathlib.Core.List.{List, [], _∷_, _++_, map}
 use lib.Dec.{eqb, ltb, leb}
-use lib.ListN.{length, getD, set, take, drop, replicate}
+use lib.ListN.{length, getD, take, drop, replicate}
 use Rattle.trees.specs.Bits as Bits
 use Rattle.trees.specs.Tree as Tree
 use Rattle.trees.specs.Table as Table
 use Rattle.trees.specs.Kept as Kept
-use Rattle.trees.specs.Sizes as Sizes
-use Rattle.trees.specs.Sizes.{sameNumbers}
 use Rattle.meaning.specs.declared.Event.{Event}
 use Rattle.meaning.specs.declared.Fact.{Fact}
 use Rattle.meaning.specs.declared.Answer.{Answer}
@@ -22,17 +20,15 @@ use Rattle.meaning.specs.Step as Step
 use Rattle.meaning.specs.Tables as Tables
 use Rattle.meaning.specs.Outcome as Outcome
 use Rattle.meaning.specs.Outcome.{Machine, machineOf, startOutcome, runs, answers, workSize}
-use Rattle.meaning.specs.Tables.{most, padded}
+use Rattle.meaning.specs.Tables.{most}
 
--- what is claimed of a run: its answers; the kept nodes, the rows' references and their sizes at its end; how many values of each variable have
--- numbers; only what was said, 1 for yes, 0 for no, or the refusal's number; that one more event is refused with 4 once the size at a place is
--- one more than it was
+-- what is claimed of a run: its answers; the kept nodes and the rows' references at its end; how many values of each variable have numbers;
+-- only what was said, 1 for yes, 0 for no, or the refusal's number
 data Claim : Type 0 where
   answered : List Answer → Claim
-  kept : List ℕ → List ℕ → List ℕ → Claim
+  kept : List ℕ → List ℕ → Claim
   numbered : List ℕ → Claim
   said : List ℕ → Claim
-  misfit : ℕ → Event → Claim
 
 -- a run from a fresh start: k, C, the rows, the events
 record Case : Type 0 where
@@ -41,6 +37,12 @@ record Case : Type 0 where
   rows : List ℕ
   events : List Event
   claim : Claim
+
+sameNumbers : List ℕ → List ℕ → Bool
+sameNumbers [] [] = true
+sameNumbers [] (y ∷ ys) = false
+sameNumbers (x ∷ xs) [] = false
+sameNumbers (x ∷ xs) (y ∷ ys) = eqb x y && sameNumbers xs ys
 
 numbersOf : Answer → List ℕ
 numbersOf Started = 0 ∷ []
@@ -64,25 +66,13 @@ sayings (Refused n p ∷ as′) = n ∷ sayings as′
 begun : Case → Machine
 begun c = machineOf (startOutcome (c .k) (c .rows) (replicate (3 * c .C) 0) (replicate (4 * most (c .k)) 0)) (replicate (workSize (c .C)) 0)
 
--- the size at a place is one more
-damaged : ℕ → Machine → Machine
-damaged i m =
-    let s = m .state in
-    record {
-      state = record { k = s .k; rows = s .rows; kept = s .kept; counts = s .counts; refs = s .refs; sizes = set (s .sizes) i (suc (getD (s .sizes) i 0)) };
-      nodes = m .nodes;
-      values = m .values;
-      work = m .work;
-    }
-
 meets : Case → Claim → Bool
 meets c (answered as′) = sameAnswers (answers (c .rows) (begun c) (c .events)) as′
 meets c (said ns) = sameNumbers (sayings (answers (c .rows) (begun c) (c .events))) ns
-meets c (kept nodes refs sizes) =
+meets c (kept nodes refs) =
     let m = runs (c .rows) (begun c) (c .events) in
-    sameNumbers (take (3 * m .state .kept) (m .nodes)) nodes && (sameNumbers (take (length refs) (m .state .refs)) refs && sameNumbers (m .state .sizes) (padded 64 sizes))
+    sameNumbers (take (3 * m .state .kept) (m .nodes)) nodes && sameNumbers (take (length refs) (m .state .refs)) refs
 meets c (numbered counts) = sameNumbers (runs (c .rows) (begun c) (c .events) .state .counts) counts
-meets c (misfit i e) = sameNumbers (sayings (answers (c .rows) (damaged i (runs (c .rows) (begun c) (c .events))) (e ∷ []))) (4 ∷ [])
 
 allMeet : List Case → Bool
 allMeet [] = true
@@ -152,7 +142,7 @@ cases =
       C = 64;
       rows = ruleK;
       events = event1 1 7 ∷ [];
-      claim = kept (1 ∷ 1 ∷ 0 ∷ 0 ∷ 2 ∷ 0 ∷ 1 ∷ 0 ∷ 1 ∷ 0 ∷ 4 ∷ 1 ∷ []) (0 ∷ 0 ∷ 1 ∷ 3 ∷ 3 ∷ 5 ∷ 0 ∷ 0 ∷ 1 ∷ []) (0 ∷ 0 ∷ 0 ∷ 2 ∷ 2 ∷ 2 ∷ []);
+      claim = kept (1 ∷ 1 ∷ 0 ∷ 0 ∷ 2 ∷ 0 ∷ 1 ∷ 0 ∷ 1 ∷ 0 ∷ 4 ∷ 1 ∷ []) (0 ∷ 0 ∷ 1 ∷ 3 ∷ 3 ∷ 5 ∷ 0 ∷ 0 ∷ 1 ∷ []);
     }
     ∷ record {
       k = 2;
@@ -228,11 +218,9 @@ cases =
       events = moment (fact 2 1 5 0 ∷ fact 1 1 3 0 ∷ fact 1 1 4 0 ∷ []) ∷ [];
       claim = answered (Verdict false 4 5 ∷ []);
     }
-    ∷ record { k = 1; C = 64; rows = atom1 1 0 0 ++ row 7 0 0; events = event1 1 3 ∷ []; claim = misfit 0 (event1 1 3) }
-    ∷ record { k = 1; C = 64; rows = atom1 1 0 0 ++ row 7 0 0; events = event1 1 3 ∷ []; claim = misfit 2 (event1 1 3) }
     ∷ []
 
--- every case marked P is as document 01 says; the two before the last two are one set of facts in two orders: kept and room depend on the order
+-- every case marked P is as document 01 says; the last two are one set of facts in two orders: kept and room depend on the order
 cases-hold : allMeet cases ≡ true
-unfolding together sayings moment nine numbersOf sameAnswers begun damaged meets allMeet fact single event0 event1 event2 row atom1 atom2 ruleK eventsK crossed cases Bits.put Bits.number Bits.drop Bits.drops Tree.eval Tree.same Tree.mk Tree.leaf Tree.treeFrom Tree.treeOf Tree.isOn Table.mem Table.push Table.addTree Table.addTrees Table.at Table.find Table.refOf Table.show Table.nodeAt Table.treesOf Kept.allBelow Kept.above Kept.nodeRight Kept.equalNodes Kept.sameTrees Kept.levels Kept.zerosFrom Kept.diagrams Kept.wellKept Sizes.sizesOf Sizes.sameNumbers Sizes.sizesRight Qtl.freeArguments Qtl.free Rows.field Rows.uses Rows.useOf Rows.fieldRight Rows.pairsUsed Rows.pairRight Rows.rowRight Rows.disagree Rows.rowFault Rows.argumentAt Rows.ofKind Rows.rowAt Rows.rowsUpTo Rows.rowCount Rows.ruleOf Rows.follow Rows.formulasFrom Rows.formulas Rows.formulaAt Rows.closed Rows.firstBelow Rows.judgeRows Rows.checkRows Numbering.place Numbering.listed Numbering.noted Numbering.ask Numbering.repeats Numbering.fits Numbering.askArguments Numbering.askRow Numbering.askRows Numbering.askFacts Step.argumentsSay Step.factSays Step.atomSays Step.rowSays Step.saysAt Step.rowTree Step.rowTrees Step.fresh Step.step Step.removals Step.removed Step.turns Step.atomTurns Step.counted Step.roomOf Tables.most Tables.part Tables.listOf Tables.read Tables.padded Tables.layValues Tables.keptTable Tables.layNodes Tables.layState Tables.freeLevel Tables.distinct Tables.listRight Tables.wellFormed Outcome.kRight Outcome.capacity Outcome.nodesRight Outcome.valuesRight Outcome.workSize Outcome.cleared Outcome.factOf Outcome.given Outcome.factsOf Outcome.agrees Outcome.allAgree Outcome.factRight Outcome.allRight Outcome.countRight Outcome.shortest Outcome.judgeStart Outcome.judgeEvent Outcome.stateOf Outcome.settleStart Outcome.decideStart Outcome.startOutcome Outcome.shows Outcome.decideEvent Outcome.verdictOf Outcome.settleEvent Outcome.eventOutcome Outcome.runs Outcome.answers Outcome.machineOf
+unfolding together sayings moment nine sameNumbers numbersOf sameAnswers begun meets allMeet fact single event0 event1 event2 row atom1 atom2 ruleK eventsK crossed cases Bits.put Bits.number Bits.drop Bits.drops Tree.eval Tree.same Tree.mk Tree.leaf Tree.treeFrom Tree.treeOf Tree.isOn Table.mem Table.push Table.addTree Table.addTrees Table.at Table.find Table.refOf Table.show Table.nodeAt Table.treesOf Kept.allBelow Kept.above Kept.nodeRight Kept.equalNodes Kept.sameTrees Kept.levels Kept.zerosFrom Kept.diagrams Kept.wellKept Qtl.freeArguments Qtl.free Rows.field Rows.uses Rows.useOf Rows.fieldRight Rows.pairsUsed Rows.pairRight Rows.rowRight Rows.disagree Rows.rowFault Rows.argumentAt Rows.ofKind Rows.rowAt Rows.rowsUpTo Rows.rowCount Rows.ruleOf Rows.follow Rows.formulasFrom Rows.formulas Rows.formulaAt Rows.closed Rows.firstBelow Rows.judgeRows Rows.checkRows Numbering.place Numbering.listed Numbering.noted Numbering.ask Numbering.repeats Numbering.fits Numbering.askArguments Numbering.askRow Numbering.askRows Numbering.askFacts Step.argumentsSay Step.factSays Step.atomSays Step.rowSays Step.saysAt Step.rowTree Step.rowTrees Step.fresh Step.step Step.removals Step.removed Step.turns Step.atomTurns Step.counted Step.roomOf Tables.most Tables.part Tables.listOf Tables.read Tables.padded Tables.layValues Tables.keptTable Tables.layNodes Tables.layState Tables.freeLevel Tables.distinct Tables.listRight Tables.wellFormed Outcome.kRight Outcome.capacity Outcome.nodesRight Outcome.valuesRight Outcome.workSize Outcome.cleared Outcome.factOf Outcome.given Outcome.factsOf Outcome.agrees Outcome.allAgree Outcome.factRight Outcome.allRight Outcome.countRight Outcome.shortest Outcome.judgeStart Outcome.judgeEvent Outcome.stateOf Outcome.settleStart Outcome.decideStart Outcome.startOutcome Outcome.shows Outcome.decideEvent Outcome.verdictOf Outcome.settleEvent Outcome.eventOutcome Outcome.runs Outcome.answers Outcome.machineOf
 cases-hold = refl

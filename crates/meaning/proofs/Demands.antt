@@ -19,12 +19,12 @@ use Rattle.meaning.specs.Step.{saysAt}
 use Rattle.meaning.specs.Tables.{wellFormed}
 use Rattle.meaning.specs.Outcome.{capacity, workSize, cleared, factsOf, SameEvent, taken, refused, decideStart, decideEvent, startOutcome, Machine, Arrays, WellFormed, enlarged, machineOf, shows, settleEvent, eventOutcome, runs, answers, log}
 use Rattle.meaning.specs.Refusals.{IllFormed, StartSentence, Sentence, First}
-use Rattle.meaning.specs.Verdicts.{Sized, Stepped, Answered}
+use Rattle.meaning.specs.Verdicts.{Stepped, Answered}
 use Rattle.meaning.specs.Disguise.{Disguise, Disguised, DisguisedLog, Alike}
 use Rattle.meaning.proofs.RefusalLaws.{exact, exact-taken, judged-start, judged-event}
 use Rattle.meaning.proofs.IllFormedLaws.{formed-bad}
-use Rattle.meaning.proofs.FromStart.{after, facts, sets, own-numbers, sized, says}
-use Rattle.meaning.proofs.AnyState.{stepped, sizes-true, one-tables}
+use Rattle.meaning.proofs.FromStart.{after, facts, sets, own-numbers, says}
+use Rattle.meaning.proofs.AnyState.{stepped, one-tables}
 use Rattle.meaning.proofs.LargerTable.{large-formed, large-shows, large-answers, large-left}
 use Rattle.meaning.proofs.OrderLaws.{same-length, same-snoc, same-holds}
 use Rattle.meaning.proofs.IgnoredLaws.{ignored}
@@ -46,9 +46,9 @@ event-refuses rows m e n p = exact (Sentence rows m e) (decideEvent rows m e) (j
 pub event-taken : (rows : List ℕ) (m : Machine) (e : Event) → (decideEvent rows m e ≡ taken) ↔ ((n p : ℕ) → Sentence rows m e n p → ⊥)
 event-taken rows m e = exact-taken (Sentence rows m e) (decideEvent rows m e) (judged-event rows m e)
 
--- "state not well formed: ..": the test of refusal 4 fails exactly if one of its clauses holds, for a rule of "1 to 64 rows".
-pub ill-formed : (k C : ℕ) (rule : List Row) → length rule ≤ 64 → (s : State) (nodes values : List ℕ) → (wellFormed k C rule s nodes values ≡ false) ↔ IllFormed k C rule s nodes values
-ill-formed k C rule few s nodes values = formed-bad k C rule few s nodes values
+-- "state not well formed: ..": the test of refusal 4 fails exactly if one of its clauses holds.
+pub ill-formed : (k C : ℕ) (rule : List Row) (s : State) (nodes values : List ℕ) → (wellFormed k C rule s nodes values ≡ false) ↔ IllFormed k C rule s nodes values
+ill-formed k C rule s nodes values = formed-bad k C rule s nodes values
 
 -- "a refused event gives the state back as it was", and the node and value slices.
 pub refused-keeps : (rows : List ℕ) (m : Machine) (e : Event) (n p : ℕ) → decideEvent rows m e ≡ refused n p
@@ -80,10 +80,6 @@ module _ (k : ℕ) (rows nodes values work : List ℕ) (started : startOutcome k
   pub verdicts : (e : Event) (y : Bool) (n r : ℕ) → eventOutcome rows (after k rows nodes values work started es) e .answer ≡ Verdict y n r
       → Answered rows (after k rows nodes values work started es) e y n r (eventOutcome rows (after k rows nodes values work started es) e .left) (facts k rows nodes values work started es)
   verdicts e y n r q = says k rows nodes values work started es e y n r q
-
-  -- "Keep the 64 sizes in the state, true after start and after every event": of each row the count of the nodes of its diagram, 0 past the rows.
-  pub sizes-kept : Sized rows (after k rows nodes values work started es)
-  sizes-kept = sized k rows nodes values work started es
 
 -- Several facts in one moment. "From a fresh start, verdicts and kept sets, read as values, don't depend on the facts' order while both orders
 -- are taken": two runs of one rule that have taken the same facts, event by event, in whatever order within each. Nothing is asked of the
@@ -119,13 +115,9 @@ module _ (k k′ : ℕ) (rows nodes nodes′ values values′ work work′ : Lis
       (rw (same-length taken-one taken-other same) (verdicts k′ rows nodes′ values′ work′ started′ es′ e′ y′ n′ r′ q .verdict (λ v. 0)))
 
 -- "The functions shown by the diagrams go to those that one step of the meaning gives, read over numbers", for any well-formed state:
--- the new state is well formed, its sizes are true, and verdict, kept, room and the work slice are as 01 says.
+-- the new state is well formed, and verdict, kept, room and the work slice are as 01 says.
 pub any-state : (rows : List ℕ) (m : Machine) (e : Event) → Arrays m → (y : Bool) (n r : ℕ) → eventOutcome rows m e .answer ≡ Verdict y n r → Stepped rows m e y n r (eventOutcome rows m e .left)
 any-state rows m e a y n r q = stepped rows m e a y n r q
-
--- The sizes of any well-formed state are true: "sizes that don't fit the diagrams give 4".
-pub any-sizes : (rows : List ℕ) (m : Machine) → WellFormed rows m → Sized rows m
-any-sizes rows m w = sizes-true rows m w
 
 -- One outcome. "The room is the number of ..": there is one such number ..
 pub one-room : (levels : ℕ) (fs : List Function) (n m : ℕ) → Room levels fs n → Room levels fs m → n ≡ m

@@ -14,11 +14,10 @@ use Rattle.meaning.specs.Rows.{ruleOf, formulaAt, right, checkRows}
 use Rattle.meaning.specs.Numbering.{shown, Shows}
 use Rattle.meaning.specs.Step.{saysAt}
 use Rattle.meaning.specs.Outcome.{kRight, capacity, startOutcome, Machine, machineOf, shows, eventOutcome, runs, takenOf, log}
-use Rattle.meaning.specs.Verdicts.{Sized, Answered}
+use Rattle.meaning.specs.Verdicts.{Answered}
 use Rattle.meaning.proofs.ShownLaws.{shown-shows}
 use Rattle.meaning.proofs.RunLaws.{Running, shows-is, runs-all}
 use Rattle.meaning.proofs.AnswerLaws.{answered}
-use Rattle.meaning.proofs.SizedLaws.{sized-of}
 use Rattle.meaning.proofs.StartLaws.{b, m₀, start-running}
 
 module _ (k : ℕ) (rows nodes values work : List ℕ) (started : startOutcome k rows nodes values .answer ≡ Started) (es : List Event) where
@@ -50,10 +49,6 @@ module _ (k : ℕ) (rows nodes values work : List ℕ) (started : startOutcome k
   -- the numbers of an assignment stand for its values
   pub own-numbers : (a : Assignment) → Shows k (shows rows after .lists) (shown k (shows rows after .lists) a) a
   own-numbers a = let r = running in rw (shows-is rows k (capacity nodes) kr cr after (r .s) (r .laid)) (shown-shows k (r .s .lists) a (r .laid .proper .enough))
-
-  -- the sizes
-  pub sized : Sized rows after
-  sized = let r = running in sized-of rows k (capacity nodes) kr cr after (r .s) (r .laid)
 
   -- a verdict
   pub says : (e : Event) (y : Bool) (n r : ℕ) → eventOutcome rows after e .answer ≡ Verdict y n r → Answered rows after e y n r (eventOutcome rows after e .left) facts

@@ -11,17 +11,15 @@ use borrow.Author.Tests.{eqb-true, eqb-false, eq-eqb, ltb-true, ltb-false, leb-t
 use Rattle.trees.specs.Tree.{Tree, off, on, node}
 use Rattle.trees.specs.Table.{addTrees, at, treesOf}
 use Rattle.trees.specs.Kept.{allBelow, above, nodeRight, equalNodes, sameTrees, levels, zerosFrom, diagrams, wellKept}
-use Rattle.trees.specs.Sizes.{sizesRight}
 use Rattle.trees.proofs.Tests.{false-true, not-true, and-true, and-true-l, and-true-r, or-cases, lt-or-ge}
 use Rattle.trees.proofs.KeptLaws.{all-at, all-fails, same-trees-refl}
 use Rattle.meaning.specs.declared.State.{State}
 use Rattle.meaning.specs.Rows.{Row}
 use Rattle.meaning.specs.Tables.{most, part, listOf, freeLevel, distinct, listRight, wellFormed}
-use Rattle.meaning.specs.Refusals.{Side, AsksLevel, IllFormed, row-count, kept-over, reference-past, reference-set, sides-equal, side-not-higher, nodes-equal, child-after, out-of-order, level-outside, size-other, size-set, size-count, node-rest, value-rest, count-over, value-twice}
+use Rattle.meaning.specs.Refusals.{Side, AsksLevel, IllFormed, row-count, kept-over, reference-past, reference-set, sides-equal, side-not-higher, nodes-equal, child-after, out-of-order, level-outside, node-rest, value-rest, count-over, value-twice}
 use Rattle.meaning.proofs.ExactLaws.{and-false}
 use Rattle.meaning.proofs.PartsLaws.{distinct-of}
-use Rattle.meaning.proofs.ProperLaws.{rows-are, kept-is, sizes-are, list-is}
-use Rattle.meaning.proofs.MisfitLaws.{misfit, size-of-row, size-past, sizes-many}
+use Rattle.meaning.proofs.ProperLaws.{rows-are, kept-is, list-is}
 
 -- a test that failed
 or-false : (a b : Bool) → (a || b) ≡ false → (a ≡ false) × (b ≡ false)
@@ -61,7 +59,7 @@ zeros-fails i xs e =
     let g = or-false (ltb (f .0) i) (eqb (getD xs (f .0) 0) 0) (f .2) in
     (f .0, ltb-false (f .0) i (g .0), eqb-false (getD xs (f .0) 0) 0 (g .1))
 
-module _ (k C : ℕ) (rule : List Row) (few : length rule ≤ 64) (s : State) (nodes values : List ℕ) where
+module _ (k C : ℕ) (rule : List Row) (s : State) (nodes values : List ℕ) where
   abbrev Ill : Type 0
   Ill = IllFormed k C rule s nodes values
 
@@ -128,14 +126,6 @@ module _ (k C : ℕ) (rule : List Row) (few : length rule ≤ 64) (s : State) (n
       rest : zerosFrom (3 * s .kept) nodes ≡ false → Ill
       rest p = let f = zeros-fails (3 * s .kept) nodes p in node-rest (f .0) (f .1) (f .2)
 
-  sizes-fail : sizesRight (s .sizes) (diagrams nodes (s .kept) (s .refs) (length rule)) ≡ false → Ill
-  sizes-fail e = ⊎-elim size-count
-      (λ w. ⊎-elim
-      (λ h. size-other (w .0) h (λ q. w .1 (q ∙ sym (size-of-row nodes (s .kept) (s .refs) (length rule) (w .0) h))))
-      (λ h. size-set (w .0) h (λ q. w .1 (q ∙ sym (size-past nodes (s .kept) (s .refs) (length rule) (w .0) h))))
-      (lt-or-ge (w .0) (length rule)))
-      (misfit nodes (s .kept) (s .refs) (length rule) few (s .sizes) e)
-
   list-fails : (v : ℕ) → v < 4 → listRight k s values v ≡ false → Ill
   unfolding listRight distinct
   list-fails v h e = ⊎-elim (λ p. count-over v h (leb-false (getD (s .counts) v 0) (most k) p)) (λ p. ⊎-elim twice rest (and-false _ _ p)) (and-false _ _ e)
@@ -157,7 +147,7 @@ module _ (k C : ℕ) (rule : List Row) (few : length rule ≤ 64) (s : State) (n
   unfolding wellFormed
   fails-ill e = ⊎-elim
       (λ p. row-count (eqb-false (s .rows) (length rule) p))
-      (λ p. ⊎-elim (λ q. ⊎-elim kept-fails sizes-fail (and-false _ _ q)) (λ q. let f = all-fails 4 (listRight k s values) q in list-fails (f .0) (f .1) (f .2)) (and-false _ _ p))
+      (λ p. ⊎-elim kept-fails (λ q. let f = all-fails 4 (listRight k s values) q in list-fails (f .0) (f .1) (f .2)) (and-false _ _ p))
       (and-false _ _ e)
 
   -- and each clause makes it fail
@@ -212,9 +202,6 @@ module _ (k C : ℕ) (rule : List Row) (few : length rule ≤ 64) (s : State) (n
     no-clause (child-after j r h side p) = let q = node-is j h .1 r side .0 in omega arith
     no-clause (out-of-order p) = p (kept-is k C rule s nodes values w .order)
     no-clause (level-outside i l h a p) = false-true p (levels-at (freeLevel k rule i) _ (kept-is k C rule s nodes values w .free-only i h) l a)
-    no-clause (size-other i h p) = p (ap (λ (z : List ℕ). getD z i 0) (sizes-are k C rule s nodes values w) ∙ size-of-row nodes (s .kept) (s .refs) (length rule) i h)
-    no-clause (size-set i h p) = p (ap (λ (z : List ℕ). getD z i 0) (sizes-are k C rule s nodes values w) ∙ size-past nodes (s .kept) (s .refs) (length rule) i h)
-    no-clause (size-count p) = p (ap length (sizes-are k C rule s nodes values w) ∙ sizes-many nodes (s .kept) (s .refs) (length rule) few)
     no-clause (node-rest i h p) = p (kept-is k C rule s nodes values w .rest i h)
     no-clause (value-rest v j h q p) = ⊎-elim
         (λ g. ⊎-elim

@@ -12,7 +12,6 @@ pub mod ProperLaws
 pub mod RoomOfLaws
 pub mod StepProper
 pub mod ExactLaws
-pub mod MisfitLaws
 pub mod IllFormedLaws
 pub mod RefusalLaws
 pub mod RunLaws
@@ -20,7 +19,6 @@ pub mod AnswerLaws
 pub mod OrderLaws
 pub mod StartLaws
 pub mod FromStart
-pub mod SizedLaws
 pub mod AnyState
 pub mod LargerTable
 pub mod RenameLaws

@@ -125,7 +125,7 @@ pub record StartOutcome : Type 0 where
 
 -- "it fills nodes and values with 0 and sets every reference to 0. A refused start returns an all-zero state and writes nothing."
 unfoldable pub stateOf : ℕ → ℕ → State
-stateOf k n = record { k = k; rows = n; kept = 0; counts = replicate 4 0; refs = replicate 64 0; sizes = replicate 64 0 }
+stateOf k n = record { k = k; rows = n; kept = 0; counts = replicate 4 0; refs = replicate 64 0 }
 
 unfoldable pub settleStart : Decision → ℕ → ℕ → List ℕ → List ℕ → StartOutcome
 settleStart taken k n nodes values = record { answer = Started; state = stateOf k n; nodes = replicate (length nodes) 0; values = replicate (length values) 0 }
@@ -144,9 +144,9 @@ pub record Machine : Type 0 where
   pub values : List ℕ
   pub work : List ℕ
 
--- "four value counts and 64 references", and "the 64 sizes": the arrays of a state have these lengths by their type
+-- "four value counts and 64 references": the arrays of a state have these lengths by their type
 abbrev pub Arrays : Machine → Type 0
-Arrays m = (length (m .state .counts) ≡ 4) × (length (m .state .refs) ≡ 64) × (length (m .state .sizes) ≡ 64)
+Arrays m = (length (m .state .counts) ≡ 4) × (length (m .state .refs) ≡ 64)
 
 -- "any well-formed state", its slices of the right lengths: refusals 1 to 4 do not apply
 pub record WellFormed (rows : List ℕ) (m : Machine) : Type 0 where

@@ -9,7 +9,6 @@ use Rattle.trees.specs.Tree.{Tree, off, on, node}
 use Rattle.trees.specs.Table.{addTrees, at, treesOf}
 use Rattle.trees.specs.Kept.{diagrams}
 use Rattle.trees.specs.Room.{Room}
-use Rattle.trees.specs.Sizes.{nodeCount}
 use Rattle.meaning.specs.declared.State.{State}
 use Rattle.meaning.specs.declared.Event.{Event}
 use Rattle.meaning.specs.declared.Fact.{Fact as Given}
@@ -90,12 +89,6 @@ pub data IllFormed (k C : ℕ) (rule : List Row) (s : State) (nodes values : Lis
   out-of-order : addTrees [] (diagrams nodes (s .kept) (s .refs) (length rule)) ≢ treesOf nodes (s .kept) → IllFormed k C rule s nodes values
   -- "a level outside the row's free variables"
   level-outside : (i l : ℕ) → i < length rule → AsksLevel (at (treesOf nodes (s .kept)) (getD (s .refs) i 0)) l → freeLevel k rule i l ≡ false → IllFormed k C rule s nodes values
-  -- "sizes that don't fit the diagrams": a row's is not the count of its diagram's nodes ..
-  size-other : (i : ℕ) → i < length rule → getD (s .sizes) i 0 ≢ nodeCount (at (treesOf nodes (s .kept)) (getD (s .refs) i 0)) → IllFormed k C rule s nodes values
-  -- .. one past the rows is not 0 ..
-  size-set : (i : ℕ) → length rule ≤ i → getD (s .sizes) i 0 ≢ 0 → IllFormed k C rule s nodes values
-  -- .. or they are not "the 64 sizes", which a state's are by their type
-  size-count : length (s .sizes) ≢ 64 → IllFormed k C rule s nodes values
   -- "a number other than 0 where the rest is 0": of the nodes, and of each list
   node-rest : (i : ℕ) → 3 * s .kept ≤ i → getD nodes i 0 ≢ 0 → IllFormed k C rule s nodes values
   value-rest : (v j : ℕ) → v < 4 → getD (s .counts) v 0 ≤ j → getD (part k values v) j 0 ≢ 0 → IllFormed k C rule s nodes values

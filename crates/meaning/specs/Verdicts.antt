@@ -1,5 +1,5 @@
 -- What a verdict says: of any well-formed state, and of a run from a fresh start. Assumes nothing: these are definitions.
-use Prim.Native.Nat.{ℕ, suc, _-_, _*_, _≤_, _<_}
+use Prim.Native.Nat.{ℕ, suc, _-_, _*_}
 use mathlib.Core.Path.{_≡_}
 use mathlib.Core.Bool.{Bool, true}
 use mathlib.Core.List.{List, [], _∷_, _++_}
@@ -8,19 +8,12 @@ use lib.ListN.{length, getD}
 use Rattle.trees.specs.Bits.{Bits}
 use Rattle.trees.specs.Tree.{off, eval}
 use Rattle.trees.specs.Room.{Room}
-use Rattle.trees.specs.Sizes.{nodeCount}
 use Rattle.meaning.specs.declared.Event.{Event}
 use Rattle.meaning.specs.Qtl.{Fact, Assignment, Holds}
 use Rattle.meaning.specs.Rows.{ruleOf, formulaAt}
 use Rattle.meaning.specs.Step.{OneStep, counted}
 use Rattle.meaning.specs.Tables.{keptTable, wellFormed}
 use Rattle.meaning.specs.Outcome.{capacity, cleared, factsOf, Machine, shows, log}
-
--- "Keep the 64 sizes in the state": of each row the count of its diagram's nodes, each node once ("Shared nodes count in each"), and 0 past the rows
-pub record Sized (rows : List ℕ) (m : Machine) : Type 0 where
-  pub count : length (m .state .sizes) ≡ 64
-  pub row : (i : ℕ) → i < length (ruleOf rows) → getD (m .state .sizes) i 0 ≡ nodeCount (getD (shows rows m .trees) i off)
-  pub past : (i : ℕ) → length (ruleOf rows) ≤ i → getD (m .state .sizes) i 0 ≡ 0
 
 -- an event got m, answered y with n kept nodes and room r, and left m′
 module _ (rows : List ℕ) (m : Machine) (e : Event) (y : Bool) (n r : ℕ) (m′ : Machine) where
@@ -43,7 +36,6 @@ module _ (rows : List ℕ) (m : Machine) (e : Event) (y : Bool) (n r : ℕ) (m�
     -- "the last row is the rule": its diagram says the verdict, whatever the bits
     pub verdict : (s : Bits) → eval (getD (shows rows m′ .trees) (length (ruleOf rows) - 1) off) s ≡ y
     pub counts : Counts
-    pub sizes : Sized rows m′
     -- ".. after a verdict its first W numbers are 0 and the rest untouched"
     pub work : m′ .work ≡ cleared (capacity (m .nodes)) (m .work)
 

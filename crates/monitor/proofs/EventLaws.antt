@@ -8,13 +8,13 @@ use lib.Dec.{eqb, ltb, leb}
 use lib.ListN.{length, take, drop, replicate, length-take}
 use borrow.Author.Tests.{eqb-true, leb-true, le-leb, lt-leb}
 use borrow.Rule.Slice.PartMut.{postOf}
-use Rattle.trees.specs.Kept.{allBelow}
+use Rattle.trees.specs.Kept.{allBelow, wellKept}
 use Rattle.trees.proofs.Tests.{and-true, and-true-l, and-true-r}
 use Rattle.meaning.specs.declared.State.{State}
 use Rattle.meaning.specs.declared.Event.{Event}
 use Rattle.meaning.specs.declared.Turn.{Turn}
 use Rattle.meaning.specs.Rows.{ruleOf, rowCount, Found, right, fault, checkRows}
-use Rattle.meaning.specs.Tables.{most, listRight, wellFormed}
+use Rattle.meaning.specs.Tables.{most, listRight, freeLevel, wellFormed}
 use Rattle.meaning.specs.Outcome
 use Rattle.meaning.specs.Outcome.{kRight, capacity, nodesRight, valuesRight, workSize, cleared, countRight, taken, refused, judgeStart, judgeEvent, decideEvent, Machine, shows, EventOutcome, settleEvent, eventOutcome}
 use Rattle.meaning.proofs.RowsLaws.{rows-length}
@@ -32,7 +32,7 @@ use Rattle.monitor.specs.Events.{listsRight, Beyond, Listed}
 use Rattle.monitor.proofs.SaidLaws.{keptTurn, formedTurn}
 use Rattle.monitor.proofs.StartLaws.{k-small}
 use Rattle.monitor.proofs.DecisionLaws.{lengths, formed, decides-3, decides-4, leaves-all, leaves-work}
-use Rattle.monitor.proofs.WorkLaws.{keeps, formed-told}
+use Rattle.monitor.proofs.WorkLaws.{formed-told}
 
 -- the first three refusals: a work slice asks nothing of one that is refused before it
 first-refusal : (a : Bool) (f : Found) (x y w : Bool) (n p : ℕ) → judgeStart a f (x && y) ≡ refused n p → (judgeStart a f (x && (y && w)) ≡ refused n p) × (leb 4 n ≡ false)
@@ -115,9 +115,9 @@ module _ (rows : List ℕ) (m : Machine) (e : Event) where
   unfolding keptTurn
   refuses-late n p t ns vs ws d h q a b c = rw q (ends _ (leaves-work rows m e n p d h) _ ns vs ws refl refl a b c)
 
-  -- the diagrams are well kept, and the sizes are theirs
+  -- the diagrams are well kept
   abbrev pub kept : Bool
-  kept = keeps rows m
+  kept = wellKept (freeLevel (m .state .k) (ruleOf rows)) (capacity (m .nodes)) (length (ruleOf rows)) (m .state .refs) (m .state .kept) (m .nodes)
 
   -- the tests of k, the rule, and the lengths of nodes and values
   abbrev pub Passed : Type 0
@@ -171,9 +171,9 @@ module _ (rows : List ℕ) (m : Machine) (e : Event) where
 
     -- the lists are right: what the rest of the event may assume
     pub listed : (w : List ℕ) (masks : List ℕ) → Beyond (16 * (length (m .nodes) / 3) + 1024) (m .work) w → 16 * (length (m .nodes) / 3) + 1024 ≤ length (m .work)
-        → listsRight (m .state) (length rows / 9) (m .values) ≡ true → MasksFor (checkRows rows) rows masks → length (m .state .counts) ≡ 4 → length (m .state .refs) ≡ 64 → length (m .state .sizes) ≡ 64
+        → listsRight (m .state) (length rows / 9) (m .values) ≡ true → MasksFor (checkRows rows) rows masks → length (m .state .counts) ≡ 4 → length (m .state .refs) ≡ 64
         → Listed rows masks (machine (m .state) (m .nodes) (m .values) w)
-    listed w masks b h l f c r z = record {
+    listed w masks b h l f c r = record {
       k-right = p .0;
       rule-right = p .1;
       lengths = rw (b .size) (lengths-right h);
@@ -181,10 +181,9 @@ module _ (rows : List ℕ) (m : Machine) (e : Event) where
       free = rw (p .1) at f;
       counts = c;
       refs = r;
-      sizes = z;
     }
 
-  -- where the lists are right, the state is well formed exactly if its diagrams are well kept and the sizes theirs
+  -- where the lists are right, the state is well formed exactly if its diagrams are well kept
   module _ (masks : List ℕ) (l : Listed rows masks m) where
     pub formed-kept : formed rows m e ≡ kept
     unfolding wellFormed listsRight
@@ -196,12 +195,12 @@ module _ (rows : List ℕ) (m : Machine) (e : Event) where
 
     -- refusal n, where refusal 4 does not come first
     pub refuses-formed : (n p : ℕ) (t : Turn) (ns vs ws : List ℕ) → (formed rows m e ≡ true → decideEvent rows m e ≡ refused n p) → leb 4 n ≡ true
-        → t ≡ formedTurn (formedOutcome (m .state .k) (m .state .rows) masks (m .state .refs) (m .state .sizes) (m .state .kept) (m .nodes) (m .work) .gives) (m .state) n p
-        → ws ≡ formedOutcome (m .state .k) (m .state .rows) masks (m .state .refs) (m .state .sizes) (m .state .kept) (m .nodes) (m .work) .work
+        → t ≡ formedTurn (formedOutcome (m .state .k) (m .state .rows) masks (m .state .refs) (m .state .kept) (m .nodes) (m .work) .gives) (m .state) n p
+        → ws ≡ formedOutcome (m .state .k) (m .state .rows) masks (m .state .refs) (m .state .kept) (m .nodes) (m .work) .work
         → ns ≡ m .nodes → vs ≡ m .values → Happens rows m e t ns vs ws
     refuses-formed n p t ns vs ws d h q w a b = go kept refl (rw told at q) (rw told at w)
       where
-        told : formedOutcome (m .state .k) (m .state .rows) masks (m .state .refs) (m .state .sizes) (m .state .kept) (m .nodes) (m .work) ≡ judgeFormed true kept (capacity (m .nodes)) (m .work)
+        told : formedOutcome (m .state .k) (m .state .rows) masks (m .state .refs) (m .state .kept) (m .nodes) (m .work) ≡ judgeFormed true kept (capacity (m .nodes)) (m .work)
         told = rw rows-are (formed-told rows m e (l .k-right) (l .rule-right) (l .lengths) masks (l .free))
 
         go : (x : Bool) → kept ≡ x → t ≡ formedTurn (judgeFormed true x (capacity (m .nodes)) (m .work) .gives) (m .state) n p → ws ≡ judgeFormed true x (capacity (m .nodes)) (m .work) .work → Happens rows m e t ns vs ws

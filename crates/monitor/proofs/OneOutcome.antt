@@ -35,13 +35,13 @@ looks-are rows m e Started complements swept l = l .tells
 looks-are rows m e (Verdict y kept room) complements swept l = (l .tells .complements-are, l .tells .sweep-is)
 looks-are rows m e (Refused n p) complements swept l = l .tells
 
--- `event_on`: what is said, the references, the sizes and the three slices
-pub one-said : (rows : List ℕ) (m : Machine) (e : Event) (t u : Said) (rs ss zs ys ns vs ws ns′ vs′ ws′ : List ℕ)
-    → Happens rows m e (turnOf t rs zs) ns vs ws → Looks rows m e (t .answer) (t .complements) (t .swept) → Numbers rows m e (t .answer) (t .numbered)
-    → Happens rows m e (turnOf u ss ys) ns′ vs′ ws′ → Looks rows m e (u .answer) (u .complements) (u .swept) → Numbers rows m e (u .answer) (u .numbered)
-    → (t ≡ u) × (rs ≡ ss) × (zs ≡ ys) × (ns ≡ ns′) × (vs ≡ vs′) × (ws ≡ ws′)
-one-said rows m e t u rs ss zs ys ns vs ws ns′ vs′ ws′ a p g b q h =
-    let o = one-event rows m e (turnOf t rs zs) (turnOf u ss ys) ns vs ws ns′ vs′ ws′ a b in
+-- `event_on`: what is said, the references and the three slices
+pub one-said : (rows : List ℕ) (m : Machine) (e : Event) (t u : Said) (rs ss ns vs ws ns′ vs′ ws′ : List ℕ)
+    → Happens rows m e (turnOf t rs) ns vs ws → Looks rows m e (t .answer) (t .complements) (t .swept) → Numbers rows m e (t .answer) (t .numbered)
+    → Happens rows m e (turnOf u ss) ns′ vs′ ws′ → Looks rows m e (u .answer) (u .complements) (u .swept) → Numbers rows m e (u .answer) (u .numbered)
+    → (t ≡ u) × (rs ≡ ss) × (ns ≡ ns′) × (vs ≡ vs′) × (ws ≡ ws′)
+one-said rows m e t u rs ss ns vs ws ns′ vs′ ws′ a p g b q h =
+    let o = one-event rows m e (turnOf t rs) (turnOf u ss) ns vs ws ns′ vs′ ws′ a b in
     let f : t .figures ≡ u .figures = λ i. (let s = o .0 i .state in record { k = s .k; rows = s .rows; kept = s .kept; counts = s .counts }) in
     let w : t .answer ≡ u .answer = λ i. o .0 i .answer in
     let x = looks-are rows m e (t .answer) (t .complements) (t .swept) p in
@@ -49,4 +49,4 @@ one-said rows m e t u rs ss zs ys ns vs ws ns′ vs′ ws′ a p g b q h =
     let c : t .complements ≡ u .complements = x .0 ∙ ap (complementsTold rows m e) w ∙ sym (y .0) in
     let d : t .swept ≡ u .swept = x .1 ∙ ap (sweptTold rows m e) w ∙ sym (y .1) in
     let z : t .numbered ≡ u .numbered = g .tells ∙ ap (numberedTold rows m e) w ∙ sym (h .tells) in
-    (λ i. record { figures = f i; answer = w i; complements = c i; swept = d i; numbered = z i }, λ i. o .0 i .state .refs, λ i. o .0 i .state .sizes, o .1, o .2, o .3)
+    (λ i. record { figures = f i; answer = w i; complements = c i; swept = d i; numbered = z i }, λ i. o .0 i .state .refs, o .1, o .2, o .3)

@@ -1,6 +1,6 @@
--- What is said, with the references and sizes that are left, is the turn. Assumes nothing.
+-- What is said, with the references that are left, is the turn. Assumes nothing.
 use Prim.Native.Nat.{ℕ}
-use mathlib.Core.Path.{_≡_, refl}
+use mathlib.Core.Path.{_≡_, refl, ap₂}
 use mathlib.Core.Bool.{Bool}
 use mathlib.Core.List.{List}
 use lib.ListN.{length}
@@ -33,31 +33,31 @@ formedTurn Bad s number place = keptTurn s 4 0
 formedTurn Unfit s number place = keptTurn s 4 0
 
 -- the turn of an event that is taken
-unfoldable pub takenTurn : State → List ℕ → List ℕ → List ℕ → ℕ → ℕ → Bool → Turn
-takenTurn s counts refs sizes kept room y = record {
-  state = record { k = s .k; rows = s .rows; kept = kept; counts = counts; refs = refs; sizes = sizes };
+unfoldable pub takenTurn : State → List ℕ → List ℕ → ℕ → ℕ → Bool → Turn
+takenTurn s counts refs kept room y = record {
+  state = record { k = s .k; rows = s .rows; kept = kept; counts = counts; refs = refs };
   answer = Verdict y kept room;
 }
 
--- the lists are right or not whatever the references and sizes are
-pub lists-same : (f : Figures) (refs refs′ sizes sizes′ : List ℕ) (n : ℕ) (values : List ℕ) → listsRight (whole f refs sizes) n values ≡ listsRight (whole f refs′ sizes′) n values
+-- the lists are right or not whatever the references are
+pub lists-same : (f : Figures) (refs refs′ : List ℕ) (n : ℕ) (values : List ℕ) → listsRight (whole f refs) n values ≡ listsRight (whole f refs′) n values
 unfolding listsRight listRight listOf
-lists-same f refs refs′ sizes sizes′ n values = refl
+lists-same f refs refs′ n values = refl
 
-pub kept-turn : (f : Figures) (refs refs′ sizes sizes′ : List ℕ) (n p : ℕ) (t : Said) → t ≡ refusedSaid f n p → refs′ ≡ refs → sizes′ ≡ sizes → turnOf t refs′ sizes′ ≡ keptTurn (whole f refs sizes) n p
+pub kept-turn : (f : Figures) (refs refs′ : List ℕ) (n p : ℕ) (t : Said) → t ≡ refusedSaid f n p → refs′ ≡ refs → turnOf t refs′ ≡ keptTurn (whole f refs) n p
 unfolding keptTurn refusedSaid
-kept-turn f refs refs′ sizes sizes′ n p t e r z = rw (e, r, z) refl
+kept-turn f refs refs′ n p t e r = ap₂ turnOf e r
 
-pub formed-turn : (x : Formed) (f : Figures) (refs sizes : List ℕ) (n p : ℕ) (t : Said) → t ≡ formedSaid x f n p → turnOf t refs sizes ≡ formedTurn x (whole f refs sizes) n p
+pub formed-turn : (x : Formed) (f : Figures) (refs : List ℕ) (n p : ℕ) (t : Said) → t ≡ formedSaid x f n p → turnOf t refs ≡ formedTurn x (whole f refs) n p
 unfolding formedTurn formedSaid
-formed-turn Good f refs sizes n p t e = kept-turn f refs refs sizes sizes n p t e refl refl
-formed-turn Bad f refs sizes n p t e = kept-turn f refs refs sizes sizes 4 0 t e refl refl
-formed-turn Unfit f refs sizes n p t e = kept-turn f refs refs sizes sizes 4 0 t e refl refl
+formed-turn Good f refs n p t e = kept-turn f refs refs n p t e refl
+formed-turn Bad f refs n p t e = kept-turn f refs refs 4 0 t e refl
+formed-turn Unfit f refs n p t e = kept-turn f refs refs 4 0 t e refl
 
-pub taken-turn : (f : Figures) (counts refs refs′ sizes sizes′ : List ℕ) (kept room : ℕ) (y : Bool) (complements swept : ℕ) (numbered : List ℕ) (t : Said)
-    → t ≡ takenSaid f counts kept room y complements swept numbered → turnOf t refs′ sizes′ ≡ takenTurn (whole f refs sizes) counts refs′ sizes′ kept room y
+pub taken-turn : (f : Figures) (counts refs refs′ : List ℕ) (kept room : ℕ) (y : Bool) (complements swept : ℕ) (numbered : List ℕ) (t : Said) → t ≡ takenSaid f counts kept room y complements swept numbered
+    → turnOf t refs′ ≡ takenTurn (whole f refs) counts refs′ kept room y
 unfolding takenTurn takenSaid
-taken-turn f counts refs refs′ sizes sizes′ kept room y complements swept numbered t e = rw e refl
+taken-turn f counts refs refs′ kept room y complements swept numbered t e = ap₂ turnOf e refl
 
 -- a refused event tells no visits
 pub kept-looks : (rows : List ℕ) (m : Machine) (e : Event) (f : Figures) (n p : ℕ) (t : Said) → t ≡ refusedSaid f n p → Looks rows m e (t .answer) (t .complements) (t .swept)

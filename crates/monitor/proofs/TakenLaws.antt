@@ -9,7 +9,6 @@ use borrow.Author.Tests.{ne-eqb}
 use lib.ListN.{length, getD, length-map, List·getD-append}
 use Rattle.trees.specs.Tree.{Tree, off, on, node, isOn}
 use Rattle.trees.specs.Table.{find, refOf}
-use Rattle.trees.specs.Sizes.{sizesOf}
 use Rattle.meaning.specs.declared.State.{State}
 use Rattle.meaning.specs.declared.Answer.the-variants.{Verdict}
 use Rattle.meaning.specs.Qtl.{Fact}
@@ -31,7 +30,7 @@ four-counts (a ∷ b ∷ c ∷ d ∷ x ∷ xs) L n h = absurd (omega arith)
 
 -- the state of what is shown
 pub state-is : (k n : ℕ) (s : Shown) (counts : List ℕ) → length (s .trees) ≡ n → length counts ≡ 4 → ((v : ℕ) → v < 4 → length (s .lists v) ≡ getD counts v 0)
-    → layState k s ≡ record { k = k; rows = n; kept = length (keptTable s); counts = counts; refs = layState k s .refs; sizes = sizesOf (s .trees) }
+    → layState k s ≡ record { k = k; rows = n; kept = length (keptTable s); counts = counts; refs = layState k s .refs }
 unfolding layState
 state-is k n s counts t c h = rw (t, sym (four-counts counts (s .lists) c h))
 

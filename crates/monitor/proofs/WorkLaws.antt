@@ -8,10 +8,8 @@ use lib.Dec.{eqb, ltb, leb}
 use lib.ListN.{length, getD}
 use borrow.Author.Tests.{ltb-false, ltb-true, leb-true, eqb-true, eq-eqb, le-leb}
 use Rattle.trees.specs.Kept.{WellKept, wellKept, diagrams}
-use Rattle.trees.specs.Sizes.{sizesRight}
 use Rattle.trees.proofs.Tests.{and-true, and-true-l, and-true-r}
 use Rattle.trees.proofs.KeptLaws.{of-kept}
-use Rattle.trees.proofs.SizesLaws.{sizes-right}
 use Rattle.meaning.specs.declared.Event.{Event}
 use Rattle.meaning.specs.Rows.{Row, truth, ruleOf, rowCount, firstBelow, right, checkRows}
 use Rattle.meaning.specs.Numbering.{askFacts}
@@ -19,7 +17,7 @@ use Rattle.meaning.specs.Step.{Shown, step, roomOf}
 use Rattle.meaning.specs.Tables.{most, read, keptTable, freeLevel, wellFormed}
 use Rattle.meaning.specs.Outcome.{kRight, capacity, nodesRight, valuesRight, workSize, factsOf, shortest, Machine, Arrays, shows}
 use Rattle.meaning.proofs.RowsLaws.{checked, rows-length, first-none}
-use Rattle.meaning.proofs.ProperLaws.{Proper, kept-is, sizes-are}
+use Rattle.meaning.proofs.ProperLaws.{Proper, kept-is}
 use Rattle.meaning.proofs.Simulation.{Enough}
 use Rattle.meaning.proofs.RunLaws.{positive, few}
 use Rattle.meaning.proofs.AnyState.{laid-formed}
@@ -54,12 +52,6 @@ trees-are : (rows : List ℕ) (m : Machine) → shows rows m .trees ≡ diagrams
 unfolding shows read
 trees-are rows m = refl
 
--- the diagrams are well kept, and the sizes are theirs
-abbrev pub keeps : List ℕ → Machine → Bool
-keeps rows m =
-    wellKept (freeLevel (m .state .k) (ruleOf rows)) (capacity (m .nodes)) (length (ruleOf rows)) (m .state .refs) (m .state .kept) (m .nodes)
-    && sizesRight (m .state .sizes) (diagrams (m .nodes) (m .state .kept) (m .state .refs) (length (ruleOf rows)))
-
 module _ (rows : List ℕ) (m : Machine) (e : Event) (kr : kRight (m .state .k) ≡ true) (cr : checkRows rows ≡ right) (ls : lengths rows m e ≡ true)
     (masks : List ℕ) (free : Free rows masks) where
   whole : length (m .nodes) ≡ 3 * (length (m .nodes) / 3)
@@ -85,23 +77,23 @@ module _ (rows : List ℕ) (m : Machine) (e : Event) (kr : kRight (m .state .k) 
       (and-true _ _ (and-true _ _ (le-leb 1 C (ltb-true 0 C (and-true-l (ltb 0 C) (leb C 4096) sz))) (and-true-r (ltb 0 C) (leb C 4096) sz)) (and-true-r (valuesRight (m .state .k) (m .values)) (leb (16 * C + 1024) (length (m .work))) rest))))
 
   -- the check alone
-  pub formed-told : formedOutcome (m .state .k) (length (ruleOf rows)) masks (m .state .refs) (m .state .sizes) (m .state .kept) (m .nodes) (m .work)
-      ≡ judgeFormed true (keeps rows m) (capacity (m .nodes)) (m .work)
+  pub formed-told : formedOutcome (m .state .k) (length (ruleOf rows)) masks (m .state .refs) (m .state .kept) (m .nodes) (m .work)
+      ≡ judgeFormed true (wellKept (freeLevel (m .state .k) (ruleOf rows)) (capacity (m .nodes)) (length (ruleOf rows)) (m .state .refs) (m .state .kept) (m .nodes)) (capacity (m .nodes)) (m .work)
   unfolding formedOutcome capacity
   formed-told = rw (fit, kept-by-masks rows cr masks free (m .state .k) (length (m .nodes) / 3) (m .state .refs) (m .state .kept) (m .nodes))
 
-  -- a step on diagrams that are not well kept, or with sizes that are not theirs
-  pub step-bad : (plan : List Task) → keeps rows m ≡ false
-      → stepOutcome (m .state .k) (length (ruleOf rows)) plan masks (m .state .refs) (m .state .sizes) (m .state .kept) (m .nodes) (m .work)
-      ≡ judge true false (m .state .refs) (m .state .sizes) (m .nodes) (m .work) (stepOutcome (m .state .k) (length (ruleOf rows)) plan masks (m .state .refs) (m .state .sizes) (m .state .kept) (m .nodes) (m .work))
+  -- a step on diagrams that are not well kept
+  pub step-bad : (plan : List Task) → wellKept (freeLevel (m .state .k) (ruleOf rows)) (capacity (m .nodes)) (length (ruleOf rows)) (m .state .refs) (m .state .kept) (m .nodes) ≡ false
+      → stepOutcome (m .state .k) (length (ruleOf rows)) plan masks (m .state .refs) (m .state .kept) (m .nodes) (m .work)
+      ≡ judge true false (m .state .refs) (m .nodes) (m .work) (stepOutcome (m .state .k) (length (ruleOf rows)) plan masks (m .state .refs) (m .state .kept) (m .nodes) (m .work))
   unfolding stepOutcome capacity
   step-bad plan h = rw (fit, kept-by-masks rows cr masks free (m .state .k) (length (m .nodes) / 3) (m .state .refs) (m .state .kept) (m .nodes), h)
 
   -- a step on a well-formed state, where no variable is short
   module _ (arrays : Arrays m) (wf : formed rows m e ≡ true) (left : ltb (short rows m e) 4 ≡ false) (plan : List Task)
       (planned : (i : ℕ) → i < length (ruleOf rows) → getD plan i (does Yes) ≡ taskOf (askFacts (factsOf e) (shows rows m .lists) (ruleOf rows)) (factsOf e) (getD (ruleOf rows) i truth)) where
-    pub step-works : stepOutcome (m .state .k) (length (ruleOf rows)) plan masks (m .state .refs) (m .state .sizes) (m .state .kept) (m .nodes) (m .work)
-        ≡ workedOutcome (fitting rows m e) (m .state .k) (capacity (m .nodes)) (ruleOf rows) (shows rows m) (factsOf e) (step (m .state .k) (ruleOf rows) (shows rows m) (factsOf e)) (m .state .refs) (m .state .sizes) (m .nodes) (m .work)
+    pub step-works : stepOutcome (m .state .k) (length (ruleOf rows)) plan masks (m .state .refs) (m .state .kept) (m .nodes) (m .work)
+        ≡ workedOutcome (fitting rows m e) (m .state .k) (capacity (m .nodes)) (ruleOf rows) (shows rows m) (factsOf e) (step (m .state .k) (ruleOf rows) (shows rows m) (factsOf e)) (m .state .refs) (m .nodes) (m .work)
     unfolding stepOutcome capacity
     step-works =
         let C : ℕ = length (m .nodes) / 3 in
@@ -109,8 +101,6 @@ module _ (rows : List ℕ) (m : Machine) (e : Event) (kr : kRight (m .state .k) 
         let w = kept-is (m .state .k) C (ruleOf rows) (m .state) (m .nodes) (m .values) wf in
         let kept : wellKept (freeLevel (m .state .k) (ruleOf rows)) C (length (ruleOf rows)) (m .state .refs) (m .state .kept) (m .nodes) ≡ true =
         of-kept (freeLevel (m .state .k) (ruleOf rows)) C (length (ruleOf rows)) (m .state .refs) (m .state .kept) (m .nodes) w in
-        let sized : sizesRight (m .state .sizes) (diagrams (m .nodes) (m .state .kept) (m .state .refs) (length (ruleOf rows))) ≡ true =
-        sizes-right (m .state .sizes) _ (sizes-are (m .state .k) C (ruleOf rows) (m .state) (m .nodes) (m .values) wf) in
-        rw (fit, kept-by-masks rows cr masks free (m .state .k) C (m .state .refs) (m .state .kept) (m .nodes), kept, sized)
+        rw (fit, kept-by-masks rows cr masks free (m .state .k) C (m .state .refs) (m .state .kept) (m .nodes), kept)
         (plan-work (m .state .k) C (positive rows (m .state .k) C kr cr) (ruleOf rows) (checked rows cr .rows) (shows rows m) (factsOf e) (p .fine) (p .distinct) (enough-left rows m e left) plan planned
-        (m .state .refs) (m .state .sizes) (m .nodes) (m .work) (m .state .kept) (few rows (m .state .k) C kr cr) whole refl (trees-are rows m) (rw (trees-are rows m) (w .order)))
+        (m .state .refs) (m .nodes) (m .work) (m .state .kept) (few rows (m .state .k) C kr cr) whole refl (trees-are rows m) (rw (trees-are rows m) (w .order)))

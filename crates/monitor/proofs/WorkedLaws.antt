@@ -9,8 +9,7 @@ use lib.Dec.{eqb, ltb, leb}
 use lib.ListN.{length, getD, take, length-map, List·getD-map}
 use lib.Seq.{ext-getD, length-take-le}
 use borrow.Author.Tests.{eqb-true, leb-true, le-ltb}
-use Rattle.trees.specs.Kept.{allBelow}
-use Rattle.trees.specs.Sizes.{sizesOf}
+use Rattle.trees.specs.Kept.{allBelow, wellKept}
 use Rattle.trees.proofs.Tests.{bool, and-true-l, and-true-r}
 use Rattle.trees.proofs.KeptLaws.{all-at}
 use Rattle.meaning.specs.declared.State.{State}
@@ -93,16 +92,16 @@ module _ (rows masks : List ℕ) (m : Machine) (e : Event) (l : Listed rows mask
 
     -- refusal 6
     pub refuses-6 : countRight (ruleOf rows) e ≡ true → (v : ℕ) → v ≡ firstBelow 4 (λ w. ltb (most (m .state .k)) (getD (a .counts) w 0)) → v < 4
-        → (u : Turn) (ns vs ws : List ℕ) → u ≡ formedTurn (formedOutcome (m .state .k) (m .state .rows) masks (m .state .refs) (m .state .sizes) (m .state .kept) (m .nodes) (m .work) .gives) (m .state) 6 v
-        → ws ≡ formedOutcome (m .state .k) (m .state .rows) masks (m .state .refs) (m .state .sizes) (m .state .kept) (m .nodes) (m .work) .work → ns ≡ m .nodes → vs ≡ m .values → Happens rows m e u ns vs ws
+        → (u : Turn) (ns vs ws : List ℕ) → u ≡ formedTurn (formedOutcome (m .state .k) (m .state .rows) masks (m .state .refs) (m .state .kept) (m .nodes) (m .work) .gives) (m .state) 6 v
+        → ws ≡ formedOutcome (m .state .k) (m .state .rows) masks (m .state .refs) (m .state .kept) (m .nodes) (m .work) .work → ns ≡ m .nodes → vs ≡ m .values → Happens rows m e u ns vs ws
     refuses-6 c v q h u ns vs ws x y n w =
         refuses-formed rows m e masks l 6 v u ns vs ws
         (λ f. decides-6 rows m e (l .k-right) (l .rule-right) (l .lengths) f c (subst (λ (z : ℕ). z < 4) (q ∙ short-is) h) ∙ ap (refused 6) (sym (q ∙ short-is))) refl x y n w
 
   -- refusal 5
   pub refuses-5 : countRight (ruleOf rows) e ≡ false
-      → (u : Turn) (ns vs ws : List ℕ) → u ≡ formedTurn (formedOutcome (m .state .k) (m .state .rows) masks (m .state .refs) (m .state .sizes) (m .state .kept) (m .nodes) (m .work) .gives) (m .state) 5 0
-      → ws ≡ formedOutcome (m .state .k) (m .state .rows) masks (m .state .refs) (m .state .sizes) (m .state .kept) (m .nodes) (m .work) .work → ns ≡ m .nodes → vs ≡ m .values → Happens rows m e u ns vs ws
+      → (u : Turn) (ns vs ws : List ℕ) → u ≡ formedTurn (formedOutcome (m .state .k) (m .state .rows) masks (m .state .refs) (m .state .kept) (m .nodes) (m .work) .gives) (m .state) 5 0
+      → ws ≡ formedOutcome (m .state .k) (m .state .rows) masks (m .state .refs) (m .state .kept) (m .nodes) (m .work) .work → ns ≡ m .nodes → vs ≡ m .values → Happens rows m e u ns vs ws
   refuses-5 c u ns vs ws x y n w = refuses-formed rows m e masks l 5 0 u ns vs ws (λ f. decides-5 rows m e (l .k-right) (l .rule-right) (l .lengths) f c) refl x y n w
 
 module _ (rows masks : List ℕ) (m : Machine) (e : Event) (a : Asked) (s : Asking rows masks m e a) where
@@ -131,11 +130,11 @@ module _ (rows masks : List ℕ) (m : Machine) (e : Event) (a : Asked) (s : Aski
       (subst (λ (n : ℕ). 0 < n) (sym same-rows) p, subst (λ (n : ℕ). n ≤ 64) (sym same-rows) q)
 
   -- the three ends of the work
-  pub data Ended (x : Told) (rs zs ns ws : List ℕ) : Type 0 where
-    bad : formed rows m e ≡ false → x ≡ Bad → rs ≡ m .state .refs → zs ≡ m .state .sizes → ns ≡ m .nodes → ws ≡ cleared C (m .work) → Ended x rs zs ns ws
-    full : formed rows m e ≡ true → fitting rows m e ≡ false → x ≡ Full → rs ≡ m .state .refs → zs ≡ m .state .sizes → ns ≡ m .nodes → ws ≡ cleared C (m .work) → Ended x rs zs ns ws
+  pub data Ended (x : Told) (rs ns ws : List ℕ) : Type 0 where
+    bad : formed rows m e ≡ false → x ≡ Bad → rs ≡ m .state .refs → ns ≡ m .nodes → ws ≡ cleared C (m .work) → Ended x rs ns ws
+    full : formed rows m e ≡ true → fitting rows m e ≡ false → x ≡ Full → rs ≡ m .state .refs → ns ≡ m .nodes → ws ≡ cleared C (m .work) → Ended x rs ns ws
     done : formed rows m e ≡ true → fitting rows m e ≡ true → x ≡ Done (length (keptTable after)) (roomOf (m .state .k) (ruleOf rows) (shows rows m) (factsOf e) after)
-        → rs ≡ layState (m .state .k) after .refs → zs ≡ sizesOf (after .trees) → ns ≡ layNodes C after → ws ≡ cleared C (m .work) → Ended x rs zs ns ws
+        → rs ≡ layState (m .state .k) after .refs → ns ≡ layNodes C after → ws ≡ cleared C (m .work) → Ended x rs ns ws
 
   abbrev plan : List Task
   plan = planned rows e (a .given)
@@ -154,38 +153,38 @@ module _ (rows masks : List ℕ) (m : Machine) (e : Event) (a : Asked) (s : Aski
       planned-is rows e (a .given) (shows rows m .lists) count-facts right-numbers i l
       ∙ sym (List·getD-map (taskOf (askFacts (factsOf e) (shows rows m .lists) (ruleOf rows)) (factsOf e)) (ruleOf rows) i truth))
 
-  module _ (x : Told) (rs zs ns ws : List ℕ)
-      (left : Leaves (stepOutcome (m .state .k) (rowCount rows) plan masks (m .state .refs) (m .state .sizes) (m .state .kept) (m .nodes) (m .work)) x rs zs ns ws) where
-    ends-as : (o : Steps.Outcome) → stepOutcome (m .state .k) (length (ruleOf rows)) plan masks (m .state .refs) (m .state .sizes) (m .state .kept) (m .nodes) (m .work) ≡ o → Leaves o x rs zs ns ws
+  module _ (x : Told) (rs ns ws : List ℕ)
+      (left : Leaves (stepOutcome (m .state .k) (rowCount rows) plan masks (m .state .refs) (m .state .kept) (m .nodes) (m .work)) x rs ns ws) where
+    ends-as : (o : Steps.Outcome) → stepOutcome (m .state .k) (length (ruleOf rows)) plan masks (m .state .refs) (m .state .kept) (m .nodes) (m .work) ≡ o → Leaves o x rs ns ws
     unfolding rowCount
     ends-as o q =
-        subst (λ (y : Steps.Outcome). Leaves y x rs zs ns ws)
-        (ap (λ (n : ℕ). stepOutcome (m .state .k) n plan masks (m .state .refs) (m .state .sizes) (m .state .kept) (m .nodes) (m .work)) (sym (rule-count rows)) ∙ q) left
+        subst (λ (y : Steps.Outcome). Leaves y x rs ns ws)
+        (ap (λ (n : ℕ). stepOutcome (m .state .k) n plan masks (m .state .refs) (m .state .kept) (m .nodes) (m .work)) (sym (rule-count rows)) ∙ q) left
 
-    ends-bad : kept rows m e ≡ false → Ended x rs zs ns ws
+    ends-bad : kept rows m e ≡ false → Ended x rs ns ws
     unfolding capacity
     ends-bad k =
         let l = s .listed in
         let o = ends-as _ (step-bad rows m e (l .k-right) (l .rule-right) (l .lengths) masks (l .free) plan k) in
-        bad (formed-kept rows m e masks l ∙ k) (o .told) (o .refs) (o .sizes) (o .nodes) (clear-same (length (m .nodes) / 3) (m .work) ws (o .work))
+        bad (formed-kept rows m e masks l ∙ k) (o .told) (o .refs) (o .nodes) (clear-same (length (m .nodes) / 3) (m .work) ws (o .work))
 
-    works : kept rows m e ≡ true → Leaves (workedOutcome (fitting rows m e) (m .state .k) C (ruleOf rows) (shows rows m) (factsOf e) after (m .state .refs) (m .state .sizes) (m .nodes) (m .work)) x rs zs ns ws
+    works : kept rows m e ≡ true → Leaves (workedOutcome (fitting rows m e) (m .state .k) C (ruleOf rows) (shows rows m) (factsOf e) after (m .state .refs) (m .nodes) (m .work)) x rs ns ws
     works k =
         let l = s .listed in
-        ends-as _ (step-works rows m e (l .k-right) (l .rule-right) (l .lengths) masks (l .free) (l .counts, l .refs, l .sizes) (formed-kept rows m e masks l ∙ k) (s .enough) plan
+        ends-as _ (step-works rows m e (l .k-right) (l .rule-right) (l .lengths) masks (l .free) (l .counts, l .refs) (formed-kept rows m e masks l ∙ k) (s .enough) plan
         (planned-is rows e (a .given) (shows rows m .lists) count-facts right-numbers))
 
-    ends-full : kept rows m e ≡ true → fitting rows m e ≡ false → Ended x rs zs ns ws
+    ends-full : kept rows m e ≡ true → fitting rows m e ≡ false → Ended x rs ns ws
     unfolding workedOutcome
-    ends-full k f = let o = rw f at (works k) in full (formed-kept rows m e masks (s .listed) ∙ k) f (o .told) (o .refs) (o .sizes) (o .nodes) (o .work)
+    ends-full k f = let o = rw f at (works k) in full (formed-kept rows m e masks (s .listed) ∙ k) f (o .told) (o .refs) (o .nodes) (o .work)
 
-    ends-done : kept rows m e ≡ true → fitting rows m e ≡ true → Ended x rs zs ns ws
+    ends-done : kept rows m e ≡ true → fitting rows m e ≡ true → Ended x rs ns ws
     unfolding workedOutcome
     ends-done k f =
         let o = rw f at (works k) in
-        done (formed-kept rows m e masks (s .listed) ∙ k) f (o .told) (o .refs) (o .sizes) (o .nodes) (o .work)
+        done (formed-kept rows m e masks (s .listed) ∙ k) f (o .told) (o .refs) (o .nodes) (o .work)
 
-    ended : Ended x rs zs ns ws
+    ended : Ended x rs ns ws
     ended = ⊎-elim (λ k. ⊎-elim (ends-done k) (ends-full k) (bool (fitting rows m e))) ends-bad (bool (kept rows m e))
 
     decides : (b : Bool) → formed rows m e ≡ true → fitting rows m e ≡ b → decideEvent rows m e ≡ judgeEvent taken true true false (short rows m e) b
@@ -200,31 +199,31 @@ module _ (rows masks : List ℕ) (m : Machine) (e : Event) (a : Asked) (s : Aski
     decides-done f g = decides true f g
 
     -- a step without room is refused
-    pub refuses-full : (t : Turn) (vs : List ℕ) → x ≡ Full → (rs ≡ m .state .refs → zs ≡ m .state .sizes → t ≡ keptTurn (m .state) 7 0) → vs ≡ m .values → Happens rows m e t ns vs ws
+    pub refuses-full : (t : Turn) (vs : List ℕ) → x ≡ Full → (rs ≡ m .state .refs → t ≡ keptTurn (m .state) 7 0) → vs ≡ m .values → Happens rows m e t ns vs ws
     refuses-full t vs y h v = go ended
       where
-        go : Ended x rs zs ns ws → Happens rows m e t ns vs ws
-        go (bad f q i j n w) = let z : Full ≡ Bad = sym y ∙ q in let u : _≡_ {A = ℕ} 0 1 = cc in absurd (omega arith)
-        go (full f g q i j n w) = refuses-late rows m e 7 0 t ns vs ws (decides-full f g) refl (h i j) n v w
-        go (done f g q r j n w) = let z : Full ≡ Done _ _ = sym y ∙ q in let u : _≡_ {A = ℕ} 0 1 = cc in absurd (omega arith)
+        go : Ended x rs ns ws → Happens rows m e t ns vs ws
+        go (bad f q i n w) = let z : Full ≡ Bad = sym y ∙ q in let u : _≡_ {A = ℕ} 0 1 = cc in absurd (omega arith)
+        go (full f g q i n w) = refuses-late rows m e 7 0 t ns vs ws (decides-full f g) refl (h i) n v w
+        go (done f g q r n w) = let z : Full ≡ Done _ _ = sym y ∙ q in let u : _≡_ {A = ℕ} 0 1 = cc in absurd (omega arith)
 
     -- one on bad diagrams is refused
-    pub refuses-bad : (t : Turn) (vs : List ℕ) → x ≡ Bad → (rs ≡ m .state .refs → zs ≡ m .state .sizes → t ≡ keptTurn (m .state) 4 0) → vs ≡ m .values → Happens rows m e t ns vs ws
+    pub refuses-bad : (t : Turn) (vs : List ℕ) → x ≡ Bad → (rs ≡ m .state .refs → t ≡ keptTurn (m .state) 4 0) → vs ≡ m .values → Happens rows m e t ns vs ws
     refuses-bad t vs y h v = go ended
       where
-        go : Ended x rs zs ns ws → Happens rows m e t ns vs ws
-        go (bad f q i j n w) = let l = s .listed in refuses-late rows m e 4 0 t ns vs ws (decides-4 rows m e (l .k-right) (l .rule-right) (l .lengths) f) refl (h i j) n v w
-        go (full f g q i j n w) = let z : Bad ≡ Full = sym y ∙ q in let u : _≡_ {A = ℕ} 0 1 = cc in absurd (omega arith)
-        go (done f g q r j n w) = let z : Bad ≡ Done _ _ = sym y ∙ q in let u : _≡_ {A = ℕ} 0 1 = cc in absurd (omega arith)
+        go : Ended x rs ns ws → Happens rows m e t ns vs ws
+        go (bad f q i n w) = let l = s .listed in refuses-late rows m e 4 0 t ns vs ws (decides-4 rows m e (l .k-right) (l .rule-right) (l .lengths) f) refl (h i) n v w
+        go (full f g q i n w) = let z : Bad ≡ Full = sym y ∙ q in let u : _≡_ {A = ℕ} 0 1 = cc in absurd (omega arith)
+        go (done f g q r n w) = let z : Bad ≡ Done _ _ = sym y ∙ q in let u : _≡_ {A = ℕ} 0 1 = cc in absurd (omega arith)
 
     -- the numbers and lengths are fit
     pub never-unfit : {A : Type 0} → x ≡ Unfit → A
     never-unfit {A} y = go ended
       where
-        go : Ended x rs zs ns ws → A
-        go (bad f q i j n w) = let z : Unfit ≡ Bad = sym y ∙ q in let u : _≡_ {A = ℕ} 0 1 = cc in absurd (omega arith)
-        go (full f g q i j n w) = let z : Unfit ≡ Full = sym y ∙ q in let u : _≡_ {A = ℕ} 0 1 = cc in absurd (omega arith)
-        go (done f g q r j n w) = let z : Unfit ≡ Done _ _ = sym y ∙ q in let u : _≡_ {A = ℕ} 0 1 = cc in absurd (omega arith)
+        go : Ended x rs ns ws → A
+        go (bad f q i n w) = let z : Unfit ≡ Bad = sym y ∙ q in let u : _≡_ {A = ℕ} 0 1 = cc in absurd (omega arith)
+        go (full f g q i n w) = let z : Unfit ≡ Full = sym y ∙ q in let u : _≡_ {A = ℕ} 0 1 = cc in absurd (omega arith)
+        go (done f g q r n w) = let z : Unfit ≡ Done _ _ = sym y ∙ q in let u : _≡_ {A = ℕ} 0 1 = cc in absurd (omega arith)
 
     -- one that is done has well-formed diagrams and room
     module _ (n r : ℕ) (d : x ≡ Done n r) where
@@ -234,22 +233,21 @@ module _ (rows masks : List ℕ) (m : Machine) (e : Event) (a : Asked) (s : Aski
         pub kept-is : n ≡ length (keptTable after)
         pub room-is : r ≡ roomOf (m .state .k) (ruleOf rows) (shows rows m) (factsOf e) after
         pub refs-are : rs ≡ layState (m .state .k) after .refs
-        pub sizes-are : zs ≡ sizesOf (after .trees)
         pub nodes-are : ns ≡ layNodes C after
         pub work-is : ws ≡ cleared C (m .work)
 
       finished : Finished
       finished = go ended
         where
-          go : Ended x rs zs ns ws → Finished
-          go (bad f q i j u w) = let z : Done n r ≡ Bad = sym d ∙ q in let y : _≡_ {A = ℕ} 0 1 = cc in absurd (omega arith)
-          go (full f g q i j u w) = let z : Done n r ≡ Full = sym d ∙ q in let y : _≡_ {A = ℕ} 0 1 = cc in absurd (omega arith)
-          go (done f g q p j u w) =
+          go : Ended x rs ns ws → Finished
+          go (bad f q i u w) = let z : Done n r ≡ Bad = sym d ∙ q in let y : _≡_ {A = ℕ} 0 1 = cc in absurd (omega arith)
+          go (full f g q i u w) = let z : Done n r ≡ Full = sym d ∙ q in let y : _≡_ {A = ℕ} 0 1 = cc in absurd (omega arith)
+          go (done f g q p u w) =
               let z : Done n r ≡ Done (length (keptTable after)) (roomOf (m .state .k) (ruleOf rows) (shows rows m) (factsOf e) after) = sym d ∙ q in
-              record { well = f; fits = g; kept-is = cc; room-is = cc; refs-are = p; sizes-are = j; nodes-are = u; work-is = w }
+              record { well = f; fits = g; kept-is = cc; room-is = cc; refs-are = p; nodes-are = u; work-is = w }
 
       laid : Laid rows (m .state .k) C (s .listed .k-right) (s .listed .rule-right) m (shows rows m)
-      laid = let l = s .listed in laid-formed rows m (l .counts, l .refs, l .sizes) (l .k-right) (l .rule-right) (l .lengths) (finished .well)
+      laid = let l = s .listed in laid-formed rows m (l .counts, l .refs) (l .k-right) (l .rule-right) (l .lengths) (finished .well)
 
       trees-count : length (after .trees) ≡ length (ruleOf rows)
       unfolding step
@@ -284,7 +282,7 @@ module _ (rows masks : List ℕ) (m : Machine) (e : Event) (a : Asked) (s : Aski
 
       -- what is given back and left is the outcome of an event that is taken
       pub takes : length (a .counts) ≡ 4 → (t : Turn) (vs : List ℕ)
-          → t ≡ takenTurn (m .state) (a .counts) rs zs n r (eqb (getD rs (m .state .rows - 1) 0) 1)
+          → t ≡ takenTurn (m .state) (a .counts) (rs) n r (eqb (getD (rs) (m .state .rows - 1) 0) 1)
           → vs ≡ layValues (m .state .k) (withFresh (m .state .counts) (a .counts) (bare (a .fresh)) (listOf (m .state .k) (withCounts (m .state .counts)) (m .values))) → Happens rows m e t ns vs ws
       unfolding takenTurn
       takes four t vs h v =
@@ -292,7 +290,7 @@ module _ (rows masks : List ℕ) (m : Machine) (e : Event) (a : Asked) (s : Aski
           (ends rows m e _ taken-outcome _ ns vs ws
           (rw (finished .refs-are, finished .kept-is, finished .room-is)
           (sym (verdict-is (m .state .k) (m .state .rows) (ruleOf rows) (shows rows m) (factsOf e) after (sym same-rows) (trees-count ∙ sym same-rows) (rows-few .0))))
-          (rw (finished .refs-are, finished .sizes-are, finished .kept-is)
+          (rw (finished .refs-are, finished .kept-is)
           (sym (state-is (m .state .k) (m .state .rows) after (a .counts) (trees-count ∙ sym same-rows) four (λ w q. ap (λ (L : Lists). length (L w)) lists-after ∙ s .asks .listing .counted w q))))
           (finished .nodes-are)
           (v ∙ written-is (m .state .k) (m .state .counts) (m .values) rows e a (s .asks) ∙ ap (layValues (m .state .k)) (sym lists-after))

@@ -44,7 +44,6 @@ pub record Listed (rows masks : List ℕ) (m : Machine) : Type 0 where
   pub free : Free rows masks
   pub counts : length (m .state .counts) ≡ 4
   pub refs : length (m .state .refs) ≡ 64
-  pub sizes : length (m .state .sizes) ≡ 64
 
 -- neither refusal 5 nor refusal 6 applies, and this is what the event asks
 pub record Asking (rows masks : List ℕ) (m : Machine) (e : Event) (a : Asked) : Type 0 where

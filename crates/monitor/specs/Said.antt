@@ -1,4 +1,4 @@
--- What an event on lent references and sizes gives back, read as a state and a turn. Assumes nothing: these are definitions.
+-- What an event on lent references gives back, read as a state and a turn. Assumes nothing: these are definitions.
 use Prim.Native.Nat.{ℕ}
 use mathlib.Core.Bool.{Bool}
 use mathlib.Core.List.{List}
@@ -9,13 +9,13 @@ use Rattle.meaning.specs.declared.Answer.the-variants.{Refused, Verdict}
 use Rattle.monitor.specs.declared.Figures.{Figures}
 use Rattle.monitor.specs.declared.Said.{Said}
 
--- the state of these figures, references and sizes
-abbrev pub whole : Figures → List ℕ → List ℕ → State
-whole f refs sizes = record { k = f .k; rows = f .rows; kept = f .kept; counts = f .counts; refs = refs; sizes = sizes }
+-- the state of these figures and references
+abbrev pub whole : Figures → List ℕ → State
+whole f refs = record { k = f .k; rows = f .rows; kept = f .kept; counts = f .counts; refs = refs }
 
--- the turn of what is said and of the references and sizes left
-abbrev pub turnOf : Said → List ℕ → List ℕ → Turn
-turnOf t refs sizes = record { state = whole (t .figures) refs sizes; answer = t .answer }
+-- the turn of what is said and of the references left
+abbrev pub turnOf : Said → List ℕ → Turn
+turnOf t refs = record { state = whole (t .figures) refs; answer = t .answer }
 
 -- what is said of a refused event: "A refused event returns the state it got"
 unfoldable pub refusedSaid : Figures → ℕ → ℕ → Said

@@ -33,7 +33,7 @@ pub fn lengths_right(k: u32, nodes: &[u32], values: &[u32]) -> bool
 pub fn lists_right(figures: Figures, n: usize, values: &[u32], w: usize, work: &mut [u32]) -> bool
     requires { ⌜ (figures .k ≤ 10) × (length (now values) ≡ 4 * Tables.most (figures .k)) ⌝ }
     requires { ⌜ (1024 ≤ w) × (w ≤ length (now work)) ⌝ }
-    ensures { λ r. ⌜ r ≡ listsRight (whole figures [] []) n (now (values .entry)) ⌝ }
+    ensures { λ r. ⌜ r ≡ listsRight (whole figures []) n (now (values .entry)) ⌝ }
     ensures { λ _. ⌜ Beyond w (now (work .entry)) (now (work .exit)) ⌝ }
 {
     if figures.rows as usize != n {

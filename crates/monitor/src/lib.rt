@@ -32,7 +32,6 @@ fn state_of(k: u32, n: u32) -> State
         kept: 0,
         counts: [0; 4],
         refs: [0; 64],
-        sizes: [0; 64],
     }
 }
 
@@ -70,7 +69,7 @@ pub fn start(k: u32, rows: &[u32], nodes: &mut [u32], values: &mut [u32]) -> Tur
     started(k, (rows.len() / 9) as u32)
 }
 
-// The numbers of a state beside its references and sizes.
+// The numbers of a state beside its references.
 pub struct Figures {
     pub k: u32,
     pub rows: u32,
@@ -78,7 +77,7 @@ pub struct Figures {
     pub counts: [u32; 4],
 }
 
-// What an event on lent references and sizes gives back: the figures after it, the answer, the visits of its complements and of its sweep, and for
+// What an event on lent references gives back: the figures after it, the answer, the visits of its complements and of its sweep, and for
 // each variable how many values it newly numbered.
 pub struct Said {
     pub figures: Figures,
@@ -101,22 +100,21 @@ fn refused(figures: Figures, number: u32, place: u32) -> Said
     }
 }
 
-// Event, on a state whose references and sizes are lent and become those of after the event: refusals 1 to 7 in their order, or the
-// verdict of the rule on the events taken so far.
+// Event, on a state whose references are lent and become those of after the event: refusals 1 to 7 in their order, or the verdict
+// of the rule on the events taken so far.
 pub fn event_on(
     figures: Figures,
     refs: &mut [u32; 64],
-    sizes: &mut [u32; 64],
     rows: &[u32],
     nodes: &mut [u32],
     values: &mut [u32],
     work: &mut [u32],
     event: Event,
 ) -> Said
-    requires { ⌜ (length (figures .counts) ≡ 4) × (length (now refs) ≡ 64) × (length (now sizes) ≡ 64) ⌝ }
-    ensures { λ t. ⌜ Happens (now (rows .entry)) (machine (whole figures (now (refs .entry)) (now (sizes .entry))) (now (nodes .entry)) (now (values .entry)) (now (work .entry))) event (turnOf t (now (refs .exit)) (now (sizes .exit))) (now (nodes .exit)) (now (values .exit)) (now (work .exit)) ⌝ }
-    ensures { λ t. ⌜ Looks (now (rows .entry)) (machine (whole figures (now (refs .entry)) (now (sizes .entry))) (now (nodes .entry)) (now (values .entry)) (now (work .entry))) event (t .answer) (t .complements) (t .swept) ⌝ }
-    ensures { λ t. ⌜ Numbers (now (rows .entry)) (machine (whole figures (now (refs .entry)) (now (sizes .entry))) (now (nodes .entry)) (now (values .entry)) (now (work .entry))) event (t .answer) (t .numbered) ⌝ }
+    requires { ⌜ (length (figures .counts) ≡ 4) × (length (now refs) ≡ 64) ⌝ }
+    ensures { λ t. ⌜ Happens (now (rows .entry)) (machine (whole figures (now (refs .entry))) (now (nodes .entry)) (now (values .entry)) (now (work .entry))) event (turnOf t (now (refs .exit))) (now (nodes .exit)) (now (values .exit)) (now (work .exit)) ⌝ }
+    ensures { λ t. ⌜ Looks (now (rows .entry)) (machine (whole figures (now (refs .entry))) (now (nodes .entry)) (now (values .entry)) (now (work .entry))) event (t .answer) (t .complements) (t .swept) ⌝ }
+    ensures { λ t. ⌜ Numbers (now (rows .entry)) (machine (whole figures (now (refs .entry))) (now (nodes .entry)) (now (values .entry)) (now (work .entry))) event (t .answer) (t .numbered) ⌝ }
 {
     let rule = rule::check(rows);
     let checked = rule.checked;
@@ -133,17 +131,7 @@ pub fn event_on(
         return refused(figures, 4, 0);
     }
     let free = rule.free;
-    working::judged(
-        figures,
-        refs,
-        sizes,
-        &free,
-        rows,
-        nodes,
-        values,
-        work,
-        event,
-    )
+    working::judged(figures, refs, &free, rows, nodes, values, work, event)
 }
 
 // Event, on a state by value.
@@ -158,7 +146,6 @@ pub fn event(
     ensures { λ t. ⌜ Happens (now (rows .entry)) (machine state (now (nodes .entry)) (now (values .entry)) (now (work .entry))) event t (now (nodes .exit)) (now (values .exit)) (now (work .exit)) ⌝ }
 {
     let mut refs = state.refs;
-    let mut sizes = state.sizes;
     let counts = state.counts;
     let figures = Figures {
         k: state.k,
@@ -166,16 +153,7 @@ pub fn event(
         kept: state.kept,
         counts,
     };
-    let said = event_on(
-        figures,
-        &mut refs,
-        &mut sizes,
-        rows,
-        nodes,
-        values,
-        work,
-        event,
-    );
+    let said = event_on(figures, &mut refs, rows, nodes, values, work, event);
     let after = said.figures;
     let grown = after.counts;
     let answer = said.answer;
@@ -186,7 +164,6 @@ pub fn event(
             kept: after.kept,
             counts: grown,
             refs,
-            sizes,
         },
         answer,
     }

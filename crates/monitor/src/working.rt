@@ -19,27 +19,25 @@ ghost use Rattle.monitor.specs.Visits.{Looks};
 ghost use Rattle.monitor.specs.Numbered.{Numbers, Grown, growth};
 ghost use Rattle.monitor.specs.Events.{formedSaid, Listed, Asking};
 
-// Refuses an event, unless its diagrams are not well kept or the sizes not theirs: refusal 4 comes first.
+// Refuses an event, unless its diagrams are not well kept: refusal 4 comes first.
 fn refused_formed(
     figures: Figures,
     refs: &[u32; 64],
-    sizes: &[u32; 64],
     free: &[u32; 64],
     nodes: &[u32],
     work: &mut [u32],
     number: u32,
     place: u32,
 ) -> Said
-    requires { ⌜ (length (now refs) ≡ 64) × (length (now sizes) ≡ 64) ⌝ }
-    ensures { λ t. ⌜ t ≡ formedSaid (formedOutcome (figures .k) (figures .rows) (now (free .entry)) (now (refs .entry)) (now (sizes .entry)) (figures .kept) (now (nodes .entry)) (now (work .entry)) .gives) figures number place ⌝ }
-    ensures { λ _. ⌜ now (work .exit) ≡ formedOutcome (figures .k) (figures .rows) (now (free .entry)) (now (refs .entry)) (now (sizes .entry)) (figures .kept) (now (nodes .entry)) (now (work .entry)) .work ⌝ }
+    requires { ⌜ length (now refs) ≡ 64 ⌝ }
+    ensures { λ t. ⌜ t ≡ formedSaid (formedOutcome (figures .k) (figures .rows) (now (free .entry)) (now (refs .entry)) (figures .kept) (now (nodes .entry)) (now (work .entry)) .gives) figures number place ⌝ }
+    ensures { λ _. ⌜ now (work .exit) ≡ formedOutcome (figures .k) (figures .rows) (now (free .entry)) (now (refs .entry)) (figures .kept) (now (nodes .entry)) (now (work .entry)) .work ⌝ }
 {
     let formed = stepping::well_formed(
         figures.k,
         figures.rows,
         free,
         refs,
-        sizes,
         figures.kept,
         nodes,
         work,
@@ -97,7 +95,6 @@ fn taken(
 fn work_on(
     figures: Figures,
     refs: &mut [u32; 64],
-    sizes: &mut [u32; 64],
     free: &[u32; 64],
     rows: &[u32],
     nodes: &mut [u32],
@@ -106,10 +103,10 @@ fn work_on(
     event: Event,
     asked: Asked,
 ) -> Said
-    requires { ⌜ Asking (now rows) (now free) (machine (whole figures (now refs) (now sizes)) (now nodes) (now values) (now work)) event asked ⌝ }
-    ensures { λ t. ⌜ Happens (now (rows .entry)) (machine (whole figures (now (refs .entry)) (now (sizes .entry))) (now (nodes .entry)) (now (values .entry)) (now (work .entry))) event (turnOf t (now (refs .exit)) (now (sizes .exit))) (now (nodes .exit)) (now (values .exit)) (now (work .exit)) ⌝ }
-    ensures { λ t. ⌜ Looks (now (rows .entry)) (machine (whole figures (now (refs .entry)) (now (sizes .entry))) (now (nodes .entry)) (now (values .entry)) (now (work .entry))) event (t .answer) (t .complements) (t .swept) ⌝ }
-    ensures { λ t. ⌜ Numbers (now (rows .entry)) (machine (whole figures (now (refs .entry)) (now (sizes .entry))) (now (nodes .entry)) (now (values .entry)) (now (work .entry))) event (t .answer) (t .numbered) ⌝ }
+    requires { ⌜ Asking (now rows) (now free) (machine (whole figures (now refs)) (now nodes) (now values) (now work)) event asked ⌝ }
+    ensures { λ t. ⌜ Happens (now (rows .entry)) (machine (whole figures (now (refs .entry))) (now (nodes .entry)) (now (values .entry)) (now (work .entry))) event (turnOf t (now (refs .exit))) (now (nodes .exit)) (now (values .exit)) (now (work .exit)) ⌝ }
+    ensures { λ t. ⌜ Looks (now (rows .entry)) (machine (whole figures (now (refs .entry))) (now (nodes .entry)) (now (values .entry)) (now (work .entry))) event (t .answer) (t .complements) (t .swept) ⌝ }
+    ensures { λ t. ⌜ Numbers (now (rows .entry)) (machine (whole figures (now (refs .entry))) (now (nodes .entry)) (now (values .entry)) (now (work .entry))) event (t .answer) (t .numbered) ⌝ }
 {
     let given = asked.given;
     let stepped = stepping::step(
@@ -119,7 +116,6 @@ fn work_on(
         &given,
         free,
         refs,
-        sizes,
         figures.kept,
         nodes,
         work,
@@ -152,7 +148,6 @@ fn work_on(
 pub fn judged(
     figures: Figures,
     refs: &mut [u32; 64],
-    sizes: &mut [u32; 64],
     free: &[u32; 64],
     rows: &[u32],
     nodes: &mut [u32],
@@ -160,31 +155,20 @@ pub fn judged(
     work: &mut [u32],
     event: Event,
 ) -> Said
-    requires { ⌜ Listed (now rows) (now free) (machine (whole figures (now refs) (now sizes)) (now nodes) (now values) (now work)) ⌝ }
-    ensures { λ t. ⌜ Happens (now (rows .entry)) (machine (whole figures (now (refs .entry)) (now (sizes .entry))) (now (nodes .entry)) (now (values .entry)) (now (work .entry))) event (turnOf t (now (refs .exit)) (now (sizes .exit))) (now (nodes .exit)) (now (values .exit)) (now (work .exit)) ⌝ }
-    ensures { λ t. ⌜ Looks (now (rows .entry)) (machine (whole figures (now (refs .entry)) (now (sizes .entry))) (now (nodes .entry)) (now (values .entry)) (now (work .entry))) event (t .answer) (t .complements) (t .swept) ⌝ }
-    ensures { λ t. ⌜ Numbers (now (rows .entry)) (machine (whole figures (now (refs .entry)) (now (sizes .entry))) (now (nodes .entry)) (now (values .entry)) (now (work .entry))) event (t .answer) (t .numbered) ⌝ }
+    requires { ⌜ Listed (now rows) (now free) (machine (whole figures (now refs)) (now nodes) (now values) (now work)) ⌝ }
+    ensures { λ t. ⌜ Happens (now (rows .entry)) (machine (whole figures (now (refs .entry))) (now (nodes .entry)) (now (values .entry)) (now (work .entry))) event (turnOf t (now (refs .exit))) (now (nodes .exit)) (now (values .exit)) (now (work .exit)) ⌝ }
+    ensures { λ t. ⌜ Looks (now (rows .entry)) (machine (whole figures (now (refs .entry))) (now (nodes .entry)) (now (values .entry)) (now (work .entry))) event (t .answer) (t .complements) (t .swept) ⌝ }
+    ensures { λ t. ⌜ Numbers (now (rows .entry)) (machine (whole figures (now (refs .entry))) (now (nodes .entry)) (now (values .entry)) (now (work .entry))) event (t .answer) (t .numbered) ⌝ }
 {
     if !rule::agrees(rows, event) {
-        return refused_formed(figures, refs, sizes, free, nodes, work, 5, 0);
+        return refused_formed(figures, refs, free, nodes, work, 5, 0);
     }
     let counts = figures.counts;
     let asked = numbers::ask(figures.k, counts, values, rows, event);
     let grown = asked.counts;
     let v = lists::shortest(figures.k, grown);
     if v < 4 {
-        return refused_formed(figures, refs, sizes, free, nodes, work, 6, v);
+        return refused_formed(figures, refs, free, nodes, work, 6, v);
     }
-    work_on(
-        figures,
-        refs,
-        sizes,
-        free,
-        rows,
-        nodes,
-        values,
-        work,
-        event,
-        asked,
-    )
+    work_on(figures, refs, free, rows, nodes, values, work, event, asked)
 }

@@ -21,7 +21,7 @@ use Rattle.numbers.specs.Matching.{matchesRow, argumentsIn, Readable}
 
 -- a state with these counts of values: the lists depend on nothing else of it
 abbrev pub withCounts : List ℕ → State
-withCounts counts = record { k = 0; rows = 0; kept = 0; counts = counts; refs = []; sizes = [] }
+withCounts counts = record { k = 0; rows = 0; kept = 0; counts = counts; refs = [] }
 
 -- the number of a value: its place, or 4294967295 where it has none
 unfoldable pub numberIn : List ℕ → ℕ → ℕ

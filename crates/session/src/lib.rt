@@ -99,7 +99,6 @@ pub fn opened() -> Session
             kept: 0,
             counts: [0; 4],
             refs: [0; 64],
-            sizes: [0; 64],
         },
     }
 }

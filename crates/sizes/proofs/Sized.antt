@@ -6,7 +6,7 @@ use mathlib.Core.List.{List, []}
 use mathlib.Core.Logic.{_⊎_, inl, inr, ⊎-elim}
 use native.Mathlib.Omega.{arith}
 use lib.ListN.{length, getD}
-use Rattle.trees.specs.Tree.{Tree, off, same}
+use Rattle.trees.specs.Tree.{Tree, off, node, same}
 use Rattle.trees.specs.Table.{mem, push, addTree, at, treesOf}
 use Rattle.trees.proofs.Tests.{bool, false-true, not-true, or-cases}
 use Rattle.trees.proofs.TreeLaws.{same-true}

@@ -1,5 +1,5 @@
 -- The part of the work slice that is lent to the rows' work: its first 15 * c numbers. Assumes nothing.
-use Prim.Native.Nat.{ℕ, _+_, _*_, _-_, _/_, _≤_, _<_}
+use Prim.Native.Nat.{ℕ, suc, _+_, _*_, _-_, _/_, _≤_, _<_}
 use mathlib.Core.Path.{_≡_, refl, sym, ap, _∙_}
 use mathlib.Core.List.{List}
 use native.Mathlib.Omega.{arith}
@@ -8,7 +8,7 @@ use lib.Seq.{ext-getD, getD-take, getD-drop}
 use Rattle.trees.proofs.CanonicalLaws.{zeros-at}
 use borrow.Rule.Slice.PartMut.{putMid, mid-len, same-len-mid, drop-put}
 use Rattle.nodes.specs.Nodes.{Rest, Zeroed}
-use Rattle.nodes.specs.Chains.{Reaches, here, later, Chained}
+use Rattle.nodes.specs.Chains.{Reaches, here, later, headOf, Chained}
 use Rattle.nodes.proofs.ChainLaws.{head-within}
 use Rattle.making.proofs.WalkLaws.{rest-trans}
 use Rattle.walks.specs.Desks.{Desk}
@@ -17,7 +17,7 @@ use Rattle.walks.proofs.MapLaws.{map-at, map-length}
 use Rattle.diagram.specs.Works.{Fits, Fresh, Ready}
 
 -- chains depend on the numbers from 13 * c on and before 15 * c
-pub chained-part : {ns : List ℕ} {n : ℕ} {w w′ : List ℕ} → 3 * n ≤ length ns → 1 ≤ length ns / 3 → ((x : ℕ) → 13 * (length ns / 3) ≤ x → x < 15 * (length ns / 3) → getD w′ x 0 ≡ getD w x 0)
+chained-part : {ns : List ℕ} {n : ℕ} {w w′ : List ℕ} → 3 * n ≤ length ns → 1 ≤ length ns / 3 → ((x : ℕ) → 13 * (length ns / 3) ≤ x → x < 15 * (length ns / 3) → getD w′ x 0 ≡ getD w x 0)
     → Chained ns n w → Chained ns n w′
 chained-part {ns} {n} {w} {w′} fits some e ch =
     let k = ch .chains in

@@ -4,7 +4,6 @@ pub mod PlanLaws
 pub mod FitLaws
 pub mod ClearLaws
 pub mod LendLaws
-pub mod SizeLaws
 pub mod OutcomeLaws
 pub mod CaseLaws
 pub mod CountLaws

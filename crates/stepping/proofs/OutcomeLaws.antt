@@ -12,14 +12,13 @@ use borrow.Author.Tests.{le-leb, lt-leb}
 use Rattle.trees.specs.Tree.{Tree, off, treeOf}
 use Rattle.trees.specs.Table.{addTrees, at, refOf, treesOf, Ref}
 use Rattle.trees.specs.Kept.{diagrams, WellKept}
-use Rattle.trees.specs.Sizes.{sizesOf}
 use Rattle.trees.proofs.Tests.{lt-or-ge}
 use Rattle.trees.proofs.ReadLaws.{length-trees, ref-is}
 use Rattle.trees.proofs.CanonicalLaws.{zeros-past}
+use Rattle.stepping.specs.declared.Stepped.{Stepped}
 use Rattle.diagram.specs.declared.Told.the-variants.{Full, Done}
 use Rattle.nodes.specs.Nodes.{Table, Zeroed, Rows, canonical}
 use Rattle.walks.specs.Walks.{Within}
-use Rattle.sizes.specs.Leading.{Leading}
 use Rattle.sweeping.specs.Sweeps.{Awaits, References, Renewal}
 use Rattle.sweeping.proofs.Visited.{renew-visits}
 use Rattle.keeping.specs.Checks.{freeBy, Right}
@@ -32,7 +31,6 @@ use Rattle.walks.proofs.CallLaws.{within-all}
 use Rattle.diagram.proofs.RemovalLaws.{within-fine}
 use Rattle.diagram.proofs.RowLaws.{within-no}
 use Rattle.stepping.proofs.PlanLaws.{length-new}
-use Rattle.stepping.proofs.SizeLaws.{LaidOut, laid-sizes, laid-asked}
 use Rattle.keeping.proofs.SoundLaws.{sound-table, sound-rows}
 use Rattle.keeping.proofs.VerdictLaws.{kept-right}
 
@@ -52,11 +50,11 @@ ready k allowed C count refs kept ns pos few wide size small w =
     leads a = ⊎-elim (λ h. within-all ns kept (4 * k) (getD refs a 0) (rows .inside a h) (rows .fine a h)) (λ h. rw (w .none a h) (within-no ns kept (4 * k))) (lt-or-ge a count)
 
 -- the work's outcome does not ask what stands in front of the work slice
-pub outcome-same : (b : Bool) (k count : ℕ) (plan : List Task) (refs sizes : List ℕ) (kept : ℕ) (ns w w₁ : List ℕ) → cleared (length ns / 3) w₁ ≡ cleared (length ns / 3) w
-    → workOutcome b k count plan refs sizes kept ns w₁ ≡ workOutcome b k count plan refs sizes kept ns w
+pub outcome-same : (b : Bool) (k count : ℕ) (plan : List Task) (refs : List ℕ) (kept : ℕ) (ns w w₁ : List ℕ) → cleared (length ns / 3) w₁ ≡ cleared (length ns / 3) w
+    → workOutcome b k count plan refs kept ns w₁ ≡ workOutcome b k count plan refs kept ns w
 unfolding workOutcome layout
-outcome-same false k count plan refs sizes kept ns w w₁ e = rw e
-outcome-same true k count plan refs sizes kept ns w w₁ e = rw e
+outcome-same false k count plan refs kept ns w w₁ e = rw e
+outcome-same true k count plan refs kept ns w w₁ e = rw e
 
 -- the sweep of the code is that of the definition
 swept-same : (size levels : ℕ) (ts : List Tree) (ns : List ℕ) (n : ℕ) (rs : List ℕ) (ds : List Tree) → length ts ≡ n → holding size ts ≡ ns → rs ≡ map (refOf ts) ds
@@ -69,13 +67,13 @@ swept-same size levels ts ns n rs ds len hold same =
 
 module _ (k count : ℕ) (plan : List Task) (refs : List ℕ) (kept : ℕ) (ns w : List ℕ) (f : Fits k count (length ns) (length w)) where
   -- no room for all: the tail is wiped, and the nodes are as they were
-  pub full-leaves : (sizes : List ℕ) {ns₁ ns₂ w₂ : List ℕ} → Ready k count refs kept ns → Short (4 * k) ns ns₁ kept (stages k plan (diagrams ns kept refs count) count)
+  pub full-leaves : {ns₁ ns₂ w₂ : List ℕ} → Ready k count refs kept ns → Short (4 * k) ns ns₁ kept (stages k plan (diagrams ns kept refs count) count)
       → Zeroed (3 * kept) (length ns₁) ns₁ ns₂ → w₂ ≡ cleared (length ns / 3) w
-      → Leaves (workOutcome (leb (length (workTable k count plan refs kept ns)) (length ns / 3)) k count plan refs sizes kept ns w) Full refs sizes ns₂ w₂
+      → Leaves (workOutcome (leb (length (workTable k count plan refs kept ns)) (length ns / 3)) k count plan refs kept ns w) Full refs ns₂ w₂
   unfolding workTable workOutcome
-  full-leaves sizes {ns₁} {ns₂} r s z e =
+  full-leaves {ns₁} {ns₂} r s z e =
       rw (lt-leb (length (addTrees (treesOf ns kept) (map (treeOf (4 * k)) (stages k plan (diagrams ns kept refs count) count)))) (length ns / 3) (omega (arith, s .over, f .whole)))
-      (record { told = refl; refs = refl; sizes = refl; nodes = wiped; work = e })
+      (record { told = refl; refs = refl; nodes = wiped; work = e })
     where
       wiped : ns₂ ≡ ns
       wiped =
@@ -134,39 +132,22 @@ module _ (k count : ℕ) (plan : List Task) (refs : List ℕ) (kept : ℕ) (ns w
         size : length (map (refOf T) (map (at (treesOf ns₁ n)) (take count news))) ≡ count
         size = rw (length-map, length-map) (length-take-le count news (omega (arith, t .new-lead .wide, f .few)))
 
-    -- after the sweep: the canonical layout of the new diagrams
-    swept-layout : {w₁ w₂ ns₂ : List ℕ} {kept′ : ℕ} {refs′ : List ℕ} {visits : ℕ} → Renewal ns₁ n (4 * k) news count w₁ ns₂ w₂ kept′ refs′ visits
-        → LaidOut (4 * k) (newTrees k plan (diagrams ns kept refs count) count) count (length ns - 3 * length (addTrees [] (newTrees k plan (diagrams ns kept refs count) count))) (64 - count) ns₂ kept′ refs′
-    unfolding canonical
-    swept-layout r =
-        let ds = new-diagrams in
-        record {
-          rows = length-new k plan _ count;
-          fine = λ i h. rw (← t .new-are i) (within-fine (t .new-lead .each i));
-          size = rw ds at (r .size);
-          numbers = rw (ds, t .size) at (r .numbers);
-          references = rw ds at (refs-are (r .references));
-        }
-
-    -- all rows worked and swept, and the sizes found
-    pub done-leaves : (sizes : List ℕ) {w₁ w₂ ns₂ w₃ sizes′ : List ℕ} {kept′ : ℕ} {refs′ : List ℕ} {visits : ℕ} → Renewal ns₁ n (4 * k) news count w₁ ns₂ w₂ kept′ refs′ visits
-        → sizes′ ≡ sizesOf (diagrams ns₂ kept′ refs′ count) → w₃ ≡ cleared (length ns / 3) w
-        → Leaves (workOutcome (leb (length (workTable k count plan refs kept ns)) (length ns / 3)) k count plan refs sizes kept ns w) (Done kept′ n) refs′ sizes′ ns₂ w₃
-    unfolding workOutcome layout
-    done-leaves sizes r z e =
+    -- all rows worked and swept
+    pub done-leaves : {w₁ w₂ ns₂ w₃ : List ℕ} {kept′ : ℕ} {refs′ : List ℕ} {visits : ℕ} → Renewal ns₁ n (4 * k) news count w₁ ns₂ w₂ kept′ refs′ visits → w₃ ≡ cleared (length ns / 3) w
+        → Leaves (workOutcome (leb (length (workTable k count plan refs kept ns)) (length ns / 3)) k count plan refs kept ns w) (Done kept′ n) refs′ ns₂ w₃
+    unfolding workOutcome layout canonical
+    done-leaves {kept′ = kept′} {refs′} r e =
         let table = t .desk .shelf .table .fits in
         let size = t .size in
-        let laid = swept-layout r in
+        let ds = new-diagrams in
         let test : leb (length (workTable k count plan refs kept ns)) (length ns / 3) ≡ true = rw room-is (le-leb n (length ns / 3) (omega arith)) in
         rw test
-        (record { told = ap₂ Done (laid .size) (sym room-is); refs = laid .references; sizes = z ∙ laid-sizes laid; nodes = laid .numbers; work = e })
-
-    -- what the finding of sizes asks
-    pub sizes-ready : {w₁ w₂ ns₂ : List ℕ} {kept′ : ℕ} {refs′ : List ℕ} {visits : ℕ} → Renewal ns₁ n (4 * k) news count w₁ ns₂ w₂ kept′ refs′ visits → length ns₂ ≡ length ns₁
-        → length w₂ ≡ length w → (Table ns₂ kept′ × Leading refs′ count kept′) × (kept′ ≤ length w₂)
-    sizes-ready r e d =
-        let laid = laid-asked (swept-layout r) (length ns / 3) (omega (arith, e, t .size, f .whole)) (f .small) (f .few) (r .references .wide) in
-        (laid, omega (arith, laid .0 .fits, e, t .size, f .whole, f .room, d))
+        (record {
+          told = ap₂ Done (rw ds at (r .size)) (sym room-is);
+          refs = rw ds at (refs-are (r .references));
+          nodes = rw (ds, size) at (r .numbers);
+          work = e;
+        })
 
     -- the references that are swept are those of the new diagrams in the working table
     swept-refs : take count news ≡ map (refOf (treesOf ns₁ n)) (newTrees k plan (diagrams ns kept refs count) count)

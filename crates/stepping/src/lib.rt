@@ -1,6 +1,6 @@
-// One event's work on the diagrams: the check of what is kept, the rows one after the other, the sweep that makes the nodes the
-// canonical table of the new diagrams, and their sizes. `step` works an event, and `well_formed` only checks the diagrams. Neither
-// assumes anything of the diagrams, the references, the sizes or the slices.
+// One event's work on the diagrams: the check of what is kept, the rows one after the other, and the sweep that makes the nodes the
+// canonical table of the new diagrams. `step` works an event, and `well_formed` only checks the diagrams. Neither assumes anything
+// of the diagrams, the references or the slices.
 mod atoms;
 mod rows;
 
@@ -10,14 +10,12 @@ use diagram::Told;
 use keeping::check;
 use meaning::Event;
 use nodes::zero;
-use sizes::sizes_right;
 ghost use mathlib.Core.Path.{_≡_};
 ghost use Prim.Native.Nat.{_≤_};
 ghost use lib.ListN.{length};
 ghost use Rattle.meaning.specs.Rows.{rowCount, right, checkRows};
 ghost use Rattle.nodes.specs.Nodes.{Decides};
-ghost use Rattle.keeping.specs.Checks.{CheckLeaves};
-ghost use Rattle.diagram.specs.Steps.{keptRight, stepOutcome, formedOutcome, Leaves, Tells};
+ghost use Rattle.diagram.specs.Steps.{stepOutcome, formedOutcome, Leaves, Tells};
 ghost use Rattle.diagram.specs.Counts.{Visits};
 ghost use Rattle.diagram.specs.Works.{Fits};
 ghost use Rattle.instructions.specs.Planned.{planned};
@@ -69,31 +67,9 @@ fn refused(told: Told) -> Stepped
     }
 }
 
-// Whether the diagrams are well kept and the sizes theirs. It leaves the work slice as the check does: the sizes are found in the
-// check's marks, which are used up by then.
-fn kept_right(
-    k: u32,
-    count: u32,
-    allowed: &[u32; 64],
-    refs: &[u32; 64],
-    sizes: &[u32; 64],
-    kept: u32,
-    nodes: &[u32],
-    work: &mut [u32],
-) -> bool
-    requires { ⌜ Fits k count (length (now nodes)) (length (now work)) × (length (now refs) ≡ 64) × (length (now sizes) ≡ 64) ⌝ }
-    ensures { λ b. ⌜ b ≡ keptRight k count (now (allowed .entry)) (now (refs .entry)) (now (sizes .entry)) kept (now (nodes .entry)) ⌝ }
-    ensures { λ b. ⌜ CheckLeaves (now (nodes .entry)) kept (now (work .entry)) (now (work .exit)) b ⌝ }
-{
-    if !check(k, count, allowed, refs, kept, nodes, work) {
-        return false;
-    }
-    sizes_right(nodes, kept, refs, count, work, sizes)
-}
-
-// Works one event: checks the diagrams and their sizes, works each row, and makes the nodes the canonical table of the new diagrams,
-// to which the references then lead, and whose sizes the sizes are. Where it is refused, nodes, references and sizes stay as they
-// are. The caller has checked the rule and the event (refusals 2 and 5).
+// Works one event: checks the diagrams, works each row, and makes the nodes the canonical table of the new diagrams, to which the
+// references then lead. Where it is refused, nodes and references stay as they are. The caller has checked the rule and the event
+// (refusals 2 and 5).
 pub fn step(
     k: u32,
     rows: &[u32],
@@ -101,45 +77,43 @@ pub fn step(
     given: &[u32; 96],
     free: &[u32; 64],
     refs: &mut [u32; 64],
-    sizes: &mut [u32; 64],
     kept: u32,
     nodes: &mut [u32],
     work: &mut [u32],
 ) -> Stepped
-    requires { ⌜ (checkRows (now rows) ≡ right) × (event .count ≤ 8) × (length (now given) ≡ 96) × (length (now refs) ≡ 64) × (length (now sizes) ≡ 64) ⌝ }
-    ensures { λ x. ⌜ Leaves (stepOutcome k (rowCount (now (rows .entry))) (planned (now (rows .entry)) event (now (given .entry))) (now (free .entry)) (now (refs .entry)) (now (sizes .entry)) kept (now (nodes .entry)) (now (work .entry))) (x .told) (now (refs .exit)) (now (sizes .exit)) (now (nodes .exit)) (now (work .exit)) ⌝ }
+    requires { ⌜ (checkRows (now rows) ≡ right) × (event .count ≤ 8) × (length (now given) ≡ 96) × (length (now refs) ≡ 64) ⌝ }
+    ensures { λ x. ⌜ Leaves (stepOutcome k (rowCount (now (rows .entry))) (planned (now (rows .entry)) event (now (given .entry))) (now (free .entry)) (now (refs .entry)) kept (now (nodes .entry)) (now (work .entry))) (x .told) (now (refs .exit)) (now (nodes .exit)) (now (work .exit)) ⌝ }
     ensures { λ x. ⌜ Visits k (rowCount (now (rows .entry))) (planned (now (rows .entry)) event (now (given .entry))) (now (refs .entry)) kept (now (nodes .entry)) (x .told) (x .complements) (x .swept) ⌝ }
 {
     let count = (rows.len() / 9) as u32;
     if !fit(k, count, nodes.len(), work.len()) {
         return refused(Told::Unfit);
     }
-    if !kept_right(k, count, free, refs, sizes, kept, nodes, work) {
+    if !check(k, count, free, refs, kept, nodes, work) {
         let c = nodes.len() / 3;
         zero(work, 0, 16 * c + 1024);
         return refused(Told::Bad);
     }
-    worked(k, rows, event, given, refs, sizes, kept, nodes, work)
+    worked(k, rows, event, given, refs, kept, nodes, work)
 }
 
-// Checks the diagrams and their sizes, and changes none.
+// Checks the diagrams, and changes none.
 pub fn well_formed(
     k: u32,
     count: u32,
     allowed: &[u32; 64],
     refs: &[u32; 64],
-    sizes: &[u32; 64],
     kept: u32,
     nodes: &[u32],
     work: &mut [u32],
 ) -> Formed
-    requires { ⌜ (length (now refs) ≡ 64) × (length (now sizes) ≡ 64) ⌝ }
-    ensures { λ x. ⌜ Tells (formedOutcome k count (now (allowed .entry)) (now (refs .entry)) (now (sizes .entry)) kept (now (nodes .entry)) (now (work .entry))) x (now (work .exit)) ⌝ }
+    requires { ⌜ length (now refs) ≡ 64 ⌝ }
+    ensures { λ x. ⌜ Tells (formedOutcome k count (now (allowed .entry)) (now (refs .entry)) kept (now (nodes .entry)) (now (work .entry))) x (now (work .exit)) ⌝ }
 {
     if !fit(k, count, nodes.len(), work.len()) {
         return Formed::Unfit;
     }
-    let good = kept_right(k, count, allowed, refs, sizes, kept, nodes, work);
+    let good = check(k, count, allowed, refs, kept, nodes, work);
     let c = nodes.len() / 3;
     zero(work, 0, 16 * c + 1024);
     if good {

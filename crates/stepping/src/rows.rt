@@ -1,7 +1,7 @@
 // The rows' work, one after the other, and what follows it: the sweep, or the refusal. Regions of the work slice, with c nodes
 // in the node slice: the sweep's table before 3 * c, its notes before 4 * c, the map of complements before 5 * c, the memory
 // of results before 13 * c, the heads of the chains of nodes before 14 * c, their links before 15 * c. The check uses the
-// first c for its marks, and leaves the chains. Sizes are found in the first c too, after the check and after the sweep.
+// first c for its marks, and leaves the chains.
 ghost use mathlib.Core.Path.{_≡_};
 ghost use Prim.Native.Nat.{ℕ, _*_, _/_, _≤_};
 ghost use lib.Dec.{leb};
@@ -134,15 +134,14 @@ pub fn worked(
     event: Event,
     given: &[u32; 96],
     refs: &mut [u32; 64],
-    sizes: &mut [u32; 64],
     kept: u32,
     nodes: &mut [u32],
     work: &mut [u32],
 ) -> Stepped
-    requires { ⌜ (checkRows (now rows) ≡ right) × (event .count ≤ 8) × (length (now given) ≡ 96) × (length (now sizes) ≡ 64) ⌝ }
+    requires { ⌜ (checkRows (now rows) ≡ right) × (event .count ≤ 8) × (length (now given) ≡ 96) ⌝ }
     requires { ⌜ Fits k (rowCount (now rows)) (length (now nodes)) (length (now work)) ⌝ }
     requires { ⌜ Ready k (rowCount (now rows)) (now refs) kept (now nodes) × Chained (now nodes) kept (now work) ⌝ }
-    ensures { λ x. ⌜ Leaves (workOutcome (leb (length (workTable k (rowCount (now (rows .entry))) (planned (now (rows .entry)) event (now (given .entry))) (now (refs .entry)) kept (now (nodes .entry)))) (length (now (nodes .entry)) / 3)) k (rowCount (now (rows .entry))) (planned (now (rows .entry)) event (now (given .entry))) (now (refs .entry)) (now (sizes .entry)) kept (now (nodes .entry)) (now (work .entry))) (x .told) (now (refs .exit)) (now (sizes .exit)) (now (nodes .exit)) (now (work .exit)) ⌝ }
+    ensures { λ x. ⌜ Leaves (workOutcome (leb (length (workTable k (rowCount (now (rows .entry))) (planned (now (rows .entry)) event (now (given .entry))) (now (refs .entry)) kept (now (nodes .entry)))) (length (now (nodes .entry)) / 3)) k (rowCount (now (rows .entry))) (planned (now (rows .entry)) event (now (given .entry))) (now (refs .entry)) kept (now (nodes .entry)) (now (work .entry))) (x .told) (now (refs .exit)) (now (nodes .exit)) (now (work .exit)) ⌝ }
     ensures { λ x. ⌜ Visits k (rowCount (now (rows .entry))) (planned (now (rows .entry)) event (now (given .entry))) (now (refs .entry)) kept (now (nodes .entry)) (x .told) (x .complements) (x .swept) ⌝ }
 {
     let c = nodes.len() / 3;
@@ -171,7 +170,6 @@ pub fn worked(
     let room = x.count;
     let count = (rows.len() / 9) as u32;
     let y = renew(nodes, room, work, 4 * k, &news, count, refs);
-    sizes::sizes(nodes, y.kept, refs, count, work, sizes);
     zero(work, 0, 16 * c + 1024);
     Stepped {
         told: Told::Done(y.kept, room),

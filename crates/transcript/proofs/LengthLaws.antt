@@ -11,7 +11,6 @@ use borrow.Author.Tests.{leb-true, lt-leb}
 use Rattle.trees.specs.Table.{addTrees, refOf}
 use Rattle.trees.proofs.Tests.{and-true-r}
 use Rattle.trees.proofs.ShowLaws.{show-length, sound-adds, sound-nil}
-use Rattle.trees.proofs.SizesLaws.{sizes-length}
 use Rattle.meaning.specs.declared.Event.{Event}
 use Rattle.meaning.specs.declared.State.{State}
 use Rattle.meaning.specs.Rows.{Row, Found, right, fault, ruleOf, checkRows}
@@ -48,11 +47,6 @@ values-length k C rule s p =
 refs-length : (k C : ℕ) (rule : List Row) (s : Shown) → length rule ≤ 64 → Proper k C rule s → length (layState k s .refs) ≡ 64
 unfolding layState
 refs-length k C rule s h p = padded-length 64 (map (refOf (keptTable s)) (s .trees)) (omega (arith, length-map (s .trees) (refOf (keptTable s)), p .count))
-
--- and the sizes
-sizes-count : (k C : ℕ) (rule : List Row) (s : Shown) → length rule ≤ 64 → Proper k C rule s → length (layState k s .sizes) ≡ 64
-unfolding layState
-sizes-count k C rule s h p = sizes-length (s .trees) (omega (arith, p .count))
 
 counts-length : (k : ℕ) (s : Shown) → length (layState k s .counts) ≡ 4
 unfolding layState
@@ -104,7 +98,6 @@ module _ (rows : List ℕ) (m : Machine) (e : Event) where
         arrays = (
           ap (λ (s : State). length (s .counts)) (is .state-is) ∙ counts-length k after,
           ap (λ (s : State). length (s .refs)) (is .state-is) ∙ refs-length k C (ruleOf rows) after (few rows k C (tests .0) (tests .1)) (is .proper),
-          ap (λ (s : State). length (s .sizes)) (is .state-is) ∙ sizes-count k C (ruleOf rows) after (few rows k C (tests .0) (tests .1)) (is .proper),
         );
         nodes = ap length (is .nodes-are) ∙ nodes-length k C (ruleOf rows) after (is .proper) ∙ sym (ap length (was .nodes-are) ∙ nodes-length k C (ruleOf rows) (shows rows m) (was .proper));
         values = ap length (is .values-are) ∙ values-length k C (ruleOf rows) after (is .proper) ∙ sym (ap length (was .values-are) ∙ values-length k C (ruleOf rows) (shows rows m) (was .proper));

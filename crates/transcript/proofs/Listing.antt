@@ -4,7 +4,6 @@ use mathlib.Core.Path.{_≡_, refl}
 use mathlib.Core.List.{List, [], _∷_}
 use Rattle.trees.specs.Bits as Bits
 use Rattle.trees.specs.Kept as Kept
-use Rattle.trees.specs.Sizes as Sizes
 use Rattle.meaning.specs.Numbering as Numbering
 use Rattle.meaning.specs.Outcome as Outcome
 use Rattle.meaning.specs.Qtl as Qtl
@@ -52,5 +51,5 @@ answers =
     []
 
 pub listing : output input ≡ answers
-unfolding input answers Numeral.digits Numeral.numeral Format.spaced Format.text Answers.wordLine Answers.noStart Answers.answered Answers.answerLine Reading.numbersFrom Reading.rowWith Reading.eventWith Reading.sizesWith Reading.candidate Reading.allFit Reading.allZero Reading.rightLine Reading.sameBytes Reading.lineOf Output.silent Output.tellBad Output.tellSizes Output.tellRow Output.startReply Output.valuesAsked Output.begins Output.due Output.judged Output.tellEvent Output.eventOf Output.tell Output.told Output.lastLine Output.linesFrom Output.output Bits.put Bits.number Bits.drop Bits.drops Tree.eval Tree.same Tree.mk Tree.leaf Tree.treeFrom Tree.treeOf Tree.isOn Table.mem Table.push Table.addTree Table.addTrees Table.at Table.find Table.refOf Table.show Table.nodeAt Table.treesOf Kept.allBelow Kept.above Kept.nodeRight Kept.equalNodes Kept.sameTrees Kept.levels Kept.zerosFrom Kept.diagrams Kept.wellKept Sizes.sizesOf Sizes.sameNumbers Sizes.sizesRight Qtl.freeArguments Qtl.free Rows.field Rows.uses Rows.useOf Rows.fieldRight Rows.pairsUsed Rows.pairRight Rows.rowRight Rows.disagree Rows.rowFault Rows.argumentAt Rows.ofKind Rows.rowAt Rows.rowsUpTo Rows.rowCount Rows.ruleOf Rows.follow Rows.formulasFrom Rows.formulas Rows.formulaAt Rows.closed Rows.firstBelow Rows.judgeRows Rows.checkRows Numbering.place Numbering.listed Numbering.noted Numbering.ask Numbering.repeats Numbering.fits Numbering.askArguments Numbering.askRow Numbering.askRows Numbering.askFacts Step.argumentsSay Step.factSays Step.atomSays Step.rowSays Step.saysAt Step.rowTree Step.rowTrees Step.fresh Step.step Step.removals Step.removed Step.turns Step.atomTurns Step.counted Step.roomOf Tables.most Tables.part Tables.listOf Tables.read Tables.padded Tables.layValues Tables.keptTable Tables.layNodes Tables.layState Tables.freeLevel Tables.distinct Tables.listRight Tables.wellFormed Outcome.kRight Outcome.capacity Outcome.nodesRight Outcome.valuesRight Outcome.workSize Outcome.cleared Outcome.factOf Outcome.given Outcome.factsOf Outcome.agrees Outcome.allAgree Outcome.factRight Outcome.allRight Outcome.countRight Outcome.shortest Outcome.judgeStart Outcome.judgeEvent Outcome.stateOf Outcome.settleStart Outcome.decideStart Outcome.startOutcome Outcome.shows Outcome.decideEvent Outcome.verdictOf Outcome.settleEvent Outcome.eventOutcome Outcome.runs Outcome.answers Outcome.machineOf
+unfolding input answers Numeral.digits Numeral.numeral Format.spaced Format.text Answers.wordLine Answers.noStart Answers.answered Answers.answerLine Reading.numbersFrom Reading.rowWith Reading.eventWith Reading.sizesWith Reading.candidate Reading.allFit Reading.allZero Reading.rightLine Reading.sameBytes Reading.lineOf Output.silent Output.tellBad Output.tellSizes Output.tellRow Output.startReply Output.valuesAsked Output.begins Output.due Output.judged Output.tellEvent Output.eventOf Output.tell Output.told Output.lastLine Output.linesFrom Output.output Bits.put Bits.number Bits.drop Bits.drops Tree.eval Tree.same Tree.mk Tree.leaf Tree.treeFrom Tree.treeOf Tree.isOn Table.mem Table.push Table.addTree Table.addTrees Table.at Table.find Table.refOf Table.show Table.nodeAt Table.treesOf Kept.allBelow Kept.above Kept.nodeRight Kept.equalNodes Kept.sameTrees Kept.levels Kept.zerosFrom Kept.diagrams Kept.wellKept Qtl.freeArguments Qtl.free Rows.field Rows.uses Rows.useOf Rows.fieldRight Rows.pairsUsed Rows.pairRight Rows.rowRight Rows.disagree Rows.rowFault Rows.argumentAt Rows.ofKind Rows.rowAt Rows.rowsUpTo Rows.rowCount Rows.ruleOf Rows.follow Rows.formulasFrom Rows.formulas Rows.formulaAt Rows.closed Rows.firstBelow Rows.judgeRows Rows.checkRows Numbering.place Numbering.listed Numbering.noted Numbering.ask Numbering.repeats Numbering.fits Numbering.askArguments Numbering.askRow Numbering.askRows Numbering.askFacts Step.argumentsSay Step.factSays Step.atomSays Step.rowSays Step.saysAt Step.rowTree Step.rowTrees Step.fresh Step.step Step.removals Step.removed Step.turns Step.atomTurns Step.counted Step.roomOf Tables.most Tables.part Tables.listOf Tables.read Tables.padded Tables.layValues Tables.keptTable Tables.layNodes Tables.layState Tables.freeLevel Tables.distinct Tables.listRight Tables.wellFormed Outcome.kRight Outcome.capacity Outcome.nodesRight Outcome.valuesRight Outcome.workSize Outcome.cleared Outcome.factOf Outcome.given Outcome.factsOf Outcome.agrees Outcome.allAgree Outcome.factRight Outcome.allRight Outcome.countRight Outcome.shortest Outcome.judgeStart Outcome.judgeEvent Outcome.stateOf Outcome.settleStart Outcome.decideStart Outcome.startOutcome Outcome.shows Outcome.decideEvent Outcome.verdictOf Outcome.settleEvent Outcome.eventOutcome Outcome.runs Outcome.answers Outcome.machineOf
 listing = refl

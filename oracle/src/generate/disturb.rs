@@ -2,12 +2,13 @@
 
 use crate::case::{Begin, Case};
 use crate::event::State;
+use crate::numbering::{is_taken, numbers, parts, WORDS};
 use crate::random::Random;
 use crate::rows::{Rule, VARIABLES};
 use crate::sizes::led_to;
 use crate::well_formed::{broken, Clause};
 
-pub const CLAUSES: [Clause; 19] = [
+pub const CLAUSES: [Clause; 20] = [
     Clause::RowCount,
     Clause::MoreKeptThanNodes,
     Clause::RowReferencePastKept,
@@ -25,7 +26,8 @@ pub const CLAUSES: [Clause; 19] = [
     Clause::SizePastRows,
     Clause::NodeRest,
     Clause::ValueCount,
-    Clause::ValueRest,
+    Clause::BitPastNumbers,
+    Clause::FreeEntry,
     Clause::ValueTwice,
 ];
 
@@ -48,12 +50,8 @@ pub fn disturb(random: &mut Random, case: &Case, clause: Clause) -> Option<Case>
         Clause::SizePastRows => {
             *past_rows(random, &mut state.sizes, state.rows)? = random.number().max(1);
         }
-        Clause::ValueCount => {
-            let most = case.values.len() / VARIABLES;
-            state.counts[random.below(VARIABLES)] = above(random, most as u32);
-        }
-        Clause::ValueRest | Clause::ValueTwice => {
-            disturb_values(random, &state, &mut disturbed.values, clause)?;
+        Clause::ValueCount | Clause::BitPastNumbers | Clause::FreeEntry | Clause::ValueTwice => {
+            disturb_values(random, &mut state, &mut disturbed.values, clause)?;
         }
         _ => disturb_nodes(random, &mut state, &mut disturbed.nodes, clause)?,
     }
@@ -113,23 +111,50 @@ fn above(random: &mut Random, number: u32) -> u32 {
 
 fn disturb_values(
     random: &mut Random,
-    state: &State,
+    state: &mut State,
     values: &mut [u32],
     clause: Clause,
 ) -> Option<()> {
-    let most = values.len() / VARIABLES;
-    let variable = random.below(VARIABLES);
-    let (list, rest) = values[variable * most..(variable + 1) * most]
-        .split_at_mut(state.counts[variable] as usize);
-    if clause == Clause::ValueRest {
-        let place = random.below(rest.len().max(1));
-        *rest.get_mut(place)? = random.number().max(1);
-    } else {
-        if list.len() < 2 {
-            return None;
+    let (variable, all) = (random.below(VARIABLES), numbers(state.k));
+    let (entries, words) = parts(state.k, values, variable);
+    let (taken, free): (Vec<usize>, Vec<usize>) =
+        (0..all).partition(|&number| is_taken(words, number));
+    let of_nothing = !taken.iter().any(|&number| entries[number] == 0);
+    let (first, bits) = (variable * all, VARIABLES * all + variable * WORDS);
+    let some =
+        |random: &mut Random, from: &[usize]| from.get(random.below(from.len().max(1))).copied();
+    match (clause, random.below(3)) {
+        // The bit of a free number is set, whose value is then 0.
+        (Clause::ValueCount, 0) if of_nothing => {
+            let number = some(random, &free)?;
+            values[bits + number / 32] |= 1 << (number % 32);
         }
-        let place = random.between(1, list.len() - 1);
-        list[place] = list[random.below(place)];
+        (Clause::ValueCount, 1) => state.counts[variable] = random.number(),
+        (Clause::ValueCount, _) => {
+            let count = state.counts[variable];
+            state.counts[variable] = *random.pick(&[count.checked_sub(1)?, count + 1]);
+        }
+        (Clause::BitPastNumbers, 0) => {
+            values[bits + all / 32] |= 1 << (all % 32);
+        }
+        (Clause::BitPastNumbers, _) => {
+            let number = random.between(all, 32 * WORDS - 1);
+            values[bits + number / 32] |= 1 << (number % 32);
+        }
+        // A taken number loses its bit, and its value stays.
+        (Clause::FreeEntry, 0) => {
+            let number = some(random, &taken)?;
+            values[bits + number / 32] &= !(1 << (number % 32));
+            state.counts[variable] -= 1;
+        }
+        (Clause::FreeEntry, _) => {
+            let number = some(random, &free)?;
+            values[first + number] = random.number().max(1);
+        }
+        _ => {
+            let (one, other) = (some(random, &taken)?, some(random, &taken)?);
+            values[first + one] = values[first + other];
+        }
     }
     Some(())
 }

@@ -3,9 +3,9 @@
 use crate::event::State;
 use crate::generate::events::pool;
 use crate::layout::lay_out;
-use crate::numbering::{numbers, Lists};
+use crate::numbering::{numbers, value_length, Lists};
 use crate::random::Random;
-use crate::rows::{Rule, VARIABLES};
+use crate::rows::Rule;
 use crate::sizes::sizes;
 use crate::table::{Shape, Table};
 
@@ -37,7 +37,7 @@ pub fn state(random: &mut Random, k: u32, rule: &Rule, most: usize) -> Option<Ma
         return None;
     }
     let lists = lists(random, k);
-    let mut values = vec![0; VARIABLES * numbers(k)];
+    let mut values = vec![0; value_length(k)];
     lists.write(k, &mut values);
     let mut state = State {
         k,
@@ -95,16 +95,26 @@ fn sparse(random: &mut Random, shape: &Shape, rule: &Rule, row: usize) -> Table 
     Table((0..shape.size()).map(entry).collect())
 }
 
-/// Lists of any lengths, often full or one short of it.
+/// Lists of any lengths, often full or one short of it, half of them with holes.
 fn lists(random: &mut Random, k: u32) -> Lists {
     let most = numbers(k);
     Lists(std::array::from_fn(|_| {
-        let length = match random.below(5) {
+        let count = match random.below(5) {
             0 => most,
             1 => most - 1,
             2 => 0,
             _ => random.between(0, most.min(6)),
         };
-        pool(random, length)
+        let mut places: Vec<usize> = (0..most).collect();
+        if random.once_in(2) {
+            for last in (1..most).rev() {
+                places.swap(last, random.below(last + 1));
+            }
+        }
+        let mut list = vec![None; most];
+        for (place, value) in places.into_iter().zip(pool(random, count)) {
+            list[place] = Some(value);
+        }
+        list
     }))
 }

@@ -55,6 +55,8 @@ pub struct After {
     pub state: Option<State>,
     pub nodes: Option<Vec<u32>>,
     pub values: Option<Vec<u32>>,
+    /// The taken numbers of each variable.
+    pub taken: Option<Vec<Vec<u32>>>,
     pub work: Option<Vec<u32>>,
 }
 

@@ -2,6 +2,7 @@
 
 use super::{After, Doing, Lent, Step, Written};
 use crate::event::{Answer, Event, Fact, State};
+use crate::numbering::WORDS;
 use crate::rows::{FIELDS, VARIABLES};
 
 /// Numbers by their names, as `kept 4, counts 1 2`.
@@ -16,7 +17,33 @@ pub fn read(text: &str) -> Result<Vec<Written>, String> {
         }
     }
     cases.iter().try_for_each(whole)?;
+    cases.iter_mut().try_for_each(mark_taken)?;
     Ok(cases)
+}
+
+/// Sets the bits of the taken numbers in the value slices. Without a line they are the first ones, as many as the counts say.
+fn mark_taken(case: &mut Written) -> Result<(), String> {
+    let listed = case.lent.values.saturating_sub(VARIABLES * WORDS);
+    for Step { line, after, .. } in &mut case.steps {
+        let Some(values) = &mut after.values else {
+            if after.taken.is_some() {
+                return Err(format!("{line}: taken numbers stand with values"));
+            }
+            continue;
+        };
+        let counts = after.state.map_or([0; VARIABLES], |state| state.counts);
+        let most = (listed / VARIABLES) as u32;
+        let first = || counts.map(|count| (0..count.min(most)).collect());
+        let taken = after.taken.take().unwrap_or_else(|| first().to_vec());
+        for (variable, numbers) in taken.iter().enumerate() {
+            for &number in numbers {
+                let place = listed + variable * WORDS + number as usize / 32;
+                let word = values.get_mut(place).ok_or("a taken number has no word")?;
+                *word |= 1 << (number % 32);
+            }
+        }
+    }
+    Ok(())
 }
 
 /// Adds a line to the cases so far.
@@ -61,11 +88,13 @@ fn after(case: &mut Written, word: &str, rest: &str) -> Result<(), String> {
         "state" => once(&mut after.state, state(rest)?),
         "nodes" => once(&mut after.nodes, filled(grouped(rest, 3)?, lent.nodes)?),
         "values" => {
-            let each = lent.values / VARIABLES;
-            once(
-                &mut after.values,
-                filled(grouped(rest, each)?, lent.values)?,
-            )
+            let listed = lent.values.saturating_sub(VARIABLES * WORDS);
+            let entries = filled(grouped(rest, listed / VARIABLES)?, listed)?;
+            once(&mut after.values, filled(entries, lent.values)?)
+        }
+        "taken" => {
+            let groups: Result<Vec<Vec<u32>>, String> = rest.split(';').map(numbers).collect();
+            once(&mut after.taken, groups?)
         }
         "work" => match numbers(rest)? {
             first if first.len() <= lent.work => once(&mut after.work, first),

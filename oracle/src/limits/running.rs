@@ -4,6 +4,7 @@ use super::{Doing, Lent, Written};
 use crate::compare::{difference, Left};
 use crate::event::{Answer, State};
 use crate::monitor::Monitor;
+use crate::numbering::Lists;
 
 /// How many numbers stand past the end of a slice, where no call may write.
 const PAST: usize = 16;
@@ -19,11 +20,14 @@ pub fn run(case: &Written, monitor: &mut dyn Monitor) -> Result<usize, String> {
             now = wanted;
             continue;
         }
-        // What an event newly numbered is told by the counts that are written.
-        let counts = wanted.state.counts;
+        // What an event newly numbered is told by the values that are written.
         if let Answer::Verdict { numbered, .. } = &mut wanted.answer {
-            *numbered =
-                std::array::from_fn(|variable| counts[variable] - now.state.counts[variable]);
+            let lists =
+                [&now.values, &wanted.values].map(|values| Lists::read(now.state.k, values));
+            *numbered = std::array::from_fn(|variable| {
+                let after: Vec<u32> = lists[1].values(variable).collect();
+                lists[0].missing(variable, &after) as u32
+            });
         }
         let differs = |what| format!("{}: {}: {what}", step.line, case.name);
         let left = called(case, &now, &step.doing, monitor).map_err(differs)?;

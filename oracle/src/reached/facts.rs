@@ -2,7 +2,7 @@
 
 use crate::coverage::Coverage;
 use crate::event::{Answer, Event, Fact, MOST_FACTS};
-use crate::numbering::Lists;
+use crate::numbering::{ask, asked, Asked, Lists};
 use crate::refusals::unfit;
 use crate::rows::{Rule, VARIABLES};
 
@@ -30,11 +30,8 @@ pub fn refused(coverage: &mut Coverage, rule: &Rule, k: u32, lists: &Lists, even
     if facts.iter().any(other_count) {
         coverage.add("event refused 5, two counts of one predicate");
     }
-    if lists
-        .asked(rule, &Event { facts: right })
-        .short(k)
-        .is_some()
-    {
+    let asked = asked(rule, &Event { facts: right });
+    if lists.short(k, &asked).is_some() {
         coverage.add("event refused 5, numbers short too");
     }
 }
@@ -59,28 +56,31 @@ pub fn taken(coverage: &mut Coverage, rule: &Rule, lists: &Lists, event: &Event)
     if facts.iter().enumerate().any(equal) {
         coverage.add("equal facts");
     }
-    let after = lists.asked(rule, event);
-    if after != rows_first(lists, rule, event) {
+    let (in_order, rows_first) = (asked(rule, event), rows_first(rule, event));
+    let mut given = [lists.clone(), lists.clone()];
+    given[0].give(&in_order);
+    given[1].give(&rows_first);
+    if given[0] != given[1] {
         coverage.add("numbers that go out otherwise where rows come before facts");
     }
-    numbers_asked(coverage, lists, &after, facts.len());
+    numbers_asked(coverage, lists, &in_order, facts.len());
 }
 
-/// The lists that a walk leaves which goes over the facts within each row.
-fn rows_first(lists: &Lists, rule: &Rule, event: &Event) -> Lists {
-    let mut lists = lists.clone();
+/// What a walk asks that goes over the facts within each row.
+fn rows_first(rule: &Rule, event: &Event) -> Asked {
+    let mut asked = Asked::default();
     for row in &rule.rows {
         for fact in &event.facts {
-            lists.ask(row, fact);
+            ask(&mut asked, row, fact);
         }
     }
-    lists
+    asked
 }
 
 /// How many numbers an event of so many facts asks one variable.
-fn numbers_asked(coverage: &mut Coverage, before: &Lists, after: &Lists, facts: usize) {
+fn numbers_asked(coverage: &mut Coverage, before: &Lists, asked: &Asked, facts: usize) {
     for variable in 0..VARIABLES {
-        let asked = after.0[variable].len() - before.0[variable].len();
+        let asked = before.missing(variable, &asked[variable]);
         match (facts, asked) {
             (1, 2) => coverage.add("one fact asks one variable two numbers"),
             (1, 3) => coverage.add("one fact asks one variable three numbers"),

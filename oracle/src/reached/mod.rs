@@ -1,10 +1,11 @@
 //! Which names of the coverage one call reached.
 
 pub mod facts;
+mod freed;
 
 use crate::coverage::Coverage;
 use crate::event::{Answer, Event, Fact, State, MOST_FACTS};
-use crate::numbering::{numbers, Lists};
+use crate::numbering::{asked, numbers, value_length, Lists};
 use crate::refusals::{unfit, work_used};
 use crate::rows::{Row, Rule, FIELDS, MOST_ROWS, VARIABLES};
 use crate::well_formed::{broken, Clause};
@@ -110,7 +111,7 @@ fn slice_refusal(coverage: &mut Coverage, handed: &Handed, k: u32) {
     let count = handed.nodes.len() / 3;
     if !handed.nodes.len().is_multiple_of(3) || !(1..=4096).contains(&count) {
         coverage.add("event refused 3, node slice");
-    } else if handed.values.len() != VARIABLES * numbers(k) {
+    } else if handed.values.len() != value_length(k) {
         coverage.add("event refused 3, value slice");
     } else if handed.work.len() + 1 == work_used(handed.nodes) {
         coverage.add("event refused 3, work slice one short");
@@ -129,7 +130,7 @@ fn past_slices(
     if let Answer::Refused { number: 4, .. } = answer {
         return misfit(coverage, handed, state, rule, event);
     }
-    let before = Lists::read(state.k, &state.counts, handed.values);
+    let before = Lists::read(state.k, handed.values);
     if let Answer::Refused { number: 5, .. } = answer {
         return facts::refused(coverage, rule, state.k, &before, event);
     }
@@ -137,17 +138,18 @@ fn past_slices(
     if event.facts.iter().any(past) {
         coverage.add("values past the count that are not 0");
     }
-    let after = before.asked(rule, event);
+    let asks = asked(rule, event);
     let asked: Vec<usize> = (0..VARIABLES)
-        .map(|variable| after.0[variable].len() - before.0[variable].len())
+        .map(|variable| before.missing(variable, &asks[variable]))
         .collect();
     match answer {
         Answer::Refused { number: 6, place } => {
             coverage.add(&format!("event refused 6, variable {place}"));
-            let short = after.0.iter().filter(|list| list.len() > numbers(state.k));
-            if short.count() > 1 {
+            let lacks = |&variable: &usize| before.lacks(state.k, variable, &asks[variable]);
+            if (0..VARIABLES).filter(lacks).count() > 1 {
                 coverage.add("event refused 6, two variables short");
             }
+            freed::refused(coverage, handed, state, rule, &before, &asks);
         }
         Answer::Refused { .. } => {
             coverage.add("event refused 7");
@@ -157,8 +159,10 @@ fn past_slices(
         }
         _ => {
             facts::taken(coverage, rule, &before, event);
-            let mut given = asked.iter().zip(&after.0);
-            if given.any(|(&count, list)| count > 0 && list.len() == numbers(state.k)) {
+            let counts = before.counts();
+            let mut given = asked.iter().zip(counts);
+            if given.any(|(&asked, count)| asked > 0 && asked + count as usize == numbers(state.k))
+            {
                 coverage.add("last number given out");
             }
         }
@@ -174,13 +178,15 @@ fn misfit(coverage: &mut Coverage, handed: &Handed, state: &State, rule: &Rule, 
     {
         return;
     }
-    let before = Lists::read(state.k, &state.counts, handed.values);
+    let before = Lists::read(state.k, handed.values);
     if event.facts.len() > MOST_FACTS || event.facts.iter().any(|fact| unfit(rule, fact)) {
         coverage.add("event refused 4, a size alone, facts unfit too");
-    } else if before.asked(rule, event).short(state.k).is_some() {
+    } else if before.short(state.k, &asked(rule, event)).is_some() {
         coverage.add("event refused 4, a size alone, numbers short too");
     }
 }
+
+pub use freed::taken as forgotten;
 
 /// The sizes that a verdict left.
 pub fn sizes(coverage: &mut Coverage, left: &State) {

@@ -2,8 +2,8 @@
 
 use oracle::event::{Answer, Event, Fact, Found, State, MOST_FACTS};
 use oracle::monitor::{event, look_up, start, Monitor};
-use oracle::numbering::Lists;
-use oracle::refusals::{at_event, at_start, unfit, work_used};
+use oracle::numbering::{asked, numbers, Asked, Lists};
+use oracle::refusals::{at_event, at_start, in_state, spared, unfit, work_used};
 use oracle::rows::{Rule, FIELDS};
 use oracle::well_formed::{broken, Clause};
 
@@ -26,8 +26,18 @@ struct Call<'a> {
 }
 
 impl Call<'_> {
-    fn lists(&self) -> Lists {
-        Lists::read(self.state.k, &self.state.counts, self.values)
+    /// The lists after what an event frees, and what it asks.
+    fn spared(&self, rule: &Rule, event: &Event) -> (Lists, Asked) {
+        let asks = asked(rule, event);
+        let before = Lists::read(self.state.k, self.values);
+        let lists = spared(self.state, rule, self.nodes, &before, &asks);
+        (lists, asks)
+    }
+
+    /// The variable that is short of numbers for an event.
+    fn short(&self, rule: &Rule, event: &Event) -> Option<u32> {
+        let (lists, asks) = self.spared(rule, event);
+        lists.short(self.state.k, &asks)
     }
 }
 
@@ -108,9 +118,34 @@ impl Monitor for Mutant {
             }
             (Fault::NumberGivenByRefusedEvent, Answer::Refused { number: 7, .. }) => {
                 let rule = Rule::read(rows).expect("refusal 2 was not given");
-                let lists = Lists::read(state.k, &state.counts, values).asked(&rule, facts);
+                if let Ok((_, lists)) = in_state(&state, &rule, nodes, values, facts) {
+                    lists.write(state.k, values);
+                    next.counts = lists.counts();
+                }
+            }
+            (Fault::FreedByRefusedEvent, Answer::Refused { number: 6 | 7, .. }) => {
+                let rule = Rule::read(rows).expect("refusal 2 was not given");
+                let before = Lists::read(state.k, values);
+                let lists = spared(&state, &rule, nodes, &before, &asked(&rule, facts));
                 lists.write(state.k, values);
                 next.counts = lists.counts();
+            }
+            (Fault::FreedEntryLeft, Answer::Verdict { .. }) => {
+                let entries = 4 * numbers(state.k);
+                for (entry, held) in values[..entries].iter_mut().zip(&held.1) {
+                    if *entry == 0 {
+                        *entry = *held;
+                    }
+                }
+            }
+            (Fault::FreedBitLeft, Answer::Verdict { .. }) => {
+                let entries = 4 * numbers(state.k);
+                for (word, held) in values.iter_mut().zip(&held.1).skip(entries) {
+                    *word |= *held;
+                }
+            }
+            (Fault::NumberedByCounts, Answer::Verdict { numbered, .. }) => {
+                *numbered = std::array::from_fn(|v| next.counts[v].saturating_sub(state.counts[v]));
             }
             (Fault::UnknownPredicateSkipped, Answer::Verdict { .. }) => {
                 let rule = Rule::read(rows).expect("refusal 2 was not given");
@@ -157,8 +192,8 @@ impl Monitor for Mutant {
             (Fault::LookupInAnotherList, Found::Has(_) | Found::OneLeft | Found::NoneLeft) => {
                 look_up(state, values, variable ^ 1, value)
             }
-            // Where the rest is 0, so is the value that is found.
-            (Fault::LookupPastTheCount, Found::OneLeft) if value == 0 => {
+            // A free entry is 0, and so is the value that is found.
+            (Fault::LookupOfFreeNumber, Found::OneLeft) if value == 0 => {
                 Found::Has(state.counts[variable as usize])
             }
             _ => found,
@@ -200,7 +235,7 @@ impl Mutant {
                 let kept = stepped.nodes.len().min(nodes.len());
                 nodes[..kept].copy_from_slice(&stepped.nodes[..kept]);
                 let mut lists = stepped.lists;
-                let most = values.len() / lists.0.len();
+                let most = numbers(state.k);
                 lists.0.iter_mut().for_each(|list| list.truncate(most));
                 lists.write(state.k, values);
                 (stepped.state, stepped.answer)
@@ -256,23 +291,18 @@ impl Mutant {
                 for fact in &mut short.facts {
                     fact.count = fact.count.min(3);
                 }
-                let lists = call.lists().asked(&rule, &short);
-                let variable = lists.short(call.state.k)?;
-                refused(6, variable)
+                refused(6, call.short(&rule, &short)?)
             }
             (Fault::FactsJudgedOneByOne, 5, Ok(rule)) => {
                 let right = |fact: &&Fact| !unfit(&rule, fact);
                 let facts = call.event.facts.iter().take(MOST_FACTS);
                 let facts = facts.take_while(right).copied().collect();
-                let lists = call.lists().asked(&rule, &Event { facts });
-                let variable = lists.short(call.state.k)?;
-                refused(6, variable)
+                refused(6, call.short(&rule, &Event { facts })?)
             }
             (Fault::HighestShortVariableNamed, 6, Ok(rule)) => {
-                let lists = call.lists().asked(&rule, call.event);
-                let most = call.values.len() / lists.0.len();
-                let highest = lists.0.iter().rposition(|list| list.len() > most)?;
-                refused(6, highest as u32)
+                let (lists, asks) = call.spared(&rule, call.event);
+                let lacks = |&v: &usize| lists.lacks(call.state.k, v, &asks[v]);
+                refused(6, (0..4).rev().find(lacks)? as u32)
             }
             (Fault::ShortWorkTaken, 3, _) => {
                 let right = at_start(call.state.k, call.rows, call.nodes, call.values);

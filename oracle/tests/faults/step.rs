@@ -36,10 +36,12 @@ impl Step<'_> {
         if self.fault != Fault::UnlistedAllAlike {
             return before.collect();
         }
+        let lists = Lists::read(self.state.k, self.values);
         let as_reserved = |index: usize| {
             let mut other = index;
             for &variable in &shape.variables {
-                if shape.number_at(index, variable) >= self.state.counts[variable] as usize {
+                let number = shape.number_at(index, variable);
+                if lists.value_at(variable, number).is_none() {
                     (0..shape.k).for_each(|b| other |= 1 << shape.place(variable, b));
                 }
             }
@@ -144,9 +146,10 @@ impl Step<'_> {
     /// Where all the row's free variables have listed numbers.
     fn listed(&self, shape: &Shape, lists: &Lists, variables: &[usize]) -> Table {
         let at = |index: usize| {
-            variables
-                .iter()
-                .all(|&variable| shape.number_at(index, variable) < lists.0[variable].len())
+            variables.iter().all(|&variable| {
+                let number = shape.number_at(index, variable);
+                lists.value_at(variable, number).is_some()
+            })
         };
         Table((0..shape.size()).map(|index| u8::from(at(index))).collect())
     }
@@ -264,7 +267,8 @@ impl Step<'_> {
                 kept: state.kept,
                 room,
                 numbered: std::array::from_fn(|v| {
-                    state.counts[v].wrapping_sub(self.state.counts[v])
+                    let after: Vec<u32> = lists.values(v).collect();
+                    Lists::read(self.state.k, self.values).missing(v, &after) as u32
                 }),
             },
             nodes,

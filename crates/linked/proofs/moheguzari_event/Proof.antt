@@ -3,7 +3,7 @@
 use Prim.{tt}
 use mathlib.Core.Path.{_∙_}
 use Rattle.monitor.specs.Said.{whole, turnOf}
-use Rattle.linked.proofs.PackingLaws.{state-read, four-counts, many-references, many-sizes}
+use Rattle.linked.proofs.PackingLaws.{state-read, four-counts, many-references}
 use Rattle.linked.proofs.CallLaws.{other-state, other-answer, other-facts, whole-facts, event-not-made, event-made}
 use Rattle.linked.proofs.moheguzari_event.Statement.{statement}
 use Rattle.linked.proofs.moheguzari_event.Tie as tie
@@ -23,37 +23,31 @@ figures-requires c κs = c .before .before .if2 .left
 references-requires : tie.Need-references-requires
 references-requires c κs = c .before .before .before .before .if2 .left
 
-sizes-requires : tie.Need-sizes-requires
-sizes-requires c κs = c .before .before .before .before .before .before .if2 .left
-
 event-requires : tie.Need-event-requires
 event-requires c κs = tt
 
 event-on-requires : tie.Need-event-on-requires
 event-on-requires c κs =
-    let h = c .before .before .before .before .before .before .before .before .before .before .before .before .before .if2 .left in (
-      four-counts _ _ h (c .before .before .before .before .before .before .before .before .before .before .figures .ensures),
-      many-references _ _ h (c .before .before .before .before .before .before .before .before .references .ensures),
-      many-sizes _ _ h (c .before .before .before .before .before .before .sizes .ensures),
-    )
+    let h = c .before .before .before .before .before .before .before .before .before .before .if2 .left in
+    (four-counts _ _ h (c .before .before .before .before .before .before .before .figures .ensures), many-references _ _ h (c .before .before .before .before .before .references .ensures))
 
 pack-requires : tie.Need-pack-requires
-pack-requires c κs = c .before .before .before .before .before .before .before .before .before .before .before .before .before .before .before .before .before .before .before .before .before .before .if2 .left
+pack-requires c κs = c .before .before .before .before .before .before .before .before .before .before .before .before .before .before .before .before .before .before .before .if2 .left
 
 put-requires : tie.Need-put-requires
-put-requires c κs = c .before .before .before .before .before .before .before .before .before .before .before .before .before .before .before .before .before .before .before .before .before .before .before .before .before .before .if3 .left
+put-requires c κs = c .before .before .before .before .before .before .before .before .before .before .before .before .before .before .before .before .before .before .before .before .before .before .before .if3 .left
 
 same-length : tie.Need-same-length
-same-length c = c .before .before .before .before .before .before .before .before .before .before .before .before .before .before .before .before .event-on .kept .1 .1 .1 .1 .0
+same-length c = c .before .before .before .before .before .before .before .before .before .before .before .before .before .before .before .before .event-on .kept .1 .1 .1 .0
 
 same-length-2 : tie.Need-same-length-2
-same-length-2 c = c .before .before .before .before .before .before .before .before .before .before .before .before .before .before .before .before .event-on .kept .1 .1 .1 .1 .1 .0
+same-length-2 c = c .before .before .before .before .before .before .before .before .before .before .before .before .before .before .before .before .event-on .kept .1 .1 .1 .1 .0
 
 same-length-3 : tie.Need-same-length-3
-same-length-3 c = c .before .before .before .before .before .before .before .before .before .before .before .before .before .before .before .before .event-on .kept .1 .1 .1 .1 .1 .1 .0
+same-length-3 c = c .before .before .before .before .before .before .before .before .before .before .before .before .before .before .before .before .event-on .kept .1 .1 .1 .1 .1 .0
 
 same-length-4 : tie.Need-same-length-4
-same-length-4 c = c .before .before .before .before .before .before .before .pack .kept .1 .1 .1 .0
+same-length-4 c = c .before .before .before .before .before .before .before .pack .kept .1 .1 .0
 
 same-length-5 : tie.Need-same-length-5
 same-length-5 c = c .before .before .put .kept .1 .1 .1 .1 .0
@@ -63,15 +57,14 @@ returns-4 c =
     let put = c .before .before in
     let packed = put .before .before .before .before .before in
     let said = packed .before .before .before .before .before .before .before .before .before in
-    let happening = said .before .before .before .before .before .before in
-    let sizes = happening .before in
-    let refs = sizes .before .before in
+    let happening = said .before .before .before .before .before in
+    let refs = happening .before in
     let before = refs .before .before in
     let answer = before .before .before in
     let state = answer .before in
     let facts = state .before in
-    event-made _ _ _ _ _ _ _ (whole (before .figures .result) (refs .references .result) (sizes .sizes .result)) _ (turnOf (said .event-on .result) (said .event-on .last .1 .0) (said .event-on .last .1 .1 .0)) _ _ _ _ _ _ _ _
-    (facts .if1 .left) (state .if2 .left) (answer .if3 .left) (state-read _ _ _ _ (before .figures .ensures) (refs .references .ensures) (sizes .sizes .ensures)) (happening .event .ensures)
+    event-made _ _ _ _ _ _ _ (whole (before .figures .result) (refs .references .result)) _ (turnOf (said .event-on .result) (said .event-on .last .1 .0)) _ _ _ _ _ _ _ _
+    (facts .if1 .left) (state .if2 .left) (answer .if3 .left) (state-read _ _ _ (before .figures .ensures) (refs .references .ensures)) (happening .event .ensures)
     (said .event-on .ensures .0) (said .event-on .ensures .1 .0) (said .event-on .ensures .1 .1) (packed .pack .ensures) (put .put .ensures)
 
 pub moheguzari-event-spec : {M : Type 1} → statement M
@@ -83,7 +76,6 @@ moheguzari-event-spec =
     returns-3
     figures-requires
     references-requires
-    sizes-requires
     event-requires
     event-on-requires
     pack-requires

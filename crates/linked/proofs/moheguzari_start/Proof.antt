@@ -14,19 +14,19 @@ start-requires : tie.Need-start-requires
 start-requires c κs = tt
 
 pack-requires : tie.Need-pack-requires
-pack-requires c κs = c .before .before .before .before .before .before .before .before .before .before .before .before .before .if1 .left
+pack-requires c κs = c .before .before .before .before .before .before .before .before .before .before .before .before .if1 .left
 
 put-requires : tie.Need-put-requires
-put-requires c κs = c .before .before .before .before .before .before .before .before .before .before .before .before .before .before .before .before .if2 .left
+put-requires c κs = c .before .before .before .before .before .before .before .before .before .before .before .before .before .before .before .if2 .left
 
 same-length : tie.Need-same-length
-same-length c = c .before .before .before .before .before .before .before .before .before .before .before .before .before .before .before .before .start .kept .1 .1 .0
+same-length c = c .before .before .before .before .before .before .before .before .before .before .before .before .before .before .before .start .kept .1 .1 .0
 
 same-length-2 : tie.Need-same-length-2
-same-length-2 c = c .before .before .before .before .before .before .before .before .before .before .before .before .before .before .before .before .start .kept .1 .1 .1 .0
+same-length-2 c = c .before .before .before .before .before .before .before .before .before .before .before .before .before .before .before .start .kept .1 .1 .1 .0
 
 same-length-3 : tie.Need-same-length-3
-same-length-3 c = c .before .before .before .before .before .before .pack .kept .1 .1 .1 .0
+same-length-3 c = c .before .before .before .before .before .before .pack .kept .1 .1 .0
 
 same-length-4 : tie.Need-same-length-4
 same-length-4 c = c .before .before .put .kept .1 .1 .1 .1 .0
@@ -34,7 +34,7 @@ same-length-4 c = c .before .before .put .kept .1 .1 .1 .1 .0
 returns-3 : tie.Need-returns-3
 returns-3 c =
     let p = c .before .before .before .before .before .before in
-    let m = p .before .before .before .before .before .before .before .before .before .before in
+    let m = p .before .before .before .before .before .before .before .before .before in
     let e = m .before .before .before in
     let s = e .before .before .before .before .before .before .before in
     start-made (s .args .k) (s .args .rows .now) (s .args .nodes .now) (s .args .values .now) (s .args .state .now) (s .args .answer .now) (m .start .result) _ _ _ _

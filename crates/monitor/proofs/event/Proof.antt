@@ -1,4 +1,4 @@
--- `monitor::event` meets its contract: it is an event on the state's own references and sizes. Assumes nothing.
+-- `monitor::event` meets its contract: it is an event on the state's own references. Assumes nothing.
 use mathlib.Core.Path.{sym, _∙_}
 use lib.ListN.{length-map}
 use borrow.Author.Needs.{needs}
@@ -7,11 +7,8 @@ use Rattle.monitor.proofs.event.Tie as tie
 
 event-on-requires : tie.Need-event-on-requires
 event-on-requires c κs =
-    let s = c .before .before .before .before .before .before .before .before .before .before .before .before in (
-      sym (length-map (s .args .state .counts) _) ∙ s .good .0 .1 .1 .1 .1 .1 .0 .1 .0 .1,
-      sym (length-map (s .args .state .refs) _) ∙ s .good .0 .1 .1 .1 .1 .1 .1 .0 .1 .0 .1,
-      sym (length-map (s .args .state .sizes) _) ∙ s .good .0 .1 .1 .1 .1 .1 .1 .1 .0 .1 .0 .1,
-    )
+    let s = c .before .before .before .before .before .before .before .before .before .before in
+    (sym (length-map (s .args .state .counts) _) ∙ s .good .0 .1 .1 .1 .1 .1 .0 .1 .0 .1, sym (length-map (s .args .state .refs) _) ∙ s .good .0 .1 .1 .1 .1 .1 .1 .0 .1 .0 .1)
 
 same-length : tie.Need-same-length
 same-length c = search needs

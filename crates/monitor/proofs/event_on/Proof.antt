@@ -33,8 +33,8 @@ same-length-2 c = search needs
 returns : tie.Need-returns
 returns c =
     let s = c .before .before .before .before .before .before .before .before .before .before .before .before in
-    let m = machine (whole (s .args .figures) (s .args .refs .now) (s .args .sizes .now)) (s .args .nodes .now) (s .args .values .now) (s .args .work .now) in
-    (early _ m _ _ _ (c .before .before .before .before .before .before .before .check .ensures .found) (c .before .before .before .before .judge .ensures) _ _ _ _ _ _ (c .before .before .decision .given .1) (kept-turn _ _ _ _ _ _ _ _ (c .refused .ensures) refl refl) refl refl refl, (kept-looks _ m _ _ _ _ _ (c .refused .ensures), kept-numbers _ m _ _ _ _ _ (c .refused .ensures)))
+    let m = machine (whole (s .args .figures) (s .args .refs .now)) (s .args .nodes .now) (s .args .values .now) (s .args .work .now) in
+    (early _ m _ _ _ (c .before .before .before .before .before .before .before .check .ensures .found) (c .before .before .before .before .judge .ensures) _ _ _ _ _ _ (c .before .before .decision .given .1) (kept-turn _ _ _ _ _ _ (c .refused .ensures) refl) refl refl refl, (kept-looks _ m _ _ _ _ _ (c .refused .ensures), kept-numbers _ m _ _ _ _ _ (c .refused .ensures)))
 
 enum-told : tie.Need-enum-told
 enum-told c = search needs
@@ -58,15 +58,15 @@ returns-2 : tie.Need-returns-2
 returns-2 c =
     let told = c .before .before in
     let s = told .before .before .before .before .before .before .before .before .before .before in
-    let m = machine (whole (s .args .figures) (s .args .refs .now) (s .args .sizes .now)) (s .args .nodes .now) (s .args .values .now) (s .args .work .now) in
-    (too-short _ m _ (passed _ m (s .args .event) _ _ (told .before .before .before .before .before .check .ensures .found) (told .before .before .judge .ensures) (told .enum-told .given .1)) _ _ _ _ (c .before .if1 .taken) (kept-turn _ _ _ _ _ _ _ _ (c .refused2 .ensures) refl refl) refl refl refl, (kept-looks _ m _ _ _ _ _ (c .refused2 .ensures), kept-numbers _ m _ _ _ _ _ (c .refused2 .ensures)))
+    let m = machine (whole (s .args .figures) (s .args .refs .now)) (s .args .nodes .now) (s .args .values .now) (s .args .work .now) in
+    (too-short _ m _ (passed _ m (s .args .event) _ _ (told .before .before .before .before .before .check .ensures .found) (told .before .before .judge .ensures) (told .enum-told .given .1)) _ _ _ _ (c .before .if1 .taken) (kept-turn _ _ _ _ _ _ (c .refused2 .ensures) refl) refl refl refl, (kept-looks _ m _ _ _ _ _ (c .refused2 .ensures), kept-numbers _ m _ _ _ _ _ (c .refused2 .ensures)))
 
 lists-right-requires : tie.Need-lists-right-requires
 lists-right-requires c κs =
     let long = c .before .before in
     let told = long .before in
     let s = told .before .before .before .before .before .before .before .before .before .before in
-    let m = machine (whole (s .args .figures) (s .args .refs .now) (s .args .sizes .now)) (s .args .nodes .now) (s .args .values .now) (s .args .work .now) in
+    let m = machine (whole (s .args .figures) (s .args .refs .now)) (s .args .nodes .now) (s .args .values .now) (s .args .work .now) in
     (sizes _ m (s .args .event) (passed _ m (s .args .event) _ _ (told .before .before .before .before .before .check .ensures .found) (told .before .before .judge .ensures) (told .enum-told .given .1)), (omega arith, omega (arith, long .if1 .left)))
 
 sub-zero : tie.Need-sub-zero
@@ -101,22 +101,22 @@ returns-3 c =
     let long = lists .before .before .before in
     let told = long .before in
     let s = told .before .before .before .before .before .before .before .before .before .before in
-    let m = machine (whole (s .args .figures) (s .args .refs .now) (s .args .sizes .now)) (s .args .nodes .now) (s .args .values .now) (s .args .work .now) in (
-      bad-lists _ m _ (passed _ m (s .args .event) _ _ (told .before .before .before .before .before .check .ensures .found) (told .before .before .judge .ensures) (told .enum-told .given .1)) _ _ _ _ (long .if1 .left) (lists-same (s .args .figures) _ [] _ [] _ _ ∙ sym (lists .lists-right .ensures .0) ∙ not-true _ (test .if2 .taken)) (kept-turn _ _ _ _ _ _ _ _ (c .refused3 .ensures) refl refl) refl refl
+    let m = machine (whole (s .args .figures) (s .args .refs .now)) (s .args .nodes .now) (s .args .values .now) (s .args .work .now) in (
+      bad-lists _ m _ (passed _ m (s .args .event) _ _ (told .before .before .before .before .before .check .ensures .found) (told .before .before .judge .ensures) (told .enum-told .given .1)) _ _ _ _ (long .if1 .left) (lists-same (s .args .figures) _ [] _ _ ∙ sym (lists .lists-right .ensures .0) ∙ not-true _ (test .if2 .taken)) (kept-turn _ _ _ _ _ _ (c .refused3 .ensures) refl) refl refl
           (clears (s .args .nodes .now) _ _ _ _ refl (long .if1 .left) (lists .lists-right .ensures .1) (zero .zero .ensures)),
       (kept-looks _ m _ _ _ _ _ (c .refused3 .ensures), kept-numbers _ m _ _ _ _ _ (c .refused3 .ensures)),
     )
 
 judged-requires : tie.Need-judged-requires
 judged-requires c κs =
-    let test = c .before .before .before .before .before .before .before in
+    let test = c .before .before .before .before .before .before in
     let lists = test .before .before .before in
     let long = lists .before .before .before in
     let told = long .before in
     let s = told .before .before .before .before .before .before .before .before .before .before in
-    let m = machine (whole (s .args .figures) (s .args .refs .now) (s .args .sizes .now)) (s .args .nodes .now) (s .args .values .now) (s .args .work .now) in
-    listed _ m (s .args .event) (passed _ m (s .args .event) _ _ (told .before .before .before .before .before .check .ensures .found) (told .before .before .judge .ensures) (told .enum-told .given .1)) _ _ (lists .lists-right .ensures .1) (long .if1 .left) (lists-same (s .args .figures) _ [] _ [] _ _ ∙ sym (lists .lists-right .ensures .0) ∙ not-false _ (test .if2 .left)) (told .before .before .before .before .before .check .ensures .masks)
-    (s .pre .0) (s .pre .1) (s .pre .2)
+    let m = machine (whole (s .args .figures) (s .args .refs .now)) (s .args .nodes .now) (s .args .values .now) (s .args .work .now) in
+    listed _ m (s .args .event) (passed _ m (s .args .event) _ _ (told .before .before .before .before .before .check .ensures .found) (told .before .before .judge .ensures) (told .enum-told .given .1)) _ _ (lists .lists-right .ensures .1) (long .if1 .left) (lists-same (s .args .figures) _ [] _ _ ∙ sym (lists .lists-right .ensures .0) ∙ not-false _ (test .if2 .left)) (told .before .before .before .before .before .check .ensures .masks)
+    (s .pre .0) (s .pre .1)
 
 same-length-8 : tie.Need-same-length-8
 same-length-8 c = search needs
@@ -130,12 +130,12 @@ same-length-10 c = search needs
 returns-4 : tie.Need-returns-4
 returns-4 c =
     let judged = c .before .before .before .before .before .before in
-    let test = judged .before .before .before .before .before .before .before .before in
+    let test = judged .before .before .before .before .before .before .before in
     let lists = test .before .before .before in
     let long = lists .before .before .before in
     let told = long .before in
     let s = told .before .before .before .before .before .before .before .before .before .before in
-    let m = machine (whole (s .args .figures) (s .args .refs .now) (s .args .sizes .now)) (s .args .nodes .now) (s .args .values .now) (s .args .work .now) in
+    let m = machine (whole (s .args .figures) (s .args .refs .now)) (s .args .nodes .now) (s .args .values .now) (s .args .work .now) in
     let p = passed _ m (s .args .event) _ _ (told .before .before .before .before .before .check .ensures .found) (told .before .before .judge .ensures) (told .enum-told .given .1) in
     (happens-same _ _ _ _ _ _ _ (lists .lists-right .ensures .1) (p .0) (p .1) (lengths-right _ m (s .args .event) p (long .if1 .left)) _ _ _ _ (judged .judged .ensures .0), (looks-same _ _ _ _ _ _ _ _ _ _ (judged .judged .ensures .1 .0), numbers-same _ _ _ _ _ _ _ _ _ (judged .judged .ensures .1 .1)))
 

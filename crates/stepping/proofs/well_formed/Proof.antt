@@ -5,7 +5,7 @@ use lib.ListN.{length}
 use denote.Ref.{now}
 use Rattle.diagram.specs.Works.{Fits}
 use Rattle.keeping.proofs.CheckLaws.{says-yes}
-use Rattle.stepping.proofs.CaseLaws.{cleared-after, unfit-tells, bad-tells, good-tells}
+use Rattle.stepping.proofs.CaseLaws.{sized, cleared-after, unfit-tells, bad-tells, good-tells}
 use borrow.Author.Needs.{needs}
 use Rattle.stepping.proofs.well_formed.Statement.{statement}
 use Rattle.stepping.proofs.well_formed.Tie as tie
@@ -17,15 +17,15 @@ returns : tie.Need-returns
 returns c =
     let first = c .before in
     let s = first .before .before .before in
-    unfit-tells (s .args .k) (s .args .count) (now (s .args .allowed)) (now (s .args .refs)) (now (s .args .sizes)) (s .args .kept) (s .args .nodes .now) (s .args .work .now) (first .fit .result) (first .fit .ensures) (c .if1 .taken)
+    unfit-tells (s .args .k) (s .args .count) (now (s .args .allowed)) (now (s .args .refs)) (s .args .kept) (s .args .nodes .now) (s .args .work .now) (first .fit .result) (first .fit .ensures) (c .if1 .taken)
 
-kept-right-requires : tie.Need-kept-right-requires
-kept-right-requires c κs =
+check-requires : tie.Need-check-requires
+check-requires c κs =
     let test = c .before in
     let first = test .before in
     let s = first .before .before .before in
     let f = says-yes (Fits (s .args .k) (s .args .count) (length (s .args .nodes .now)) (length (s .args .work .now))) (first .fit .result) (first .fit .ensures) (test .if1 .left) in
-    (f, s .pre .0, s .pre .1)
+    ((f .least, f .most, f .few, s .pre), sized f)
 
 mul-zero : tie.Need-mul-zero
 mul-zero c = search needs
@@ -39,7 +39,7 @@ zero-requires c κs =
     let first = test .before in
     let s = first .before .before .before in
     let f = says-yes (Fits (s .args .k) (s .args .count) (length (s .args .nodes .now)) (length (s .args .work .now))) (first .fit .result) (first .fit .ensures) (test .if1 .left) in
-    omega (arith, f .room, c .before .before .before .kept-right .kept .1 .1 .1 .1 .1 .1 .1 .0)
+    omega (arith, f .room, c .before .before .before .check .kept .1 .1 .1 .1 .1 .1 .0)
 
 same-length : tie.Need-same-length
 same-length c = search needs
@@ -51,7 +51,7 @@ returns-2 c =
     let first = test .before in
     let s = first .before .before .before in
     let f = says-yes (Fits (s .args .k) (s .args .count) (length (s .args .nodes .now)) (length (s .args .work .now))) (first .fit .result) (first .fit .ensures) (test .if1 .left) in
-    good-tells (s .args .k) (s .args .count) (now (s .args .allowed)) (now (s .args .refs)) (now (s .args .sizes)) (s .args .kept) (s .args .nodes .now) (s .args .work .now) f (cleared-after (s .args .k) (s .args .count) (now (s .args .allowed)) (now (s .args .refs)) (now (s .args .sizes)) (s .args .kept) (s .args .nodes .now) (s .args .work .now) f (checked .kept-right .ensures .1 .rest) (checked .kept-right .kept .1 .1 .1 .1 .1 .1 .1 .0) (c .before .before .before .zero .ensures)) (sym (checked .kept-right .ensures .0) ∙ c .if2 .taken)
+    good-tells (s .args .k) (s .args .count) (now (s .args .allowed)) (now (s .args .refs)) (s .args .kept) (s .args .nodes .now) (s .args .work .now) f (cleared-after (s .args .k) (s .args .count) (now (s .args .allowed)) (now (s .args .refs)) (s .args .kept) (s .args .nodes .now) (s .args .work .now) f (checked .check .ensures .1 .rest) (checked .check .kept .1 .1 .1 .1 .1 .1 .0) (c .before .before .before .zero .ensures)) (sym (checked .check .ensures .0) ∙ c .if2 .taken)
 
 same-length-2 : tie.Need-same-length-2
 same-length-2 c = search needs
@@ -63,7 +63,7 @@ returns-3 c =
     let first = test .before in
     let s = first .before .before .before in
     let f = says-yes (Fits (s .args .k) (s .args .count) (length (s .args .nodes .now)) (length (s .args .work .now))) (first .fit .result) (first .fit .ensures) (test .if1 .left) in
-    bad-tells (s .args .k) (s .args .count) (now (s .args .allowed)) (now (s .args .refs)) (now (s .args .sizes)) (s .args .kept) (s .args .nodes .now) (s .args .work .now) f (cleared-after (s .args .k) (s .args .count) (now (s .args .allowed)) (now (s .args .refs)) (now (s .args .sizes)) (s .args .kept) (s .args .nodes .now) (s .args .work .now) f (checked .kept-right .ensures .1 .rest) (checked .kept-right .kept .1 .1 .1 .1 .1 .1 .1 .0) (c .before .before .before .zero .ensures)) (sym (checked .kept-right .ensures .0) ∙ c .if2 .left)
+    bad-tells (s .args .k) (s .args .count) (now (s .args .allowed)) (now (s .args .refs)) (s .args .kept) (s .args .nodes .now) (s .args .work .now) f (cleared-after (s .args .k) (s .args .count) (now (s .args .allowed)) (now (s .args .refs)) (s .args .kept) (s .args .nodes .now) (s .args .work .now) f (checked .check .ensures .1 .rest) (checked .check .kept .1 .1 .1 .1 .1 .1 .0) (c .before .before .before .zero .ensures)) (sym (checked .check .ensures .0) ∙ c .if2 .left)
 
 pub well-formed-spec : {M : Type 1} → statement M
 well-formed-spec =
@@ -71,7 +71,7 @@ well-formed-spec =
     (tie.spec
     fit-requires
     returns
-    kept-right-requires
+    check-requires
     mul-zero
     add-zero
     zero-requires

@@ -16,16 +16,9 @@ few s = sym (length-map (s .args .figures .counts) _) ∙ s .good .0 .1 .1 .1 .1
 many : (s : tie.Start) → length (s .args .t2) ≡ 64
 many s = s .good .1 .0 .1 .0 .1
 
--- 64 sizes
-many-sizes : (s : tie.Start) → length (s .args .t3) ≡ 64
-many-sizes s = s .good .1 .1 .0 .1 .0 .1
-
--- the slice has 135 numbers after the counts are written, and after the references are
-still : (c : tie.After-copy) → length (c .copy .last .1 .0) ≡ 135
+-- the slice has 71 numbers after the counts are written
+still : (c : tie.After-copy) → length (c .copy .last .1 .0) ≡ 71
 still c = c .copy .kept .1 .0 ∙ simp length-set (c .before .before .before .before .before .pre)
-
-still-2 : (c : tie.After-copy2) → length (c .copy2 .last .1 .0) ≡ 135
-still-2 c = c .copy2 .kept .1 .0 ∙ still (c .before .before .before .before .before)
 
 slice-write-numbers : tie.Need-slice-write-numbers
 slice-write-numbers c = search needs
@@ -51,26 +44,15 @@ copy-requires-2 c κs =
     let e = still (c .before .before .before .before) in
     omega arith
 
-slice-aggregate-copy-3 : tie.Need-slice-aggregate-copy-3
-slice-aggregate-copy-3 c = search needs
-
-copy-requires-3 : tie.Need-copy-requires-3
-copy-requires-3 c κs =
-    let h = many-sizes (c .before .before .before .before .before .before .before .before .before .before .before .before .before .before) in
-    let e = still-2 (c .before .before .before .before) in
-    omega arith
-
 same-length : tie.Need-same-length
-same-length c = c .before .before .copy3 .kept .1 .0 ∙ still-2 (c .before .before .before .before .before .before .before) ∙ sym (c .before .before .before .before .before .before .before .before .before .before .before .before .before .before .before .before .before .pre)
+same-length c = c .before .before .copy2 .kept .1 .0 ∙ still (c .before .before .before .before .before .before .before) ∙ sym (c .before .before .before .before .before .before .before .before .before .before .before .before .pre)
 
 returns : tie.Need-returns
 returns c =
-    let s = c .before .before .before .before .before .before .before .before .before .before .before .before .before .before .before .before .before in
-    let counted = c .before .before .before .before .before .before .before .before .before .before .before .before .copy in
-    let referred = c .before .before .before .before .before .before .before .copy2 in
-    let sized = c .before .before .copy3 in
-    state-written (whole (s .args .figures) (s .args .t2) (s .args .t3)) (s .args .numbers .now) (counted .last .1 .0) (referred .last .1 .0) (sized .last .1 .0) (s .pre) (few s) (many s) (many-sizes s)
-    (counted .ensures) (referred .ensures) (sized .ensures)
+    let s = c .before .before .before .before .before .before .before .before .before .before .before .before in
+    let a = c .before .before .before .before .before .before .before .copy in
+    let b = c .before .before .copy2 in
+    state-written (whole (s .args .figures) (s .args .t2)) (s .args .numbers .now) (a .last .1 .0) (b .last .1 .0) (s .pre) (few s) (many s) (a .ensures) (b .ensures)
 
 pub pack-spec : {M : Type 1} → statement M
 pack-spec =
@@ -83,7 +65,5 @@ pack-spec =
     copy-requires
     slice-aggregate-copy-2
     copy-requires-2
-    slice-aggregate-copy-3
-    copy-requires-3
     same-length
     returns)

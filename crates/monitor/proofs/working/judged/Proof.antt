@@ -25,11 +25,11 @@ same-length-2 c = search needs
 returns : tie.Need-returns
 returns c =
     let refused = c .before .before in
-    let test = refused .before .before .before .before .before in
+    let test = refused .before .before .before .before in
     let first = test .before in
     let s = first .before .before .before .before .before in (
       refuses-5 _ _ _ _ (s .pre) (sym (first .agrees .ensures) ∙ not-true _ (test .if1 .taken)) _ _ _ _
-          (formed-turn _ _ _ _ _ _ _ (refused .refused-formed .ensures .0)) (refused .refused-formed .ensures .1) refl refl,
+          (formed-turn _ _ _ _ _ _ (refused .refused-formed .ensures .0)) (refused .refused-formed .ensures .1) refl refl,
       (formed-looks _ _ _ _ _ _ _ _ (refused .refused-formed .ensures .0), formed-numbers _ _ _ _ _ _ _ _ (refused .refused-formed .ensures .0)),
     )
 
@@ -58,24 +58,24 @@ same-length-5 c = search needs
 returns-2 : tie.Need-returns-2
 returns-2 c =
     let refused = c .before .before in
-    let short = refused .before .before .before .before .before in
+    let short = refused .before .before .before .before in
     let ask = short .before .before .before in
     let test = ask .before .before .before in
     let first = test .before in
     let s = first .before .before .before .before .before in (
       refuses-6 _ _ _ _ (s .pre) _ (ask .ask .ensures) (sym (first .agrees .ensures) ∙ not-false _ (test .if1 .left)) _ (short .before .shortest .ensures) (short .if2 .taken) _ _ _ _
-          (formed-turn _ _ _ _ _ _ _ (refused .refused-formed2 .ensures .0)) (refused .refused-formed2 .ensures .1) refl refl,
+          (formed-turn _ _ _ _ _ _ (refused .refused-formed2 .ensures .0)) (refused .refused-formed2 .ensures .1) refl refl,
       (formed-looks _ _ _ _ _ _ _ _ (refused .refused-formed2 .ensures .0), formed-numbers _ _ _ _ _ _ _ _ (refused .refused-formed2 .ensures .0)),
     )
 
 work-on-requires : tie.Need-work-on-requires
 work-on-requires c κs =
-    let short = c .before .before .before .before .before in
+    let short = c .before .before .before .before in
     let ask = short .before .before .before in
     let test = ask .before .before .before in
     let first = test .before in
     let s = first .before .before .before .before .before in
-    asking _ _ _ _ (s .pre) _ (ask .ask .ensures) (sym (first .agrees .ensures) ∙ not-false _ (test .if1 .left)) _ (short .before .shortest .ensures) (short .if2 .left) (sym (length-map (s .args .event .facts) _) ∙ s .good .1 .1 .1 .1 .1 .1 .1 .1 .0 .1 .1 .1 .0 .1 .0 .1)
+    asking _ _ _ _ (s .pre) _ (ask .ask .ensures) (sym (first .agrees .ensures) ∙ not-false _ (test .if1 .left)) _ (short .before .shortest .ensures) (short .if2 .left) (sym (length-map (s .args .event .facts) _) ∙ s .good .1 .1 .1 .1 .1 .1 .1 .0 .1 .1 .1 .0 .1 .0 .1)
 
 same-length-6 : tie.Need-same-length-6
 same-length-6 c = search needs

@@ -9,7 +9,7 @@ use Rattle.monitor.proofs.working.work_on.Statement.{statement}
 use Rattle.monitor.proofs.working.work_on.Tie as tie
 
 step-requires : tie.Need-step-requires
-step-requires c κs = let s = c .before .before .before .before .before .before .before .before .before .before in (s .pre .listed .rule-right, few-facts _ _ (s .pre .count-right), sym (length-map (s .args .asked .given) _) ∙ s .good .1 .1 .1 .1 .1 .1 .1 .1 .1 .0 .1 .1 .1 .1 .0 .1 .0 .1, s .pre .listed .refs, s .pre .listed .sizes)
+step-requires c κs = let s = c .before .before .before .before .before .before .before .before .before in (s .pre .listed .rule-right, few-facts _ _ (s .pre .count-right), sym (length-map (s .args .asked .given) _) ∙ s .good .1 .1 .1 .1 .1 .1 .1 .1 .0 .1 .1 .1 .1 .0 .1 .0 .1, s .pre .listed .refs)
 
 enum-known-told : tie.Need-enum-known-told
 enum-known-told c = search needs
@@ -19,13 +19,13 @@ write-fresh-requires c κs =
     let told = c .before .before .before in
     let step = told .before .before .before .before .before .before in
     let did = step .step .ensures in
-    writes _ _ _ _ _ (step .before .before .before .before .before .before .before .before .before .before .before .pre) _ _ _ _ _ (did .0) _ _ (told .told .given .1)
+    writes _ _ _ _ _ (step .before .before .before .before .before .before .before .before .before .before .pre) _ _ _ _ (did .0) _ _ (told .told .given .1)
 
 newly-requires : tie.Need-newly-requires
-newly-requires c κs = grown _ _ _ _ _ (c .before .before .before .before .before .before .before .before .before .before .before .before .before .before .before .before .before .before .before .before .before .before .before .before .pre)
+newly-requires c κs = grown _ _ _ _ _ (c .before .before .before .before .before .before .before .before .before .before .before .before .before .before .before .before .before .before .before .before .before .before .before .pre)
 
 taken-requires : tie.Need-taken-requires
-taken-requires c κs = rows-few _ _ _ _ _ (c .before .before .before .before .before .before .before .before .before .before .before .before .before .before .before .before .before .before .before .before .before .before .before .before .before .before .pre)
+taken-requires c κs = rows-few _ _ _ _ _ (c .before .before .before .before .before .before .before .before .before .before .before .before .before .before .before .before .before .before .before .before .before .before .before .before .before .pre)
 
 enum-told : tie.Need-enum-told
 enum-told c = search needs
@@ -58,12 +58,12 @@ returns : tie.Need-returns
 returns c =
     let told = c .before .before .before .before .before .before .before .before .before .before in
     let step = told .before .before .before .before .before .before in
-    let s = step .before .before .before .before .before .before .before .before .before .before .before in
+    let s = step .before .before .before .before .before .before .before .before .before .before in
     let did = step .step .ensures in
-    let four : length (s .args .asked .counts) ≡ 4 = sym (length-map (s .args .asked .counts) _) ∙ s .good .1 .1 .1 .1 .1 .1 .1 .1 .1 .0 .1 .1 .0 .1 .0 .1 in (
-      takes _ _ _ _ _ (s .pre) _ _ _ _ _ (did .0) _ _ (told .told .given .1) four _ _
-          (taken-turn _ _ _ _ _ _ _ _ _ _ _ _ _ (c .taken .ensures)) (c .before .before .before .before .before .before .write-fresh .ensures),
-      (taken-looks _ _ _ _ _ _ _ _ _ _ _ _ (c .taken .ensures) (looks _ _ _ _ _ (s .pre) _ _ _ _ _ (did .0) _ _ (told .told .given .1) _ _ (did .1)), taken-numbers _ _ _ _ _ (s .pre) _ _ _ _ _ _ _ _ _ (c .taken .ensures) (c .before .before .newly .ensures)),
+    let four : length (s .args .asked .counts) ≡ 4 = sym (length-map (s .args .asked .counts) _) ∙ s .good .1 .1 .1 .1 .1 .1 .1 .1 .0 .1 .1 .0 .1 .0 .1 in (
+      takes _ _ _ _ _ (s .pre) _ _ _ _ (did .0) _ _ (told .told .given .1) four _ _
+          (taken-turn _ _ _ _ _ _ _ _ _ _ _ (c .taken .ensures)) (c .before .before .before .before .before .before .write-fresh .ensures),
+      (taken-looks _ _ _ _ _ _ _ _ _ _ _ _ (c .taken .ensures) (looks _ _ _ _ _ (s .pre) _ _ _ _ (did .0) _ _ (told .told .given .1) _ _ (did .1)), taken-numbers _ _ _ _ _ (s .pre) _ _ _ _ _ _ _ _ _ (c .taken .ensures) (c .before .before .newly .ensures)),
     )
 
 same-length-4 : tie.Need-same-length-4
@@ -76,7 +76,7 @@ returns-2 : tie.Need-returns-2
 returns-2 c =
     let step = c .before .before .before .before .before .before .before in
     let did = step .step .ensures in (
-      refuses-full _ _ _ _ _ (step .before .before .before .before .before .before .before .before .before .before .before .pre) _ _ _ _ _ (did .0) _ _ (c .before .enum-told .given .1) (kept-turn _ _ _ _ _ _ _ _ (c .refused .ensures)) refl,
+      refuses-full _ _ _ _ _ (step .before .before .before .before .before .before .before .before .before .before .pre) _ _ _ _ (did .0) _ _ (c .before .enum-told .given .1) (kept-turn _ _ _ _ _ _ (c .refused .ensures)) refl,
       (kept-looks _ _ _ _ _ _ _ (c .refused .ensures), kept-numbers _ _ _ _ _ _ _ (c .refused .ensures)),
     )
 
@@ -90,7 +90,7 @@ returns-3 : tie.Need-returns-3
 returns-3 c =
     let step = c .before .before .before .before .before .before .before in
     let did = step .step .ensures in (
-      refuses-bad _ _ _ _ _ (step .before .before .before .before .before .before .before .before .before .before .before .pre) _ _ _ _ _ (did .0) _ _ (c .before .enum-told2 .given .1) (kept-turn _ _ _ _ _ _ _ _ (c .refused2 .ensures)) refl,
+      refuses-bad _ _ _ _ _ (step .before .before .before .before .before .before .before .before .before .before .pre) _ _ _ _ (did .0) _ _ (c .before .enum-told2 .given .1) (kept-turn _ _ _ _ _ _ (c .refused2 .ensures)) refl,
       (kept-looks _ _ _ _ _ _ _ (c .refused2 .ensures), kept-numbers _ _ _ _ _ _ _ (c .refused2 .ensures)),
     )
 
@@ -104,7 +104,7 @@ returns-4 : tie.Need-returns-4
 returns-4 c =
     let step = c .before .before .before .before .before .before .before in
     let did = step .step .ensures in
-    never-unfit _ _ _ _ _ (step .before .before .before .before .before .before .before .before .before .before .before .pre) _ _ _ _ _ (did .0) (c .before .enum-told3 .given .1)
+    never-unfit _ _ _ _ _ (step .before .before .before .before .before .before .before .before .before .before .pre) _ _ _ _ (did .0) (c .before .enum-told3 .given .1)
 
 pub work-on-spec : {M : Type 1} → statement M
 work-on-spec =

@@ -51,7 +51,7 @@ take-turn-requires c κs =
     let s = c .before .before .before .before .before .before .before .before .before .before .before in
     let l = c .before .before .before .before .before .before .loop in
     let v = l .inv .4 in
-    (v .kept .desk .shelf, (omega (arith, c .before .before .before .before .before .before .before .before .before .before .before .pre .0), v .below, takes (v .over) (c .before .before .turn .result) (rw (c .before .before .turn .ensures) (shaped (rowOf (s .args .read)) (now (s .args .given)) (c .before .before .before .matches .result) _))))
+    (v .kept .desk .shelf, (omega (arith, c .before .before .before .before .before .before .before .before .before .before .before .pre .0), v .below, takes (v .over) (c .before .before .turn .result) (rw (c .before .before .turn .ensures) (shaped (rowOf (s .args .read)) (now (s .args .given)) (c .before .before .before .matches .result) (l .f)))))
 
 enum-known-m1 : tie.Need-enum-known-m1 Inv-loop μ-loop
 enum-known-m1 c = search needs

@@ -11,7 +11,7 @@ use Rattle.instructions.specs.Planned.{planned}
 use Rattle.stepping.proofs.FitLaws.{few-rows}
 use Rattle.stepping.proofs.ClearLaws.{cleared-is, rest-more, rest-two}
 use Rattle.stepping.proofs.LendLaws.{desk-ready, fresh-ready, lent-back}
-use Rattle.stepping.proofs.OutcomeLaws.{full-leaves, sweep-ready, sizes-ready, done-leaves, done-visits}
+use Rattle.stepping.proofs.OutcomeLaws.{full-leaves, sweep-ready, done-leaves, done-visits}
 use Rattle.stepping.proofs.rows.worked.Statement.{statement}
 use Rattle.stepping.proofs.rows.worked.Tie as tie
 
@@ -90,7 +90,7 @@ returns c =
     let f = s .pre .1 .0 in
     let back = lent-back (s .args .nodes .now) f _ (c .before .before .before .before .before .before .before .before .before .before .before .before .before .before .before .before .before .before .before .before .before .before .before .slots-for .ensures .1) (c .before .before .before .before .before .before .before .before .before .before .before .before .before .before .before .before .before .before .before .before .before .zero .ensures) (rows .last .1 .0) (rows .kept .1 .0) in
     rw (c .refused .ensures) (
-      full-leaves (s .args .k) (rowCount (now (s .args .rows))) (planned (now (s .args .rows)) (s .args .event) (now (s .args .given))) (s .args .refs .now) (s .args .kept) (s .args .nodes .now) (s .args .work .now) f (s .args .sizes .now) (s .pre .1 .1 .0) (rw (c .before .before .before .before .before .before .before .before .before .if1 .taken) at (rows .ensures)) (c .before .before .before .before .before .before .before .zero2 .ensures)
+      full-leaves (s .args .k) (rowCount (now (s .args .rows))) (planned (now (s .args .rows)) (s .args .event) (now (s .args .given))) (s .args .refs .now) (s .args .kept) (s .args .nodes .now) (s .args .work .now) f (s .pre .1 .1 .0) (rw (c .before .before .before .before .before .before .before .before .before .if1 .taken) at (rows .ensures)) (c .before .before .before .before .before .before .before .zero2 .ensures)
           (cleared-is (length (s .args .nodes .now) / 3) (s .args .work .now) (f .room) (rest-more (back .0) (omega arith)) (back .1) (c .before .before .before .zero3 .ensures)),
       (refl, refl),
     )
@@ -111,57 +111,39 @@ renew-requires c κs =
     let t = sweep-ready (s .args .k) (rowCount (now (s .args .rows))) (planned (now (s .args .rows)) (s .args .event) (now (s .args .given))) (s .args .refs .now) (s .args .kept) (s .args .nodes .now) (s .args .work .now) f (rw (c .before .before .before .before .if1 .left) at (rows .ensures)) (putMid 0 (15 * (length (s .args .nodes .now) / 3) - 0) (c .before .before .before .before .before .before .before .before .before .before .before .before .before .before .before .before .zero .last .0) (rows .last .1 .0)) (back .1) (s .pre .1 .1 .0) in
     (t .0, (t .1, (t .2, t .3)))
 
-sizes-requires : tie.Need-sizes-requires
+mul-zero-6 : tie.Need-mul-zero-6
+mul-zero-6 c = omega (arith, c .before .before .before .before .before .before .before .before .before .before .before .before .before .before .before .before .before .before .before .before .before .before .before .before .before .before .before .before .pre .1 .0 .small)
+
+add-zero-3 : tie.Need-add-zero-3
+add-zero-3 c = omega (arith, c .before .before .before .before .before .before .before .before .before .before .before .before .before .before .before .before .before .before .before .before .before .before .before .before .before .before .before .before .pre .1 .0 .small)
+
+zero-requires-4 : tie.Need-zero-requires-4
+zero-requires-4 c κs =
+    let rows = c .before .before .before .before .before .before .before .before .before .before .before .before .before .before .before .work-rows in
+    let s = c .before .before .before .before .before .before .before .before .before .before .before .before .before .before .before .before .before .before .before .before .before .before .before .before .before .before .before .before in
+    let f = s .pre .1 .0 in
+    let back = lent-back (s .args .nodes .now) f _ (c .before .before .before .before .before .before .before .before .before .before .before .before .before .before .before .before .before .before .before .before .before .before .before .before .slots-for .ensures .1) (c .before .before .before .before .before .before .before .before .before .before .before .before .before .before .before .before .before .before .before .before .before .before .zero .ensures) (rows .last .1 .0) (rows .kept .1 .0) in
+    omega (arith, f .room, back .1, c .before .before .before .before .before .renew .kept .1 .1 .0)
+
+same-length-3 : tie.Need-same-length-3
+same-length-3 c = search needs
+
+same-length-4 : tie.Need-same-length-4
+same-length-4 c = search needs
+
+returns-2 : tie.Need-returns-2
 unfolding rowCount
-sizes-requires c κs =
+returns-2 c =
     let swept = c .before .before .before .before .before .before .before .before .renew in
     let rows = c .before .before .before .before .before .before .before .before .before .before .before .before .before .before .before .before .before .before .work-rows in
     let s = c .before .before .before .before .before .before .before .before .before .before .before .before .before .before .before .before .before .before .before .before .before .before .before .before .before .before .before .before .before .before .before in
     let f = s .pre .1 .0 in
     let back = lent-back (s .args .nodes .now) f _ (c .before .before .before .before .before .before .before .before .before .before .before .before .before .before .before .before .before .before .before .before .before .before .before .before .before .before .before .slots-for .ensures .1) (c .before .before .before .before .before .before .before .before .before .before .before .before .before .before .before .before .before .before .before .before .before .before .before .before .before .zero .ensures) (rows .last .1 .0) (rows .kept .1 .0) in
     let t = rw (c .before .before .before .before .before .before .before .before .before .before .before .before .before .if1 .left) at (rows .ensures) in
-    let asked = sizes-ready (s .args .k) (rowCount (now (s .args .rows))) (planned (now (s .args .rows)) (s .args .event) (now (s .args .given))) (s .args .refs .now) (s .args .kept) (s .args .nodes .now) (s .args .work .now) f t (swept .ensures) (swept .kept .0) (swept .kept .1 .1 .0 ∙ back .1) in
-    (asked .0, (asked .1, omega (arith, s .pre .0 .3, t .new-lead .wide)))
-
-mul-zero-6 : tie.Need-mul-zero-6
-mul-zero-6 c = omega (arith, c .before .before .before .before .before .before .before .before .before .before .before .before .before .before .before .before .before .before .before .before .before .before .before .before .before .before .before .before .before .before .before .before .before .before .before .pre .1 .0 .small)
-
-add-zero-3 : tie.Need-add-zero-3
-add-zero-3 c = omega (arith, c .before .before .before .before .before .before .before .before .before .before .before .before .before .before .before .before .before .before .before .before .before .before .before .before .before .before .before .before .before .before .before .before .before .before .before .pre .1 .0 .small)
-
-zero-requires-4 : tie.Need-zero-requires-4
-zero-requires-4 c κs =
-    let rows = c .before .before .before .before .before .before .before .before .before .before .before .before .before .before .before .before .before .before .before .before .before .before .work-rows in
-    let s = c .before .before .before .before .before .before .before .before .before .before .before .before .before .before .before .before .before .before .before .before .before .before .before .before .before .before .before .before .before .before .before .before .before .before .before in
-    let f = s .pre .1 .0 in
-    let back = lent-back (s .args .nodes .now) f _ (c .before .before .before .before .before .before .before .before .before .before .before .before .before .before .before .before .before .before .before .before .before .before .before .before .before .before .before .before .before .before .before .slots-for .ensures .1) (c .before .before .before .before .before .before .before .before .before .before .before .before .before .before .before .before .before .before .before .before .before .before .before .before .before .before .before .before .before .zero .ensures) (rows .last .1 .0) (rows .kept .1 .0) in
-    omega (arith, f .room, back .1, c .before .before .before .before .before .before .before .before .before .before .before .before .renew .kept .1 .1 .0, c .before .before .before .sizes .kept .1 .1 .1 .1 .0)
-
-same-length-3 : tie.Need-same-length-3
-same-length-3 c = search needs
-
-same-length-4 : tie.Need-same-length-4
-same-length-4 c =
-    let rows = c .before .before .before .before .before .before .before .before .before .before .before .before .before .before .before .before .before .before .before .before .before .before .before .before .before .work-rows in
-    let s = c .before .before .before .before .before .before .before .before .before .before .before .before .before .before .before .before .before .before .before .before .before .before .before .before .before .before .before .before .before .before .before .before .before .before .before .before .before .before in
-    let f = s .pre .1 .0 in
-    let back = lent-back (s .args .nodes .now) f _ (c .before .before .before .before .before .before .before .before .before .before .before .before .before .before .before .before .before .before .before .before .before .before .before .before .before .before .before .before .before .before .before .before .before .before .slots-for .ensures .1) (c .before .before .before .before .before .before .before .before .before .before .before .before .before .before .before .before .before .before .before .before .before .before .before .before .before .before .before .before .before .before .before .before .zero .ensures) (rows .last .1 .0) (rows .kept .1 .0) in
-    c .before .before .zero4 .kept .0 ∙ c .before .before .before .before .before .before .sizes .kept .1 .1 .1 .1 .0 ∙ c .before .before .before .before .before .before .before .before .before .before .before .before .before .before .before .renew .kept .1 .1 .0 ∙ back .1
-
-returns-2 : tie.Need-returns-2
-unfolding rowCount
-returns-2 c =
-    let swept = c .before .before .before .before .before .before .before .before .before .before .before .before .before .before .before .renew in
-    let found = c .before .before .before .before .before .before .sizes in
-    let rows = c .before .before .before .before .before .before .before .before .before .before .before .before .before .before .before .before .before .before .before .before .before .before .before .before .before .work-rows in
-    let s = c .before .before .before .before .before .before .before .before .before .before .before .before .before .before .before .before .before .before .before .before .before .before .before .before .before .before .before .before .before .before .before .before .before .before .before .before .before .before in
-    let f = s .pre .1 .0 in
-    let back = lent-back (s .args .nodes .now) f _ (c .before .before .before .before .before .before .before .before .before .before .before .before .before .before .before .before .before .before .before .before .before .before .before .before .before .before .before .before .before .before .before .before .before .before .slots-for .ensures .1) (c .before .before .before .before .before .before .before .before .before .before .before .before .before .before .before .before .before .before .before .before .before .before .before .before .before .before .before .before .before .before .before .before .zero .ensures) (rows .last .1 .0) (rows .kept .1 .0) in
-    let t = rw (c .before .before .before .before .before .before .before .before .before .before .before .before .before .before .before .before .before .before .before .before .if1 .left) at (rows .ensures) in
-    let ready = sweep-ready (s .args .k) (rowCount (now (s .args .rows))) (planned (now (s .args .rows)) (s .args .event) (now (s .args .given))) (s .args .refs .now) (s .args .kept) (s .args .nodes .now) (s .args .work .now) f t (putMid 0 (15 * (length (s .args .nodes .now) / 3) - 0) (c .before .before .before .before .before .before .before .before .before .before .before .before .before .before .before .before .before .before .before .before .before .before .before .before .before .before .before .before .before .before .before .before .zero .last .0) (rows .last .1 .0)) (back .1) (s .pre .1 .1 .0) in
-    let asked = sizes-ready (s .args .k) (rowCount (now (s .args .rows))) (planned (now (s .args .rows)) (s .args .event) (now (s .args .given))) (s .args .refs .now) (s .args .kept) (s .args .nodes .now) (s .args .work .now) f t (swept .ensures) (swept .kept .0) (swept .kept .1 .1 .0 ∙ back .1) in (
-      done-leaves (s .args .k) (rowCount (now (s .args .rows))) (planned (now (s .args .rows)) (s .args .event) (now (s .args .given))) (s .args .refs .now) (s .args .kept) (s .args .nodes .now) (s .args .work .now) f t (s .args .sizes .now) (swept .ensures) (found .ensures .0)
-          (cleared-is (length (s .args .nodes .now) / 3) (s .args .work .now) (f .room) (rest-two (16 * (length (s .args .nodes .now) / 3) + 1024) (rest-two (15 * (length (s .args .nodes .now) / 3)) (back .0) (swept .ensures .rest) (omega arith) (omega arith)) (found .ensures .1) (omega arith) (omega (arith, asked .1))) (found .kept .1 .1 .1 .1 .0 ∙ swept .kept .1 .1 .0 ∙ back .1) (c .before .before .zero4 .ensures)),
+    let same = t .size in
+    let ready = sweep-ready (s .args .k) (rowCount (now (s .args .rows))) (planned (now (s .args .rows)) (s .args .event) (now (s .args .given))) (s .args .refs .now) (s .args .kept) (s .args .nodes .now) (s .args .work .now) f t (putMid 0 (15 * (length (s .args .nodes .now) / 3) - 0) (c .before .before .before .before .before .before .before .before .before .before .before .before .before .before .before .before .before .before .before .before .before .before .before .before .before .zero .last .0) (rows .last .1 .0)) (back .1) (s .pre .1 .1 .0) in (
+      done-leaves (s .args .k) (rowCount (now (s .args .rows))) (planned (now (s .args .rows)) (s .args .event) (now (s .args .given))) (s .args .refs .now) (s .args .kept) (s .args .nodes .now) (s .args .work .now) f t (swept .ensures)
+          (cleared-is (length (s .args .nodes .now) / 3) (s .args .work .now) (f .room) (rest-two (16 * (length (s .args .nodes .now) / 3) + 1024) (back .0) (swept .ensures .rest) (omega arith) (omega arith)) (swept .kept .1 .1 .0 ∙ back .1) (c .before .before .zero4 .ensures)),
       done-visits (s .args .k) (rowCount (now (s .args .rows))) (planned (now (s .args .rows)) (s .args .event) (now (s .args .given))) (s .args .refs .now) (s .args .kept) (s .args .nodes .now) (s .args .work .now) f t (ready .3) (swept .ensures),
     )
 
@@ -192,7 +174,6 @@ worked-spec =
     cast-count
     mul-renew
     renew-requires
-    sizes-requires
     mul-zero-6
     add-zero-3
     zero-requires-4

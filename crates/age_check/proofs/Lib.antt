@@ -1,3 +1,0 @@
--- The laws of the marks.
-pub mod MarkLaws
-pub mod OneOutcome

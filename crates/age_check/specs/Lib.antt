@@ -1,2 +1,0 @@
--- What the check of age diagrams promises.
-pub mod Marks

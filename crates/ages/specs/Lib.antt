@@ -1,2 +1,0 @@
--- What ages are.
-pub mod Ages

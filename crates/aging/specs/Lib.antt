@@ -1,4 +1,0 @@
--- What the walks over ages promise.
-pub mod Dates
-pub mod Tasks
-pub mod Slates
