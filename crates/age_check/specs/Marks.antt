@@ -2,9 +2,9 @@
 -- Assumes nothing: these are definitions.
 use Rattle.std.specs.Prelude.{ℕ, suc, ◌+◌, ◌-◌, ◌<◌, max, ◌≡◌, true, cond, List, ltb, get_or}
 use Rattle.trees.specs.Tree.{Tree, off, on, node}
-use Rattle.trees.specs.Table.{at, treesOf}
-use Rattle.ages.specs.Ages.{Age, none, aged, agesRight}
-use Rattle.ages.proofs.AgeRead.{readAge}
+use Rattle.trees.specs.Table.{at, trees_of}
+use Rattle.ages.specs.Ages.{Age, none, aged, ages_right}
+use Rattle.ages.proofs.AgeRead.{read_age}
 
 -- one more than the age; past all ages where there is none
 abbrev pub numbered : Age → ℕ
@@ -16,19 +16,19 @@ numbered (aged n) = suc n
 unfoldable pub oldest : ℕ → Tree → ℕ
 oldest base off = 0
 oldest base on = 4096
-oldest base (node l a b) = cond (ltb l base) (max (oldest base a) (oldest base b)) (numbered (readAge base 11 (node l a b)))
+oldest base (node l a b) = cond (ltb l base) (max (oldest base a) (oldest base b)) (numbered (read_age base 11 (node l a b)))
 
 -- the mark of a diagram: the same above the ages' levels, and among them what the bits of an age from its own level on show
 unfoldable pub mark : ℕ → Tree → ℕ
 mark base off = 0
 mark base on = 4096
-mark base (node l a b) = cond (ltb l base) (max (oldest base a) (oldest base b)) (numbered (readAge l (base + 11 - l) (node l a b)))
+mark base (node l a b) = cond (ltb l base) (max (oldest base a) (oldest base b)) (numbered (read_age l (base + 11 - l) (node l a b)))
 
 -- the first m references are marked
 pub record Marked (base : ℕ) (ns : List ℕ) (kept : ℕ) (w : List ℕ) (m : ℕ) : Type 0 where
-  pub is : (r : ℕ) → r < m → get_or w r 0 ≡ mark base (at (treesOf ns kept) r)
+  pub is : (r : ℕ) → r < m → get_or w r 0 ≡ mark base (at (trees_of ns kept) r)
 
 -- "an age diagram with two ages for a binding, or an age its row can't have": no row has one, of the first count, with ages up to
 -- its own greatest
 pub record AgesRight (base : ℕ) (ns : List ℕ) (kept : ℕ) (refs tops : List ℕ) (count : ℕ) : Type 0 where
-  pub each : (i : ℕ) → i < count → agesRight base (get_or tops i 0) (at (treesOf ns kept) (get_or refs i 0)) ≡ true
+  pub each : (i : ℕ) → i < count → ages_right base (get_or tops i 0) (at (trees_of ns kept) (get_or refs i 0)) ≡ true

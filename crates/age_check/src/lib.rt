@@ -3,9 +3,9 @@
 // kept nodes. The bindings' levels are those before `base`, and an age has the 11 levels from `base` on. Assumes that the kept
 // nodes are a table.
 ghost use Rattle.std.specs.Prelude.{◌≡◌, ℕ, ◌+◌, ◌-◌, ◌<◌, ◌≤◌, max, length, get_or};
-ghost use Rattle.trees.specs.Table.{at, treesOf};
+ghost use Rattle.trees.specs.Table.{at, trees_of};
 ghost use Rattle.nodes.specs.Nodes.{Table, Rest, Decides};
-ghost use Rattle.ages.proofs.AgeRead.{readAge};
+ghost use Rattle.ages.proofs.AgeRead.{read_age};
 ghost use Rattle.age_check.specs.Marks.{numbered, oldest, mark, Marked, AgesRight};
 
 use nodes::read;
@@ -30,7 +30,7 @@ fn greater(a: u32, b: u32) -> u32
 fn age_of(nodes: &[u32], kept: u32, base: u32, p: u32, work: &[u32], m: u32) -> u32
     requires table { Table nodes.now kept × (p < kept + 2) × (p < m) × (m ≤ length work.now) }
     requires marked { Marked base nodes.now kept work.now m }
-    ensures { result ≡ oldest base (at (treesOf nodes.now kept) p) }
+    ensures { result ≡ oldest base (at (trees_of nodes.now kept) p) }
 {
     if p < 2 {
         return marked(work, p);
@@ -46,7 +46,7 @@ fn age_of(nodes: &[u32], kept: u32, base: u32, p: u32, work: &[u32], m: u32) -> 
 fn bits_of(nodes: &[u32], kept: u32, base: u32, l: u32, p: u32, work: &[u32], m: u32) -> u32
     requires table { Table nodes.now kept × (p < kept + 2) × (p < m) × (m ≤ length work.now) }
     requires base_bound { (base ≤ 64) × (base ≤ l) × (l < base + 11) × Marked base nodes.now kept work.now m }
-    ensures { result ≡ numbered (readAge (l + 1) (base + 10 - l) (at (treesOf nodes.now kept) p)) }
+    ensures { result ≡ numbered (read_age (l + 1) (base + 10 - l) (at (trees_of nodes.now kept) p)) }
 {
     if l == base + 10 {
         if p == 1 {
@@ -68,7 +68,7 @@ fn bits_of(nodes: &[u32], kept: u32, base: u32, l: u32, p: u32, work: &[u32], m:
 fn weigh(nodes: &[u32], kept: u32, base: u32, r: u32, work: &[u32]) -> u32
     requires table { Table nodes.now kept × (2 ≤ r) × (r < kept + 2) × (r ≤ length work.now) }
     requires base_bound { (base ≤ 64) × Marked base nodes.now kept work.now r }
-    ensures { result ≡ mark base (at (treesOf nodes.now kept) r) }
+    ensures { result ≡ mark base (at (trees_of nodes.now kept) r) }
 {
     let x = read(nodes, kept, r);
     if x.level < base {

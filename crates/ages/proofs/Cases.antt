@@ -2,13 +2,13 @@
 use Prim.Native.Nat.{ℕ}
 use mathlib.Core.Path.{◌≡◌, refl}
 use mathlib.Core.Bool.{Bool, true, false}
-use Rattle.ages.specs.Ages.{Limit, within, longer, Age, none, aged, or_else, older, nextAge, ripe}
+use Rattle.ages.specs.Ages.{Limit, within, longer, Age, none, aged, or_else, older, next_age, ripe}
 
 -- the age after a step of t, and whether the row holds
 abbrev goes : Limit → ℕ → Bool → Bool → Age → Age → Bool → Type 0
-goes c t l r x y b = (nextAge c t l r x ≡ y) × (ripe c y ≡ b)
+goes c t l r x y b = (next_age c t l r x ≡ y) × (ripe c y ≡ b)
 
-pub cases-hold :
+pub cases_hold :
     -- within 15: at the limit, past it, confirmed again, left side lost, both lost
     goes (within 15) 1 true false (aged 14) (aged 15) true
     × goes (within 15) 2 true false (aged 14) none false
@@ -30,5 +30,5 @@ pub cases-hold :
     × goes (longer 15) 1 false true (aged 16) (aged 0) false
     × goes (longer 0) 0 true false (aged 0) (aged 0) false
     × goes (longer 0) 1 true false (aged 0) (aged 1) true
-unfolding nextAge or_else older ripe
-cases-hold = ((refl, refl), (refl, refl), (refl, refl), (refl, refl), (refl, refl), (refl, refl), (refl, refl), (refl, refl), (refl, refl), (refl, refl), (refl, refl), (refl, refl), (refl, refl), (refl, refl), (refl, refl), (refl, refl), (refl, refl))
+unfolding next_age or_else older ripe
+cases_hold = ((refl, refl), (refl, refl), (refl, refl), (refl, refl), (refl, refl), (refl, refl), (refl, refl), (refl, refl), (refl, refl), (refl, refl), (refl, refl), (refl, refl), (refl, refl), (refl, refl), (refl, refl), (refl, refl), (refl, refl))

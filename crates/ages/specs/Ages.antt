@@ -1,7 +1,7 @@
 -- Ages: the step of an age, functions of bits and diagrams that show ages. Assumes nothing: these are definitions.
 use Rattle.std.specs.Prelude.{ℕ, zero, suc, ◌+◌, ◌-◌, ◌*◌, ◌^◌, ◌≤◌, ◌<◌, min, ◌≡◌, Bool, true, false, cond, not, ◌&&◌, eqb, ltb, leb}
 use Rattle.trees.specs.Bits.{Bits, Function, number}
-use Rattle.trees.specs.Tree.{Tree, off, on, node, eval, same, treeFrom, tree_of}
+use Rattle.trees.specs.Tree.{Tree, off, on, node, eval, same, tree_from, tree_of}
 use Rattle.trees.specs.Kept.{all_below}
 use Rattle.trees.proofs.BitsLaws.{write}
 
@@ -46,9 +46,9 @@ older (longer d) t (aged n) = aged (min (n + t) (suc d))
 
 -- The age after a step of t, where l and r say whether L and R hold now: "for kind 8 the shortest that serves .. for kind 9 the longest".
 -- That it is so is a theorem.
-unfoldable pub nextAge : Limit → ℕ → Bool → Bool → Age → Age
-nextAge (within d) t l r old = or_else (cond r (aged 0) none) (cond l (older (within d) t old) none)
-nextAge (longer d) t l r old = or_else (cond l (older (longer d) t old) none) (cond r (aged 0) none)
+unfoldable pub next_age : Limit → ℕ → Bool → Bool → Age → Age
+next_age (within d) t l r old = or_else (cond r (aged 0) none) (cond l (older (within d) t old) none)
+next_age (longer d) t l r old = or_else (cond l (older (longer d) t old) none) (cond r (aged 0) none)
 
 -- whether the row holds of a binding of this age: kind 8 has one; kind 9 has d + 1
 unfoldable pub ripe : Limit → Age → Bool
@@ -58,57 +58,57 @@ ripe (longer d) none = false
 ripe (longer d) (aged n) = eqb n (suc d)
 
 -- the greatest age that the row can have
-unfoldable pub topAge : Limit → ℕ
-topAge (within d) = d
-topAge (longer d) = suc d
+unfoldable pub top_age : Limit → ℕ
+top_age (within d) = d
+top_age (longer d) = suc d
 
 -- the age is n
-unfoldable pub isAge : ℕ → Age → Bool
-isAge n none = false
-isAge n (aged m) = eqb n m
+unfoldable pub is_age : ℕ → Age → Bool
+is_age n none = false
+is_age n (aged m) = eqb n m
 
 -- the first number below n of which the test holds, as an age
-unfoldable pub firstAge : ℕ → (ℕ → Bool) → Age
-firstAge zero f = none
-firstAge (suc n) f = or_else (firstAge n f) (cond (f n) (aged n) none)
+unfoldable pub first_age : ℕ → (ℕ → Bool) → Age
+first_age zero f = none
+first_age (suc n) f = or_else (first_age n f) (cond (f n) (aged n) none)
 
 -- "11 further bits, below all others and least first": the levels from 4 × k on, of the bits with the age n written there
-unfoldable pub withAge : ℕ → Bits → ℕ → Bits
-withAge k s n = write s (4 * k) 11 n
+unfoldable pub with_age : ℕ → Bits → ℕ → Bits
+with_age k s n = write s (4 * k) 11 n
 
 -- the age that a function of 4 × k + 11 bits gives the binding of some bits
-unfoldable pub ageAt : ℕ → Function → Bits → Age
-ageAt k g s = firstAge (2 ^ 11) (λ n. g (withAge k s n))
+unfoldable pub age_at : ℕ → Function → Bits → Age
+age_at k g s = first_age (2 ^ 11) (λ n. g (with_age k s n))
 
 -- "An age diagram says yes exactly where 11 further bits .. equal the binding's age."
-unfoldable pub agesSay : ℕ → (Bits → Age) → Function
-agesSay k age s = isAge (number s (4 * k) 11) (age s)
+unfoldable pub ages_say : ℕ → (Bits → Age) → Function
+ages_say k age s = is_age (number s (4 * k) 11) (age s)
 
 -- the age of each binding after a step of t, where L and R are now and the ages were were
-unfoldable pub agesNow : ℕ → Limit → ℕ → Function → Function → Function → Bits → Age
-agesNow k c t L R were s = nextAge c t (L s) (R s) (ageAt k were s)
+unfoldable pub ages_now : ℕ → Limit → ℕ → Function → Function → Function → Bits → Age
+ages_now k c t L R were s = next_age c t (L s) (R s) (age_at k were s)
 
 -- over 4 × k + 11 levels: the age diagram after a step of t, of left, right and old together; over 4 × k: where the ages are ripe
-unfoldable pub ageT : ℕ → Limit → ℕ → Tree → Tree → Tree → Tree
-ageT k c t l r o = tree_of (4 * k + 11) (agesSay k (agesNow k c t (eval l) (eval r) (eval o)))
+unfoldable pub age_t : ℕ → Limit → ℕ → Tree → Tree → Tree → Tree
+age_t k c t l r o = tree_of (4 * k + 11) (ages_say k (ages_now k c t (eval l) (eval r) (eval o)))
 
-unfoldable pub ripeT : ℕ → Limit → Tree → Tree
-ripeT k c o = tree_of (4 * k) (λ s. ripe c (ageAt k (eval o) s))
+unfoldable pub ripe_t : ℕ → Limit → Tree → Tree
+ripe_t k c o = tree_of (4 * k) (λ s. ripe c (age_at k (eval o) s))
 
 -- The clauses of refusal 4 on the age diagram of a row that can have ages up to top: "an age diagram with two ages for a binding,
 -- or an age its row can't have".
 pub record OneAge (k top : ℕ) (g : Function) : Type 0 where
-  pub one : (s : Bits) (m n : ℕ) → m < 2 ^ 11 → n < 2 ^ 11 → g (withAge k s m) ≡ true → g (withAge k s n) ≡ true → m ≡ n
-  pub most : (s : Bits) (n : ℕ) → n < 2 ^ 11 → g (withAge k s n) ≡ true → n ≤ top
+  pub one : (s : Bits) (m n : ℕ) → m < 2 ^ 11 → n < 2 ^ 11 → g (with_age k s m) ≡ true → g (with_age k s n) ≡ true → m ≡ n
+  pub most : (s : Bits) (n : ℕ) → n < 2 ^ 11 → g (with_age k s n) ≡ true → n ≤ top
 
 -- the same, as a test that walks the diagram: under the bindings' levels, those below base, stands no or the diagram of one age
-unfoldable pub ageDiagram : ℕ → ℕ → Tree
-ageDiagram base n = treeFrom base 11 (λ s. eqb (number s base 11) n)
+unfoldable pub age_diagram : ℕ → ℕ → Tree
+age_diagram base n = tree_from base 11 (λ s. eqb (number s base 11) n)
 
-unfoldable pub shownAge : ℕ → ℕ → Tree → Bool
-shownAge base top u = not (all_below (suc top) (λ n. not (same u (ageDiagram base n))))
+unfoldable pub shown_age : ℕ → ℕ → Tree → Bool
+shown_age base top u = not (all_below (suc top) (λ n. not (same u (age_diagram base n))))
 
-unfoldable pub agesRight : ℕ → ℕ → Tree → Bool
-agesRight base top off = true
-agesRight base top on = false
-agesRight base top (node l a b) = cond (ltb l base) (agesRight base top a && agesRight base top b) (shownAge base top (node l a b))
+unfoldable pub ages_right : ℕ → ℕ → Tree → Bool
+ages_right base top off = true
+ages_right base top on = false
+ages_right base top (node l a b) = cond (ltb l base) (ages_right base top a && ages_right base top b) (shown_age base top (node l a b))

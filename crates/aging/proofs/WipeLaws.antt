@@ -8,26 +8,26 @@ use Rattle.nodes.specs.Nodes.{Zeroed, Grown}
 use Rattle.making.specs.declared.Made.{Made}
 use Rattle.making.specs.declared.Made.TheVariants.{Full, At}
 use Rattle.making.specs.Tables.{Added}
-use Rattle.making.proofs.WalkLaws.{front-trans}
+use Rattle.making.proofs.WalkLaws.{front_trans}
 use Rattle.walks.specs.Walks.{Within}
 use Rattle.walks.specs.Desks.{Desk, Remembered}
-use Rattle.walks.proofs.NotLaws.{map_same, map-grown}
+use Rattle.walks.proofs.NotLaws.{map_same, map_grown}
 use Rattle.walks.proofs.CallLaws.{within_all}
 use Rattle.aging.specs.Dates.{Dated, Plain, Ageing}
 use Rattle.aging.specs.Slates.{Slate, Slated}
-use Rattle.aging.proofs.SlateLaws.{shelf-same}
+use Rattle.aging.proofs.SlateLaws.{shelf_same}
 
 -- a reference to a whole diagram, with all levels left
-pub plain-within : {ns : List ℕ} {n k p : ℕ} → Plain ns n k p → Within ns n (4 * k) (4 * k) p
-plain-within {ns} {n} {k} {p} w = within_all ns n (4 * k) p w.below w.fine
+pub plain_within : {ns : List ℕ} {n k p : ℕ} → Plain ns n k p → Within ns n (4 * k) (4 * k) p
+plain_within {ns} {n} {k} {p} w = within_all ns n (4 * k) p w.below w.fine
 
-pub ageing-dated : {ns : List ℕ} {n k top p : ℕ} → Ageing ns n k top p → Dated ns n k (4 * k) top p
-ageing-dated {k = k} w = let e : 4 * k - 4 * k ≡ 0 = omega arith in record { below = w.below; fine = rw e w.fine; right = w.right }
+pub ageing_dated : {ns : List ℕ} {n k top p : ℕ} → Ageing ns n k top p → Dated ns n k (4 * k) top p
+ageing_dated {k = k} w = let e : 4 * k - 4 * k ≡ 0 = omega arith in record { below = w.below; fine = rw e w.fine; right = w.right }
 
 -- a desk, its memory cleared
 pub wiped : {ns : List ℕ} {n levels : ℕ} {w w₁ : List ℕ} {c slots : ℕ} (op : Tree → Tree → Tree → Tree) → Desk ns n levels w c slots → Zeroed (5 * c) (5 * c + 4 * slots) w w₁ → Slate op ns n w₁ c slots
 wiped {c = c} op k z = record {
-  shelf = shelf-same k.shelf z.size (λ x h. z.rest.eq x (let f = k.fits in omega arith));
+  shelf = shelf_same k.shelf z.size (λ x h. z.rest.eq x (let f = k.fits in omega arith));
   some = k.some;
   fits = k.fits;
   results = record {
@@ -43,14 +43,14 @@ unwiped : {ns ms : List ℕ} {n m levels r : ℕ} {t : Tree} {w w₁ w₂ w₃ :
     → Grown ns ms n m r t → Slated w₁ op ms m w₂ c slots → Zeroed (5 * c) (5 * c + 4 * slots) w₂ w₃ → Remembered w ms m levels w₃ c slots
 unwiped {c = c} op k z g s y =
     let k' = s.slate in
-    let e = front-trans (front-trans z.same s.same (omega arith)) y.same (omega arith) in
+    let e = front_trans (front_trans z.same s.same (omega arith)) y.same (omega arith) in
     record {
       desk =
           record {
-            shelf = shelf-same k'.shelf y.size (λ x h. y.rest.eq x (let f = k'.fits in omega arith));
+            shelf = shelf_same k'.shelf y.size (λ x h. y.rest.eq x (let f = k'.fits in omega arith));
             some = k.some;
             fits = k.fits;
-            complements = map_same (λ x h l. e.eq x l) (map-grown g k.complements);
+            complements = map_same (λ x h l. e.eq x l) (map_grown g k.complements);
             memory =
                 record {
                   hit = λ i a b d r p v.

@@ -3,7 +3,7 @@
 -- and before 15 * c. Assumes nothing: these are definitions.
 use Rattle.std.specs.Prelude.{ℕ, ◌+◌, ◌*◌, ◌≤◌, ◌<◌, List}
 use Rattle.trees.specs.Tree.{Tree}
-use Rattle.trees.specs.Table.{at, treesOf, Ref}
+use Rattle.trees.specs.Table.{at, trees_of, Ref}
 use Rattle.nodes.specs.Nodes.{Front}
 use Rattle.making.specs.Tables.{Shelf, Spot, SlotIs}
 
@@ -19,7 +19,7 @@ applied op ts a b d = op (at ts a) (at ts b) (at ts d)
 
 -- the memory is right: a slot has 0 for its result, or one more than the reference of the operation's result
 pub record Results (op : Tree → Tree → Tree → Tree) (ns : List ℕ) (n : ℕ) (w : List ℕ) (c slots : ℕ) : Type 0 where
-  pub hit : (i a b d r : ℕ) → Spot c slots i → SlotIs w i a b d (r + 1) → Trio n a b d × Ref (treesOf ns n) r (applied op (treesOf ns n) a b d)
+  pub hit : (i a b d r : ℕ) → Spot c slots i → SlotIs w i a b d (r + 1) → Trio n a b d × Ref (trees_of ns n) r (applied op (trees_of ns n) a b d)
 
 -- the first n of c nodes are a table, and the work slice holds its chains, and the operation's results
 pub record Slate (op : Tree → Tree → Tree → Tree) (ns : List ℕ) (n : ℕ) (w : List ℕ) (c slots : ℕ) : Type 0 where

@@ -1,12 +1,12 @@
 // One age: its nodes made, read back, and the age after a step. An age stands at the 11 levels from 4 * k on, its least bit first; in
 // numbers it is 0 for none, else one more than the age. Assumes that the first n nodes are a table.
 ghost use Rattle.std.specs.Prelude.{◌≡◌, ◌+◌, ◌*◌, ◌<◌, ◌≤◌, min};
-ghost use Rattle.trees.specs.Table.{at, treesOf};
+ghost use Rattle.trees.specs.Table.{at, trees_of};
 ghost use Rattle.nodes.specs.Nodes.{Table};
 ghost use Rattle.making.specs.Tables.{Added, Shelf, Shelved};
-ghost use Rattle.ages.specs.Ages.{older, nextAge, ripe};
-ghost use Rattle.ages.proofs.AgeWalk.{chain, shownT};
-ghost use Rattle.aging.specs.Dates.{limitOf, Short, ageOf, says, Chain, Under, ReadBits, ReadAge};
+ghost use Rattle.ages.specs.Ages.{older, next_age, ripe};
+ghost use Rattle.ages.proofs.AgeWalk.{chain, shown_t};
+ghost use Rattle.aging.specs.Dates.{limit_of, Short, age_of, says, Chain, Under, ReadBits, ReadAge};
 
 use crate::Bound;
 use making::Made;
@@ -43,7 +43,7 @@ fn make_bits(
 pub fn make_age(nodes: &mut [u32], work: &mut [u32], c: usize, n: u32, k: u32, age: u32) -> Made
     requires shelf { Shelf nodes.old n work.old c }
     requires k_bound { (k ≤ 10) × (age ≤ 2048) }
-    ensures { Added (λ ns j. Shelved work.old ns j work.new c) nodes.old nodes.new n (shownT k (ageOf age)) result }
+    ensures { Added (λ ns j. Shelved work.old ns j work.new c) nodes.old nodes.new n (shown_t k (age_of age)) result }
 {
     if age == 0 {
         return Made::At(n, 0);
@@ -54,8 +54,8 @@ pub fn make_age(nodes: &mut [u32], work: &mut [u32], c: usize, n: u32, k: u32, a
 // The number whose `count` bits, from the level `base` on, are the diagram of p.
 fn read_bits(nodes: &[u32], n: u32, base: u32, count: u32, p: u32) -> u32
     requires table { Table nodes.now n }
-    requires p_bound { (p < n + 2) × (count ≤ 11) × (base + count < 4294967296) × Chain base count (at (treesOf nodes.now n) p) }
-    ensures { ReadBits base count (at (treesOf nodes.now n) p) result }
+    requires p_bound { (p < n + 2) × (count ≤ 11) × (base + count < 4294967296) × Chain base count (at (trees_of nodes.now n) p) }
+    ensures { ReadBits base count (at (trees_of nodes.now n) p) result }
 {
     if count == 0 {
         return 0;
@@ -70,8 +70,8 @@ fn read_bits(nodes: &[u32], n: u32, base: u32, count: u32, p: u32) -> u32
 // The age that the diagram of p, which asks no binding's level, shows.
 pub fn read_age(nodes: &[u32], n: u32, k: u32, p: u32) -> u32
     requires table { Table nodes.now n }
-    requires p_bound { (p < n + 2) × (k ≤ 10) × Under k (at (treesOf nodes.now n) p) }
-    ensures { ReadAge k (at (treesOf nodes.now n) p) result }
+    requires p_bound { (p < n + 2) × (k ≤ 10) × Under k (at (trees_of nodes.now n) p) }
+    ensures { ReadAge k (at (trees_of nodes.now n) p) result }
 {
     if p == 0 {
         return 0;
@@ -89,7 +89,7 @@ fn capped(t: u32) -> u32
 // An old age after a step of t: within d there is none if over d, and longer than d has d + 1 for any longer.
 fn older_age(b: Bound, t: u32, old: u32) -> u32
     requires { Short b × (old ≤ 2048) }
-    ensures { (ageOf result ≡ older (limitOf b) t (ageOf old)) × (result ≤ 2048) }
+    ensures { (age_of result ≡ older (limit_of b) t (age_of old)) × (result ≤ 2048) }
 {
     if old == 0 {
         return 0;
@@ -115,7 +115,7 @@ fn older_age(b: Bound, t: u32, old: u32) -> u32
 // the oldest.
 pub fn next_age(b: Bound, t: u32, l: u32, r: u32, old: u32) -> u32
     requires { Short b × (l < 2) × (r < 2) × (old ≤ 2048) }
-    ensures { (ageOf result ≡ nextAge (limitOf b) t (says l) (says r) (ageOf old)) × (result ≤ 2048) }
+    ensures { (age_of result ≡ next_age (limit_of b) t (says l) (says r) (age_of old)) × (result ≤ 2048) }
 {
     if l == 0 {
         return r;
@@ -140,7 +140,7 @@ pub fn next_age(b: Bound, t: u32, l: u32, r: u32, old: u32) -> u32
 // Whether the row holds of a binding of this age, as a leaf: within d if there is one, longer than d if it is d + 1.
 pub fn ripe_leaf(b: Bound, age: u32) -> u32
     requires { Short b }
-    ensures { (result < 2) × (says result ≡ ripe (limitOf b) (ageOf age)) }
+    ensures { (result < 2) × (says result ≡ ripe (limit_of b) (age_of age)) }
 {
     match b {
         Bound::Within(_) => {

@@ -5,14 +5,14 @@
 // The memory of results is the walks' own, cleared before and after: while a walk lasts it stands for this task alone.
 ghost use Rattle.std.specs.Prelude.{◌≡◌, ◌+◌, ◌*◌, ◌<◌, ◌≤◌, min};
 ghost use Rattle.trees.specs.Tree.{mk};
-ghost use Rattle.trees.specs.Table.{at, treesOf};
+ghost use Rattle.trees.specs.Table.{at, trees_of};
 ghost use Rattle.nodes.specs.Nodes.{Table};
 ghost use Rattle.making.specs.Tables.{Added, Shelf, Shelved, Spot};
 ghost use Rattle.walks.specs.Walks.{Within, Forks};
 ghost use Rattle.walks.specs.Desks.{Desk, Remembered};
-ghost use Rattle.ages.specs.Ages.{topAge, ageT, ripeT};
-ghost use Rattle.aging.specs.Dates.{limitOf, Short, Under, Dated, Plain, Ageing};
-ghost use Rattle.aging.specs.Tasks.{boundOf, does, Eased};
+ghost use Rattle.ages.specs.Ages.{top_age, age_t, ripe_t};
+ghost use Rattle.aging.specs.Dates.{limit_of, Short, Under, Dated, Plain, Ageing};
+ghost use Rattle.aging.specs.Tasks.{bound_of, does, Eased};
 ghost use Rattle.aging.specs.Slates.{Trio, applied, Slate, Slated};
 
 use crate::age::{make_age, next_age, read_age, ripe_leaf};
@@ -102,8 +102,8 @@ fn ended(
     o: u32,
 ) -> Made
     requires shelf { Shelf nodes.old n work.old c }
-    requires k_bound { (k ≤ 10) × Short (boundOf task) × (l < 2) × (r < 2) × (o < n + 2) × Under k (at (treesOf nodes.old n) o) }
-    ensures { Added (λ ns j. Shelved work.old ns j work.new c) nodes.old nodes.new n (applied (does k task) (treesOf nodes.old n) l r o) result }
+    requires k_bound { (k ≤ 10) × Short (bound_of task) × (l < 2) × (r < 2) × (o < n + 2) × Under k (at (trees_of nodes.old n) o) }
+    ensures { Added (λ ns j. Shelved work.old ns j work.new c) nodes.old nodes.new n (applied (does k task) (trees_of nodes.old n) l r o) result }
 {
     let old = read_age(nodes, n, k, o);
     match task {
@@ -132,8 +132,8 @@ fn keep(
 ) -> Made
     requires slate { Slate (does k task) nodes.old n work.old c slots }
     requires spot { Spot c slots i × Trio n l r o × (x.low < n + 2) × (x.high < n + 2) }
-    requires o_value { applied (does k task) (treesOf nodes.old n) l r o ≡ mk x.level (at (treesOf nodes.old n) x.low) (at (treesOf nodes.old n) x.high) }
-    ensures { Added (λ ns j. Slated work.old (does k task) ns j work.new c slots) nodes.old nodes.new n (mk x.level (at (treesOf nodes.old n) x.low) (at (treesOf nodes.old n) x.high)) result }
+    requires o_value { applied (does k task) (trees_of nodes.old n) l r o ≡ mk x.level (at (trees_of nodes.old n) x.low) (at (trees_of nodes.old n) x.high) }
+    ensures { Added (λ ns j. Slated work.old (does k task) ns j work.new c slots) nodes.old nodes.new n (mk x.level (at (trees_of nodes.old n) x.low) (at (trees_of nodes.old n) x.high)) result }
 {
     let Made::At(j, p) = make(nodes, work, c, n, x.level, x.low, x.high) else {
         return Made::Full;
@@ -157,8 +157,8 @@ fn walk(
     o: u32,
 ) -> Made
     requires slate { Slate (does k task) nodes.old n work.old c slots }
-    requires k_bound { (k ≤ 10) × Short (boundOf task) × (left ≤ 4 * k) × Within nodes.old n (4 * k) left l × Within nodes.old n (4 * k) left r × Dated nodes.old n k left (topAge (limitOf (boundOf task))) o }
-    ensures { Added (λ ns j. Slated work.old (does k task) ns j work.new c slots) nodes.old nodes.new n (applied (does k task) (treesOf nodes.old n) l r o) result }
+    requires k_bound { (k ≤ 10) × Short (bound_of task) × (left ≤ 4 * k) × Within nodes.old n (4 * k) left l × Within nodes.old n (4 * k) left r × Dated nodes.old n k left (top_age (limit_of (bound_of task))) o }
+    ensures { Added (λ ns j. Slated work.old (does k task) ns j work.new c slots) nodes.old nodes.new n (applied (does k task) (trees_of nodes.old n) l r o) result }
 {
     let s = ease(task, l, r, o);
     let i = spot(c, slots, s.l, r, s.o);
@@ -223,8 +223,8 @@ fn run(
     o: u32,
 ) -> Made
     requires desk { Desk nodes.old n (4 * k + 11) work.old c slots }
-    requires k_bound { (k ≤ 10) × Short (boundOf task) × Plain nodes.old n k l × Plain nodes.old n k r × Ageing nodes.old n k (topAge (limitOf (boundOf task))) o }
-    ensures { Added (λ ns j. Remembered work.old ns j (4 * k + 11) work.new c slots) nodes.old nodes.new n (applied (does k task) (treesOf nodes.old n) l r o) result }
+    requires k_bound { (k ≤ 10) × Short (bound_of task) × Plain nodes.old n k l × Plain nodes.old n k r × Ageing nodes.old n k (top_age (limit_of (bound_of task))) o }
+    ensures { Added (λ ns j. Remembered work.old ns j (4 * k + 11) work.new c slots) nodes.old nodes.new n (applied (does k task) (trees_of nodes.old n) l r o) result }
 {
     let from = 5 * c;
     zero(work, from, 5 * c + 4 * slots);
@@ -248,8 +248,8 @@ pub fn age_walk(
     o: u32,
 ) -> Made
     requires desk { Desk nodes.old n (4 * k + 11) work.old c slots }
-    requires k_bound { (k ≤ 10) × Short b × Plain nodes.old n k l × Plain nodes.old n k r × Ageing nodes.old n k (topAge (limitOf b)) o }
-    ensures { Added (λ ns j. Remembered work.old ns j (4 * k + 11) work.new c slots) nodes.old nodes.new n (ageT k (limitOf b) t (at (treesOf nodes.old n) l) (at (treesOf nodes.old n) r) (at (treesOf nodes.old n) o)) result }
+    requires k_bound { (k ≤ 10) × Short b × Plain nodes.old n k l × Plain nodes.old n k r × Ageing nodes.old n k (top_age (limit_of b)) o }
+    ensures { Added (λ ns j. Remembered work.old ns j (4 * k + 11) work.new c slots) nodes.old nodes.new n (age_t k (limit_of b) t (at (trees_of nodes.old n) l) (at (trees_of nodes.old n) r) (at (trees_of nodes.old n) o)) result }
 {
     run(nodes, work, c, slots, n, k, Task::Ages(b, t), l, r, o)
 }
@@ -266,8 +266,8 @@ pub fn ripe_walk(
     o: u32,
 ) -> Made
     requires desk { Desk nodes.old n (4 * k + 11) work.old c slots }
-    requires k_bound { (k ≤ 10) × Short b × Ageing nodes.old n k (topAge (limitOf b)) o }
-    ensures { Added (λ ns j. Remembered work.old ns j (4 * k + 11) work.new c slots) nodes.old nodes.new n (ripeT k (limitOf b) (at (treesOf nodes.old n) o)) result }
+    requires k_bound { (k ≤ 10) × Short b × Ageing nodes.old n k (top_age (limit_of b)) o }
+    ensures { Added (λ ns j. Remembered work.old ns j (4 * k + 11) work.new c slots) nodes.old nodes.new n (ripe_t k (limit_of b) (at (trees_of nodes.old n) o)) result }
 {
     run(nodes, work, c, slots, n, k, Task::Ripe(b), 0, 0, o)
 }

@@ -4,12 +4,12 @@ use native.Mathlib.Omega.{arith}
 use mathlib.Core.List.{List, [], ◌∷◌, ◌++◌}
 use lib.ListN.{length, length-append}
 use Rattle.lines.specs.Numeral.{numeral}
-use Rattle.lines.proofs.Numeral.{numeral-every}
+use Rattle.lines.proofs.Numeral.{numeral_every}
 
 -- a number below 10^(k + 1) has at most k + 1 digits
-pub numeral-few : (n k : ℕ) → n < 10 ^ suc k → length (numeral n) ≤ suc k
-numeral-few =
-    numeral-every
+pub numeral_few : (n k : ℕ) → n < 10 ^ suc k → length (numeral n) ≤ suc k
+numeral_few =
+    numeral_every
     (λ n ds. (k : ℕ) → n < 10 ^ suc k → length ds ≤ suc k)
     (λ n h k low. omega arith)
     grows
@@ -20,9 +20,9 @@ numeral-few =
     grows n d ds hn hd ih (suc k) low = omega (arith, length-append ds ((48 + d) ∷ []), ih k (omega arith))
 
 -- a number of 64 bits has at most twenty digits
-pub wide-few : (n : ℕ) → n < 18446744073709551616 → length (numeral n) ≤ 20
-wide-few n h = numeral-few n 19 (omega arith)
+pub wide_few : (n : ℕ) → n < 18446744073709551616 → length (numeral n) ≤ 20
+wide_few n h = numeral_few n 19 (omega arith)
 
 -- a number of 32 bits has at most ten
-pub narrow-few : (n : ℕ) → n < 4294967296 → length (numeral n) ≤ 10
-narrow-few n h = numeral-few n 9 (omega arith)
+pub narrow_few : (n : ℕ) → n < 4294967296 → length (numeral n) ≤ 10
+narrow_few n h = numeral_few n 9 (omega arith)

@@ -9,12 +9,12 @@ use lib.ListN.{length, take, drop, set, get_or, length-append, length-set, take-
 use lib.Seq.{take-suc, take-suc-set, take_all, drop-set-lt, drop-drop}
 use Rattle.lines.specs.Numeral.{numeral}
 use Rattle.lines.specs.Format.{spaced}
-use Rattle.lines.proofs.Numeral.{numeral-grows}
+use Rattle.lines.proofs.Numeral.{numeral_grows}
 use Rattle.answers.specs.Answers.{Put, word_line}
 
 -- what two lists have in common from a place on they have in common from any later place on
-pub drop-later : (xs ys : List ℕ) (n m : ℕ) → drop n xs ≡ drop n ys → drop (n + m) xs ≡ drop (n + m) ys
-drop-later xs ys n m e = sym (drop-drop m n xs) ∙ ap (drop m) e ∙ drop-drop m n ys
+pub drop_later : (xs ys : List ℕ) (n m : ℕ) → drop n xs ≡ drop n ys → drop (n + m) xs ≡ drop (n + m) ys
+drop_later xs ys n m e = sym (drop-drop m n xs) ∙ ap (drop m) e ∙ drop-drop m n ys
 
 -- the bytes before `at` are as they were, the first i of the text stand behind them, and the bytes after those are as they were
 pub record Putting (before : List ℕ) (at : ℕ) (text after : List ℕ) (i : ℕ) : Type 0 where
@@ -23,12 +23,12 @@ pub record Putting (before : List ℕ) (at : ℕ) (text after : List ℕ) (i : �
   pub shown : take (at + i) after ≡ take at before ++ take i text
   pub rest : drop (at + i) after ≡ drop (at + i) before
 
-pub putting-none : (before : List ℕ) (at : ℕ) (text : List ℕ) → Putting before at text before 0
-putting-none before at text = record { few = omega arith; size = refl; shown = ap (λ (n : ℕ). take n before) (add-zero at) ∙ sym (append-nil (take at before)); rest = refl }
+pub putting_none : (before : List ℕ) (at : ℕ) (text : List ℕ) → Putting before at text before 0
+putting_none before at text = record { few = omega arith; size = refl; shown = ap (λ (n : ℕ). take n before) (add-zero at) ∙ sym (append-nil (take at before)); rest = refl }
 
-pub putting-more : {before : List ℕ} {at : ℕ} {text after : List ℕ} {i : ℕ} → at + i < length before → Putting before at text after i
+pub putting_more : {before : List ℕ} {at : ℕ} {text after : List ℕ} {i : ℕ} → at + i < length before → Putting before at text after i
     → i < length text → Putting before at text (set after (at + i) (get_or text i 0)) (i + 1)
-putting-more {before} {at} {text} {after} {i} room p h =
+putting_more {before} {at} {text} {after} {i} room p h =
     record {
       few = omega arith;
       size = length-set after (at + i) (get_or text i 0) ∙ p.size;
@@ -44,7 +44,7 @@ putting-more {before} {at} {text} {after} {i} room p h =
     next = omega arith
 
     later : drop (at + (i + 1)) after ≡ drop (at + (i + 1)) before
-    later = subst (λ (n : ℕ). drop n after ≡ drop n before) further (drop-later after before (at + i) 1 p.rest)
+    later = subst (λ (n : ℕ). drop n after ≡ drop n before) further (drop_later after before (at + i) 1 p.rest)
       where
         further : (at + i) + 1 ≡ at + (i + 1)
         further = omega arith
@@ -52,9 +52,9 @@ putting-more {before} {at} {text} {after} {i} room p h =
     inside : at + i < length after
     inside = omega (arith, p.size)
 
-pub putting-all : {before : List ℕ} {at : ℕ} {text after : List ℕ} {i : ℕ} → at + length text ≤ length before → Putting before at text after i
+pub putting_all : {before : List ℕ} {at : ℕ} {text after : List ℕ} {i : ℕ} → at + length text ≤ length before → Putting before at text after i
     → length text ≤ i → Put before at text after (at + i)
-putting-all {before} {at} {text} {after} {i} room p h =
+putting_all {before} {at} {text} {after} {i} room p h =
     record {
       past = omega (arith, p.few);
       inside = omega (arith, p.few, p.size);
@@ -63,8 +63,8 @@ putting-all {before} {at} {text} {after} {i} room p h =
     }
 
 -- no text
-pub put-none : {before : List ℕ} {at : ℕ} → at ≤ length before → Put before at [] before at
-put-none {before} {at} h = record { past = omega arith; inside = h; shown = sym (append-nil (take at before)); rest = refl }
+pub put_none : {before : List ℕ} {at : ℕ} → at ≤ length before → Put before at [] before at
+put_none {before} {at} h = record { past = omega arith; inside = h; shown = sym (append-nil (take at before)); rest = refl }
 
 -- one byte
 pub put_byte : {before : List ℕ} {at : ℕ} (b : ℕ) → at < length before → Put before at (b ∷ []) (set before at b) (at + 1)
@@ -84,7 +84,7 @@ put_both {before} {at} {text} {mid} {n} {more} {after} {next} p q =
       past = omega (arith, p.past, q.past, length-append text more);
       inside = q.inside;
       shown = q.shown ∙ ap (λ (l : List ℕ). l ++ more) p.shown ∙ append_assoc (take at before) text more;
-      rest = q.rest ∙ subst (λ (m : ℕ). drop m mid ≡ drop m before) (sym q.past) (drop-later mid before n (length more) p.rest);
+      rest = q.rest ∙ subst (λ (m : ℕ). drop m mid ≡ drop m before) (sym q.past) (drop_later mid before n (length more) p.rest);
     }
 
 -- another name of the text
@@ -92,22 +92,22 @@ pub put_same : {before : List ℕ} {at : ℕ} {text more after : List ℕ} {next
 put_same {before} {at} {text} {more} {after} {next} e p = subst (λ (t : List ℕ). Put before at t after next) e p
 
 -- a number of two digits or more is its tenth part and its last digit
-pub numeral-last : (n : ℕ) → 10 ≤ n → numeral n ≡ numeral (n / 10) ++ ((48 + n % 10) ∷ [])
-numeral-last n h =
+pub numeral_last : (n : ℕ) → 10 ≤ n → numeral n ≡ numeral (n / 10) ++ ((48 + n % 10) ∷ [])
+numeral_last n h =
     let whole : n / 10 * 10 + n % 10 ≡ n = omega arith in
-    ap numeral (sym whole) ∙ numeral-grows (n / 10) (n % 10) (omega arith) (omega arith)
+    ap numeral (sym whole) ∙ numeral_grows (n / 10) (n % 10) (omega arith) (omega arith)
 
 -- a word, two numbers, each after a space, and a line end
-pub word-line : (word : List ℕ) (a b : ℕ) → word ++ ((32 ∷ numeral a) ++ ((32 ∷ numeral b) ++ (10 ∷ []))) ≡ word_line word a b
+pub word_line_law : (word : List ℕ) (a b : ℕ) → word ++ ((32 ∷ numeral a) ++ ((32 ∷ numeral b) ++ (10 ∷ []))) ≡ word_line word a b
 unfolding word_line spaced
-word-line word a b =
+word_line_law word a b =
     ap (λ (l : List ℕ). word ++ (32 ∷ l))
     (ap (λ (l : List ℕ). numeral a ++ (32 ∷ (l ++ (10 ∷ [])))) (sym (append-nil (numeral b)))
     ∙ sym (append_assoc (numeral a) (32 ∷ (numeral b ++ [])) (10 ∷ [])))
 
 -- a text is put in one way: two slices left, and two places, are the same
-pub one-put : {before : List ℕ} {at : ℕ} {text a b : List ℕ} {m n : ℕ} → Put before at text a m → Put before at text b n → (a ≡ b) × (m ≡ n)
-one-put {before} {at} {text} {a} {b} {m} {n} p q = (sym (take-append-drop m a) ∙ halves ∙ take-append-drop n b, place)
+pub one_put : {before : List ℕ} {at : ℕ} {text a b : List ℕ} {m n : ℕ} → Put before at text a m → Put before at text b n → (a ≡ b) × (m ≡ n)
+one_put {before} {at} {text} {a} {b} {m} {n} p q = (sym (take-append-drop m a) ∙ halves ∙ take-append-drop n b, place)
   where
     place : m ≡ n
     place = p.past ∙ sym q.past

@@ -22,16 +22,16 @@ header =
     101 ∷ 118 ∷ 101 ∷ 110 ∷ 116 ∷ 32 ∷ 118 ∷ 101 ∷ 114 ∷ 100 ∷ 105 ∷ 99 ∷ 116 ∷ 32 ∷ 107 ∷ 101 ∷ 112 ∷ 116 ∷ 32 ∷ 114 ∷ 111 ∷ 111 ∷ 109 ∷ 10 ∷ []
 
 -- `bad line` and a line end
-abbrev pub badLine : List ℕ
-badLine = 98 ∷ 97 ∷ 100 ∷ 32 ∷ 108 ∷ 105 ∷ 110 ∷ 101 ∷ 10 ∷ []
+abbrev pub bad_line : List ℕ
+bad_line = 98 ∷ 97 ∷ 100 ∷ 32 ∷ 108 ∷ 105 ∷ 110 ∷ 101 ∷ 10 ∷ []
 
 -- a word, two numbers, each after a space, and a line end
 unfoldable pub word_line : List ℕ → ℕ → ℕ → List ℕ
 word_line word a b = word ++ (spaced (a ∷ b ∷ []) ++ (10 ∷ []))
 
 -- `no start`, a number and a place
-unfoldable pub noStart : ℕ → ℕ → List ℕ
-noStart number place = word_line (110 ∷ 111 ∷ 32 ∷ 115 ∷ 116 ∷ 97 ∷ 114 ∷ 116 ∷ []) number place
+unfoldable pub no_start : ℕ → ℕ → List ℕ
+no_start number place = word_line (110 ∷ 111 ∷ 32 ∷ 115 ∷ 116 ∷ 97 ∷ 114 ∷ 116 ∷ []) number place
 
 -- a verdict after a space: ` yes` or ` no`
 abbrev pub word : Bool → List ℕ
@@ -45,8 +45,8 @@ answered (Refused number place) = word_line (32 ∷ 114 ∷ 101 ∷ 102 ∷ 117 
 answered Started = 10 ∷ []
 
 -- the line of an event: its ordinal and its answer
-unfoldable pub answerLine : ℕ → Answer → List ℕ
-answerLine ordinal answer = numeral ordinal ++ answered answer
+unfoldable pub answer_line : ℕ → Answer → List ℕ
+answer_line ordinal answer = numeral ordinal ++ answered answer
 
 -- the header, where it is asked for
 abbrev pub headed : Bool → List ℕ
@@ -54,12 +54,12 @@ headed true = header
 headed false = []
 
 -- what is said of a line of the input
-unfoldable pub saidLine : Said → List ℕ
-saidLine Nothing = []
-saidLine Bad = badLine
-saidLine (NoStart number place) = noStart number place
-saidLine (Event ordinal answer) = answerLine ordinal answer
+unfoldable pub said_line : Said → List ℕ
+said_line Nothing = []
+said_line Bad = bad_line
+said_line (NoStart number place) = no_start number place
+said_line (Event ordinal answer) = answer_line ordinal answer
 
 -- all that is put out for a line of the input
-unfoldable pub toldLines : Told → List ℕ
-toldLines t = headed t.header ++ saidLine t.said
+unfoldable pub told_lines : Told → List ℕ
+told_lines t = headed t.header ++ said_line t.said

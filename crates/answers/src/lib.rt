@@ -1,7 +1,7 @@
 // The lines of the output, put into a slice of bytes. Which bytes each line has is in specs/Answers.antt.
 ghost use Rattle.std.specs.Prelude.{◌∷◌, ◌+◌, ◌≤◌, length};
 ghost use Rattle.lines.specs.Numeral.{numeral};
-ghost use Rattle.answers.specs.Answers.{Put, word_line, word, headed, answered, answerLine, saidLine, toldLines};
+ghost use Rattle.answers.specs.Answers.{Put, word_line, word, headed, answered, answer_line, said_line, told_lines};
 
 use meaning::Answer;
 
@@ -102,7 +102,7 @@ fn put_answered(out: &mut [u8], at: usize, answer: Answer) -> usize
 // The line of an event: its ordinal and its answer.
 fn put_answer(out: &mut [u8], at: usize, ordinal: u64, answer: Answer) -> usize
     requires { at + 51 ≤ length out.old }
-    ensures put { Put out.old at (answerLine ordinal answer) out.new result }
+    ensures put { Put out.old at (answer_line ordinal answer) out.new result }
     ensures upper_bound { result ≤ at + 51 }
 {
     let n = put_number(out, at, ordinal);
@@ -124,7 +124,7 @@ fn put_header(out: &mut [u8], at: usize, header: bool) -> usize
 // What is said of a line.
 fn put_said(out: &mut [u8], at: usize, said: Said) -> usize
     requires { at + 51 ≤ length out.old }
-    ensures put { Put out.old at (saidLine said) out.new result }
+    ensures put { Put out.old at (said_line said) out.new result }
     ensures upper_bound { result ≤ at + 51 }
 {
     match said {
@@ -138,7 +138,7 @@ fn put_said(out: &mut [u8], at: usize, said: Said) -> usize
 // All that is put out for a line.
 pub fn put_told(out: &mut [u8], at: usize, told: Told) -> usize
     requires { at + 75 ≤ length out.old }
-    ensures put { Put out.old at (toldLines told) out.new result }
+    ensures put { Put out.old at (told_lines told) out.new result }
     ensures upper_bound { result ≤ at + 75 }
 {
     let said = told.said;

@@ -8,38 +8,38 @@ use lib.Dec.{eqb}
 use borrow.Author.Tests.{ne_eqb}
 use Rattle.meaning.specs.Qtl.{Argument, variable, constant}
 use Rattle.meaning.specs.Rows
-use Rattle.text.specs.Unfold.{number_in, valueAfter}
-use Rattle.text.specs.Parts.{mark_of, contentOf, nine}
-use Rattle.atomic.specs.Arguments.{Puts, argumentOf, Adds}
+use Rattle.text.specs.Unfold.{number_in, value_after}
+use Rattle.text.specs.Parts.{mark_of, content_of, nine}
+use Rattle.atomic.specs.Arguments.{Puts, argument_of, Adds}
 
 module _ (vs : List (List ℕ)) (before : List ℕ) (code : ℕ) (x after : List ℕ) where
-  is_name : code ≡ 0 → argumentOf vs code x ≡ variable (number_in vs x) ∷ []
-  unfolding argumentOf
+  is_name : code ≡ 0 → argument_of vs code x ≡ variable (number_in vs x) ∷ []
+  unfolding argument_of
   is_name e = rw e
 
-  is_number : code ≡ 1 → argumentOf vs code x ≡ constant (valueAfter 0 x) ∷ []
-  unfolding argumentOf
+  is_number : code ≡ 1 → argument_of vs code x ≡ constant (value_after 0 x) ∷ []
+  unfolding argument_of
   is_number e = rw e
 
-  is_none : (code ≡ 0 → ⊥) → (code ≡ 1 → ⊥) → argumentOf vs code x ≡ []
-  unfolding argumentOf
-  is_none n m = rw (ne_eqb code 0 n, ne_eqb code 1 m, argumentOf)
+  is_none : (code ≡ 0 → ⊥) → (code ≡ 1 → ⊥) → argument_of vs code x ≡ []
+  unfolding argument_of
+  is_none n m = rw (ne_eqb code 0 n, ne_eqb code 1 m, argument_of)
 
   room : (gs : List Argument) (g : Argument) → length (gs ++ (g ∷ [])) ≤ 3 → length gs < 3
   room gs g h = omega (arith, length-append gs (g ∷ []))
 
-  pub add-name : (s : ℕ) → code ≡ 0 → s ≡ number_in vs x → Puts before 0 s after → Adds vs before code x after
-  add-name s e i k = record {
+  pub add_name : (s : ℕ) → code ≡ 0 → s ≡ number_in vs x → Puts before 0 s after → Adds vs before code x after
+  add_name s e i k = record {
     sized = k.sized;
-    adds = λ p gs b l v. rw (is_name e) (k.puts p gs (variable (number_in vs x)) b (room gs (variable (number_in vs x)) (rw (is_name e) at l)) (unfold mark_of in refl) (i ∙ unfold contentOf in refl));
+    adds = λ p gs b l v. rw (is_name e) (k.puts p gs (variable (number_in vs x)) b (room gs (variable (number_in vs x)) (rw (is_name e) at l)) (unfold mark_of in refl) (i ∙ unfold content_of in refl));
   }
 
-  pub add-number : (s : ℕ) → code ≡ 1 → s ≡ min (valueAfter 0 x) 4294967296 → Puts before 1 (s % 4294967296) after → Adds vs before code x after
-  add-number s e i k = record {
+  pub add_number : (s : ℕ) → code ≡ 1 → s ≡ min (value_after 0 x) 4294967296 → Puts before 1 (s % 4294967296) after → Adds vs before code x after
+  add_number s e i k = record {
     sized = k.sized;
     adds = λ p gs b l v.
-        let z : s % 4294967296 ≡ valueAfter 0 x = omega (arith, v e) in
-        rw (is_number e) (k.puts p gs (constant (valueAfter 0 x)) b (room gs (constant (valueAfter 0 x)) (rw (is_number e) at l)) (unfold mark_of in refl) (z ∙ unfold contentOf in refl));
+        let z : s % 4294967296 ≡ value_after 0 x = omega (arith, v e) in
+        rw (is_number e) (k.puts p gs (constant (value_after 0 x)) b (room gs (constant (value_after 0 x)) (rw (is_number e) at l)) (unfold mark_of in refl) (z ∙ unfold content_of in refl));
   }
 
 pub add_none : (vs : List (List ℕ)) (before : List ℕ) (code : ℕ) (x : List ℕ) → (code ≡ 0 → ⊥) → (code ≡ 1 → ⊥) → Adds vs before code x before

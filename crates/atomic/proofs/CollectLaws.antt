@@ -10,13 +10,13 @@ use borrow.Author.Tests.{ne_eqb, eq-eqb}
 use Rattle.meaning.specs.Qtl.{Argument}
 use Rattle.meaning.specs.Rows
 use Rattle.text.specs.Words.{Word, wordy, bytes_of, Spelled}
-use Rattle.text.specs.Unfold.{valueAfter}
-use Rattle.text.specs.Parts.{nine, pairsOf}
+use Rattle.text.specs.Unfold.{value_after}
+use Rattle.text.specs.Parts.{nine, pairs_of}
 use Rattle.spelling.specs.Codes.{code_of, kind_of, Spells, First, Next}
-use Rattle.spelling.proofs.KindLaws.{code_lt, opening-kind, closing-kind}
+use Rattle.spelling.proofs.KindLaws.{code_lt, opening_kind, closing_kind}
 use Rattle.census.specs.Folds.{Lexed}
 use Rattle.census.proofs.PassLaws.{nothing_left}
-use Rattle.atomic.specs.Arguments.{argumentOf, Adds, argumentsIn, argumentsAfter, Small, Collects, Numbers}
+use Rattle.atomic.specs.Arguments.{argument_of, Adds, arguments_in, arguments_after, Small, Collects, Numbers}
 
 -- the arguments so far and those of the words left
 pub record Left (vs : List (List ℕ)) (text now : List ℕ) (at p : ℕ) (whole : List Argument) : Type 0 where
@@ -25,54 +25,54 @@ pub record Left (vs : List (List ℕ)) (text now : List ℕ) (at p : ℕ) (whole
   pub spells : Spells us (drop at text)
   pub small : Small us
   pub so : now ≡ nine (Rows.atom p done)
-  pub all : whole ≡ done ++ argumentsIn vs us
+  pub all : whole ≡ done ++ arguments_in vs us
 
 pub record Collecting (vs : List (List ℕ)) (text before : List ℕ) (from : ℕ) (now : List ℕ) (at : ℕ) : Type 0 where
   pub lexed : Lexed text at
-  pub passed : (p : ℕ) (gs : List Argument) (ws : List Word) → before ≡ nine (Rows.atom p gs) → Spells ws (drop from text) → Small ws → length (gs ++ argumentsIn vs ws) ≤ 3
-      → Left vs text now at p (gs ++ argumentsIn vs ws)
+  pub passed : (p : ℕ) (gs : List Argument) (ws : List Word) → before ≡ nine (Rows.atom p gs) → Spells ws (drop from text) → Small ws → length (gs ++ arguments_in vs ws) ≤ 3
+      → Left vs text now at p (gs ++ arguments_in vs ws)
 
-pub collect-begins : (vs : List (List ℕ)) (text before : List ℕ) (from : ℕ) → Lexed text from → Collecting vs text before from before from
-collect-begins vs text before from l = record {
+pub collect_begins : (vs : List (List ℕ)) (text before : List ℕ) (from : ℕ) → Lexed text from → Collecting vs text before from before from
+collect_begins vs text before from l = record {
   lexed = l;
   passed = λ p gs ws b s m f. record { done = gs; us = ws; spells = s; small = m; so = b; all = refl };
 }
 
-none_in : (vs : List (List ℕ)) → argumentsIn vs [] ≡ []
-unfolding argumentsIn
+none_in : (vs : List (List ℕ)) → arguments_in vs [] ≡ []
+unfolding arguments_in
 none_in vs = refl
 
-closed_in : (vs : List (List ℕ)) (w : Word) (ws : List Word) → code_of w ≡ 15 → argumentsIn vs (w ∷ ws) ≡ []
-unfolding argumentsIn
-closed_in vs w ws e = rw (sym (closing-kind w) ∙ eq-eqb (code_of w) 15 e, argumentsIn)
+closed_in : (vs : List (List ℕ)) (w : Word) (ws : List Word) → code_of w ≡ 15 → arguments_in vs (w ∷ ws) ≡ []
+unfolding arguments_in
+closed_in vs w ws e = rw (sym (closing_kind w) ∙ eq-eqb (code_of w) 15 e, arguments_in)
 
-more-in : (vs : List (List ℕ)) (w : Word) (ws : List Word) → (code_of w ≡ 15 → ⊥) → argumentsIn vs (w ∷ ws) ≡ argumentOf vs (code_of w) (bytes_of w) ++ argumentsIn vs ws
-unfolding argumentsIn
-more-in vs w ws n = rw (sym (closing-kind w) ∙ ne_eqb (code_of w) 15 n, argumentsIn)
+more_in : (vs : List (List ℕ)) (w : Word) (ws : List Word) → (code_of w ≡ 15 → ⊥) → arguments_in vs (w ∷ ws) ≡ argument_of vs (code_of w) (bytes_of w) ++ arguments_in vs ws
+unfolding arguments_in
+more_in vs w ws n = rw (sym (closing_kind w) ∙ ne_eqb (code_of w) 15 n, arguments_in)
 
 module _ (vs : List (List ℕ)) (text before : List ℕ) (from : ℕ) (now : List ℕ) (at : ℕ) (k : Collecting vs text before from now at) where
-  finished : ((us : List Word) → Spells us (drop at text) → argumentsIn vs us ≡ []) → Collects vs text before from now
+  finished : ((us : List Word) → Spells us (drop at text) → arguments_in vs us ≡ []) → Collects vs text before from now
   finished h p gs ws b s m f =
-      let r : Left vs text now at p (gs ++ argumentsIn vs ws) = k.passed p gs ws b s m f in
+      let r : Left vs text now at p (gs ++ arguments_in vs ws) = k.passed p gs ws b s m f in
       r.so ∙ ap (λ (l : List Argument). nine (Rows.atom p l)) (sym (r.all ∙ rw (h r.us r.spells) (append-nil r.done)))
 
-  pub collect-over : length text ≤ at → Collects vs text before from now
-  collect-over l = finished (λ us s. ap (argumentsIn vs) (nothing_left text at us s k.lexed.inside l) ∙ none_in vs)
+  pub collect_over : length text ≤ at → Collects vs text before from now
+  collect_over l = finished (λ us s. ap (arguments_in vs) (nothing_left text at us s k.lexed.inside l) ∙ none_in vs)
 
   module _ (word here past : ℕ) (x : (v : Bool) (ws : List Word) → Spelled v ws (drop at text) → Next text at ws word here past) where
-    ended : (us : List Word) → Next text at us word here past → word ≡ 18 → argumentsIn vs us ≡ []
+    ended : (us : List Word) → Next text at us word here past → word ≡ 18 → arguments_in vs us ≡ []
     ended [] y e = none_in vs
     ended (w ∷ us) y e = absurd (omega (arith, y.code_is, code_lt w))
 
-    pub collect-ends : word ≡ 18 → Collects vs text before from now
-    collect-ends e = finished (λ us s. ended us (x s.after us s.spelled) e)
+    pub collect_ends : word ≡ 18 → Collects vs text before from now
+    collect_ends e = finished (λ us s. ended us (x s.after us s.spelled) e)
 
-    shut : (us : List Word) → Next text at us word here past → word ≡ 15 → argumentsIn vs us ≡ []
+    shut : (us : List Word) → Next text at us word here past → word ≡ 15 → arguments_in vs us ≡ []
     shut [] y e = absurd (omega arith)
     shut (w ∷ us) y e = closed_in vs w us (sym y.code_is ∙ e)
 
-    pub collect-shut : word ≡ 15 → Collects vs text before from now
-    collect-shut e = finished (λ us s. shut us (x s.after us s.spelled) e)
+    pub collect_shut : word ≡ 15 → Collects vs text before from now
+    collect_shut e = finished (λ us s. shut us (x s.after us s.spelled) e)
 
     module _ (e : word ≡ 18 → ⊥) where
       after : (us : List Word) → Next text at us word here past → (Lexed text past) × (at < past) × (here ≤ past)
@@ -83,73 +83,73 @@ module _ (vs : List (List ℕ)) (text before : List ℕ) (from : ℕ) (now : Lis
         omega (arith, y.long),
       )
 
-      pub collect-past : (Lexed text past) × (at < past) × (here ≤ past)
-      collect-past = after k.lexed.words (x k.lexed.spells.after k.lexed.words k.lexed.spells.spelled)
+      pub collect_past : (Lexed text past) × (at < past) × (here ≤ past)
+      collect_past = after k.lexed.words (x k.lexed.spells.after k.lexed.words k.lexed.spells.spelled)
 
       module _ (f : word ≡ 15 → ⊥) (now' : List ℕ) (a : Adds vs now word (take (past - here) (drop here text)) now') where
         on : (p : ℕ) (whole : List Argument) → length whole ≤ 3 → (done : List Argument) (us : List Word) → Next text at us word here past → Small us → now ≡ nine (Rows.atom p done)
-            → whole ≡ done ++ argumentsIn vs us → Left vs text now' past p whole
+            → whole ≡ done ++ arguments_in vs us → Left vs text now' past p whole
         on p whole l done [] y m b z = absurd (e y)
         on p whole l done (w ∷ us) y m b z =
-            let arg : argumentOf vs word (take (past - here) (drop here text)) ≡ argumentOf vs (code_of w) (bytes_of w) = rw (y.code_is, y.bytes-are) in
-            let next : whole ≡ (done ++ argumentOf vs (code_of w) (bytes_of w)) ++ argumentsIn vs us =
-            z ∙ rw (more-in vs w us (λ q. f (y.code_is ∙ q))) (sym (append_assoc done (argumentOf vs (code_of w) (bytes_of w)) (argumentsIn vs us))) in
-            let few : length (done ++ argumentOf vs (code_of w) (bytes_of w)) ≤ 3 =
-            omega (arith, ap length next, length-append (done ++ argumentOf vs (code_of w) (bytes_of w)) (argumentsIn vs us)) in
+            let arg : argument_of vs word (take (past - here) (drop here text)) ≡ argument_of vs (code_of w) (bytes_of w) = rw (y.code_is, y.bytes_are) in
+            let next : whole ≡ (done ++ argument_of vs (code_of w) (bytes_of w)) ++ arguments_in vs us =
+            z ∙ rw (more_in vs w us (λ q. f (y.code_is ∙ q))) (sym (append_assoc done (argument_of vs (code_of w) (bytes_of w)) (arguments_in vs us))) in
+            let few : length (done ++ argument_of vs (code_of w) (bytes_of w)) ≤ 3 =
+            omega (arith, ap length next, length-append (done ++ argument_of vs (code_of w) (bytes_of w)) (arguments_in vs us)) in
             record {
-              done = done ++ argumentOf vs (code_of w) (bytes_of w);
+              done = done ++ argument_of vs (code_of w) (bytes_of w);
               us = us;
               spells = record { after = wordy w; spelled = y.rest };
               small = m.1;
-              so = a.adds p done b (rw arg few) (λ q. rw y.bytes-are (m.0 (sym y.code_is ∙ q))) ∙ ap (λ (l : List Argument). nine (Rows.atom p (done ++ l))) arg;
+              so = a.adds p done b (rw arg few) (λ q. rw y.bytes_are (m.0 (sym y.code_is ∙ q))) ∙ ap (λ (l : List Argument). nine (Rows.atom p (done ++ l))) arg;
               all = next;
             }
 
-        pub collect-more : Collecting vs text before from now' past
-        collect-more = record {
-          lexed = collect-past.0;
+        pub collect_more : Collecting vs text before from now' past
+        collect_more = record {
+          lexed = collect_past.0;
           passed = λ p gs ws b s m l.
-              let r : Left vs text now at p (gs ++ argumentsIn vs ws) = k.passed p gs ws b s m l in
-              on p (gs ++ argumentsIn vs ws) l r.done r.us (x r.spells.after r.us r.spells.spelled) r.small r.so r.all;
+              let r : Left vs text now at p (gs ++ arguments_in vs ws) = k.passed p gs ws b s m l in
+              on p (gs ++ arguments_in vs ws) l r.done r.us (x r.spells.after r.us r.spells.spelled) r.small r.so r.all;
         }
 
 -- the whole atom
-none_after : (vs : List (List ℕ)) → argumentsAfter vs [] ≡ []
-unfolding argumentsAfter
+none_after : (vs : List (List ℕ)) → arguments_after vs [] ≡ []
+unfolding arguments_after
 none_after vs = refl
 
-no_arguments : (vs : List (List ℕ)) (w : Word) (ws : List Word) → (code_of w ≡ 14 → ⊥) → argumentsAfter vs (w ∷ ws) ≡ []
-unfolding argumentsAfter
-no_arguments vs w ws n = rw (sym (opening-kind w) ∙ ne_eqb (code_of w) 14 n, argumentsAfter)
+no_arguments : (vs : List (List ℕ)) (w : Word) (ws : List Word) → (code_of w ≡ 14 → ⊥) → arguments_after vs (w ∷ ws) ≡ []
+unfolding arguments_after
+no_arguments vs w ws n = rw (sym (opening_kind w) ∙ ne_eqb (code_of w) 14 n, arguments_after)
 
-some-arguments : (vs : List (List ℕ)) (w : Word) (ws : List Word) → code_of w ≡ 14 → argumentsAfter vs (w ∷ ws) ≡ argumentsIn vs ws
-unfolding argumentsAfter
-some-arguments vs w ws e = rw (sym (opening-kind w) ∙ eq-eqb (code_of w) 14 e, argumentsAfter)
+some_arguments : (vs : List (List ℕ)) (w : Word) (ws : List Word) → code_of w ≡ 14 → arguments_after vs (w ∷ ws) ≡ arguments_in vs ws
+unfolding arguments_after
+some_arguments vs w ws e = rw (sym (opening_kind w) ∙ eq-eqb (code_of w) 14 e, arguments_after)
 
 alone : (p : ℕ) → 2 ∷ p ∷ 0 ∷ 0 ∷ 0 ∷ 0 ∷ 0 ∷ 0 ∷ 0 ∷ [] ≡ nine (Rows.atom p [])
-unfolding nine pairsOf
+unfolding nine pairs_of
 alone p = refl
 
 module _ (vs : List (List ℕ)) (text : List ℕ) (p at word here past : ℕ) (x : (v : Bool) (ws : List Word) → Spelled v ws (drop at text) → Next text at ws word here past) where
-  pub atom-alone : (word ≡ 14 → ⊥) → Numbers vs text p at (2 ∷ p ∷ 0 ∷ 0 ∷ 0 ∷ 0 ∷ 0 ∷ 0 ∷ 0 ∷ [])
-  atom-alone n ws s m l = alone p ∙ ap (λ (gs : List Argument). nine (Rows.atom p gs)) (sym (by ws (x s.after ws s.spelled)))
+  pub atom_alone : (word ≡ 14 → ⊥) → Numbers vs text p at (2 ∷ p ∷ 0 ∷ 0 ∷ 0 ∷ 0 ∷ 0 ∷ 0 ∷ 0 ∷ [])
+  atom_alone n ws s m l = alone p ∙ ap (λ (gs : List Argument). nine (Rows.atom p gs)) (sym (by ws (x s.after ws s.spelled)))
     where
-      by : (ws : List Word) → Next text at ws word here past → argumentsAfter vs ws ≡ []
+      by : (ws : List Word) → Next text at ws word here past → arguments_after vs ws ≡ []
       by [] y = none_after vs
       by (w ∷ ws) y = no_arguments vs w ws (λ q. n (y.code_is ∙ q))
 
-  pub atom-lexed : Lexed text at → word ≡ 14 → Lexed text past
-  atom-lexed l e = by l.words (x l.spells.after l.words l.spells.spelled)
+  pub atom_lexed : Lexed text at → word ≡ 14 → Lexed text past
+  atom_lexed l e = by l.words (x l.spells.after l.words l.spells.spelled)
     where
       by : (ws : List Word) → Next text at ws word here past → Lexed text past
       by [] y = absurd (omega arith)
       by (w ∷ ws) y = record { inside = y.high; words = ws; spells = record { after = wordy w; spelled = y.rest } }
 
-  pub atom-some : (after : List ℕ) → word ≡ 14 → Collects vs text (2 ∷ p ∷ 0 ∷ 0 ∷ 0 ∷ 0 ∷ 0 ∷ 0 ∷ 0 ∷ []) past after → Numbers vs text p at after
-  atom-some after e c ws s m l = by ws (x s.after ws s.spelled) m l
+  pub atom_some : (after : List ℕ) → word ≡ 14 → Collects vs text (2 ∷ p ∷ 0 ∷ 0 ∷ 0 ∷ 0 ∷ 0 ∷ 0 ∷ 0 ∷ []) past after → Numbers vs text p at after
+  atom_some after e c ws s m l = by ws (x s.after ws s.spelled) m l
     where
-      by : (ws : List Word) → Next text at ws word here past → Small ws → length (argumentsAfter vs ws) ≤ 3 → after ≡ nine (Rows.atom p (argumentsAfter vs ws))
+      by : (ws : List Word) → Next text at ws word here past → Small ws → length (arguments_after vs ws) ≤ 3 → after ≡ nine (Rows.atom p (arguments_after vs ws))
       by [] y m l = absurd (omega arith)
       by (w ∷ ws) y m l =
-          let z : argumentsAfter vs (w ∷ ws) ≡ argumentsIn vs ws = some-arguments vs w ws (sym y.code_is ∙ e) in
+          let z : arguments_after vs (w ∷ ws) ≡ arguments_in vs ws = some_arguments vs w ws (sym y.code_is ∙ e) in
           rw z (c p [] ws (alone p) (record { after = wordy w; spelled = y.rest }) m.1 (rw z at l))

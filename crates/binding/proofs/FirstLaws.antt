@@ -10,20 +10,20 @@ use lib.ListN.{length, get_or, set, replicate, length-set, length-replicate, get
 use lib.Seq.{ext_get_or, get_or-set_same, get_or-set_other}
 use Rattle.trees.specs.Bits.{Bits, Function, number}
 use Rattle.trees.specs.Tree.{Tree, off, eval, Fine}
-use Rattle.trees.specs.Table.{at, treesOf}
-use Rattle.trees.proofs.Tests.{lt-or-ge}
-use Rattle.trees.proofs.BitsLaws.{Outside, number-agree, number_lt, write, write-outside, write-number}
+use Rattle.trees.specs.Table.{at, trees_of}
+use Rattle.trees.proofs.Tests.{lt_or_ge}
+use Rattle.trees.proofs.BitsLaws.{Outside, number_agree, number_lt, write, write_outside, write_number}
 use Rattle.nodes.specs.Nodes.{Table}
 use Rattle.binding.specs.First.{Order, shown, Shows, First}
 use Rattle.binding.specs.Fixing.{Meets, Free, can, Fixes}
-use Rattle.binding.proofs.CanLaws.{can-some, can-free}
+use Rattle.binding.proofs.CanLaws.{can_some, can_free}
 
 -- different variables have different levels
-levels-apart : (k u v l : ℕ) → u ≢ v → u * k ≤ l → l < u * k + k → (l < v * k) ⊎ (v * k + k ≤ l)
-levels-apart k u v l n p q = ⊎_elim
+levels_apart : (k u v l : ℕ) → u ≢ v → u * k ≤ l → l < u * k + k → (l < v * k) ⊎ (v * k + k ≤ l)
+levels_apart k u v l n p q = ⊎_elim
     (λ h. let m : suc u * k ≤ v * k = mul-le-mul_right k h in inl (omega arith))
     (λ h. let m : suc v * k ≤ u * k = mul-le-mul_right k (above h) in inr (omega arith))
-    (lt-or-ge u v)
+    (lt_or_ge u v)
   where
     above : v ≤ u → suc v ≤ u
     above h = omega arith
@@ -50,7 +50,7 @@ module _ (k : ℕ) (g : Function) (vs : List ℕ) (count : ℕ) (ms ns : List �
 
   -- so two answers, 0 past them, are the same
   pub one_answer : length ms ≡ length ns → ((i : ℕ) → count ≤ i → get_or ms i 0 ≡ 0) → ((i : ℕ) → count ≤ i → get_or ns i 0 ≡ 0) → ms ≡ ns
-  one_answer size a b = ext_get_or 0 ms ns size (λ i l. ⊎_elim (first_one i) (λ q. a i q ∙ sym (b i q)) (lt-or-ge i count))
+  one_answer size a b = ext_get_or 0 ms ns size (λ i l. ⊎_elim (first_one i) (λ q. a i q ∙ sym (b i q)) (lt_or_ge i count))
 
 -- a function that asks only the variables of the order holds for all bits that show its first binding
 pub first_holds : (k : ℕ) (g : Function) (vs : List ℕ) (count : ℕ) (ms : List ℕ) → First k g vs count ms
@@ -58,17 +58,17 @@ pub first_holds : (k : ℕ) (g : Function) (vs : List ℕ) (count : ℕ) (ms : L
 first_holds k g vs count ms f asks s w = let t = f.some in asks s t.0 (λ i h. w.each i h ∙ sym (t.1.each i h)) ∙ t.2
 
 -- a variable that the function does not ask gets 0
-pub unasked-zero : (k : ℕ) (g : Function) (vs : List ℕ) (count : ℕ) (ms : List ℕ) → Order vs count → First k g vs count ms → (i : ℕ) → i < count
+pub unasked_zero : (k : ℕ) (g : Function) (vs : List ℕ) (count : ℕ) (ms : List ℕ) → Order vs count → First k g vs count ms → (i : ℕ) → i < count
     → ((s t : Bits) → Outside (get_or vs i 0 * k) k s t → g s ≡ g t) → get_or ms i 0 ≡ 0
 unfolding shown
-unasked-zero k g vs count ms o f i h ignores =
+unasked_zero k g vs count ms o f i h ignores =
     let v = get_or vs i 0 in
     let s = f.some.0 in
     let t = write s (v * k) k 0 in
-    let out : Outside (v * k) k s t = λ l p. sym (write-outside s (v * k) k 0 l p) in
-    let z = write-number s (v * k) k 0 (omega (arith, number_lt s (v * k) k)) in
+    let out : Outside (v * k) k s t = λ l p. sym (write_outside s (v * k) k 0 l p) in
+    let z = write_number s (v * k) k 0 (omega (arith, number_lt s (v * k) k)) in
     let others : Shows k vs ms i t = record {
-      each = λ j q. sym (number-agree s t (get_or vs j 0 * k) k (λ l a b. out l (levels-apart k (get_or vs j 0) v l (λ e. o.differ i j h q (sym e)) a b))) ∙ f.some.1.each j (omega arith);
+      each = λ j q. sym (number_agree s t (get_or vs j 0 * k) k (λ l a b. out l (levels_apart k (get_or vs j 0) v l (λ e. o.differ i j h q (sym e)) a b))) ∙ f.some.1.each j (omega arith);
     } in
     omega (arith, z, f.least i h t others (sym (ignores s t out) ∙ f.some.2))
 
@@ -78,7 +78,7 @@ pub record Going (d : Tree) (k : ℕ) (vs : List ℕ) (count i : ℕ) (fs ms : L
   pub four : length ms ≡ 4
   pub met : (s : Bits) → Meets fs s → Shows k vs ms i s
   pub meets : (s : Bits) → Shows k vs ms i s → Meets fs s
-  pub can-still : can fs d ≡ true
+  pub can_still : can fs d ≡ true
   pub least : (j : ℕ) → j < i → (t : Bits) → Shows k vs ms j t → eval d t ≡ true → get_or ms j 0 ≤ shown k vs t j
   pub free : (j : ℕ) → i ≤ j → j < count → Free (get_or vs j 0 * k) k fs
   pub past : (j : ℕ) → i ≤ j → get_or ms j 0 ≡ 0
@@ -87,33 +87,33 @@ pub record Going (d : Tree) (k : ℕ) (vs : List ℕ) (count i : ℕ) (fs ms : L
 abbrev zeros : ℕ → List ℕ
 zeros n = replicate n 0
 
-zero-at : (n i : ℕ) → get_or (zeros n) i 0 ≡ 0
-zero-at n i = ⊎_elim
+zero_at : (n i : ℕ) → get_or (zeros n) i 0 ≡ 0
+zero_at n i = ⊎_elim
     (λ h. get_or-replicate n i 0 0 h)
     (λ h. get_or-eq_default (zeros n) 0 (rw (length-replicate {A = ℕ} n 0) h))
-    (lt-or-ge i n)
+    (lt_or_ge i n)
 
 -- a reference other than 0 leads to a diagram other than no
-pub not-no : {ns : List ℕ} {kept p : ℕ} → Table ns kept → 0 < p → p < kept + 2 → at (treesOf ns kept) p ≢ off
+pub not_no : {ns : List ℕ} {kept p : ℕ} → Table ns kept → 0 < p → p < kept + 2 → at (trees_of ns kept) p ≢ off
 unfolding at
-not-no {p = p} t pos h e = let z = t.one p 0 h (omega arith) e in omega arith
+not_no {p = p} t pos h e = let z = t.one p 0 h (omega arith) e in omega arith
 
 -- none is bound, and a diagram other than no can say yes
-pub going-none : (d : Tree) (k : ℕ) (vs : List ℕ) (count hi : ℕ) → Fine 0 hi d → d ≢ off → Going d k vs count 0 (zeros 40) (zeros 4)
-going-none d k vs count hi fine some = record {
+pub going_none : (d : Tree) (k : ℕ) (vs : List ℕ) (count hi : ℕ) → Fine 0 hi d → d ≢ off → Going d k vs count 0 (zeros 40) (zeros 4)
+going_none d k vs count hi fine some = record {
   size = refl;
   four = refl;
   met = λ s w. record { each = λ i h. absurd (omega arith) };
-  meets = λ s w. record { each = λ l x e. absurd (omega (arith, zero-at 40 l, e)) };
-  can-still = can-free (zeros 40) (zero-at 40) 0 hi d fine some;
+  meets = λ s w. record { each = λ l x e. absurd (omega (arith, zero_at 40 l, e)) };
+  can_still = can_free (zeros 40) (zero_at 40) 0 hi d fine some;
   least = λ j h t w e. absurd (omega arith);
-  free = λ j p q. record { each = λ l a b. zero-at 40 l };
-  past = λ j h. zero-at 4 j;
+  free = λ j p q. record { each = λ l a b. zero_at 40 l };
+  past = λ j h. zero_at 4 j;
 }
 
 -- the same, with other words for the count
-pub going-same : {d : Tree} {k : ℕ} {vs : List ℕ} {count i j : ℕ} {fs ms : List ℕ} → i ≡ j → Going d k vs count i fs ms → Going d k vs count j fs ms
-going-same e g = rw (← e) g
+pub going_same : {d : Tree} {k : ℕ} {vs : List ℕ} {count i j : ℕ} {fs ms : List ℕ} → i ≡ j → Going d k vs count i fs ms → Going d k vs count j fs ms
+going_same e g = rw (← e) g
 
 -- one variable more is bound
 module _ {d : Tree} {k : ℕ} {vs : List ℕ} {count i : ℕ} {fs fs' ms : List ℕ} {m : ℕ} (order : Order vs count) (h : i < count) (four : count ≤ 4)
@@ -135,10 +135,10 @@ module _ {d : Tree} {k : ℕ} {vs : List ℕ} {count i : ℕ} {fs fs' ms : List 
     four = length-set ms i m ∙ g.four;
     met = λ s w. let p = f.met s w in record { each = λ j q. tells s (g.met s p.0) p.1 j q };
     meets = λ s w. f.meets s (g.meets s (before i (omega arith) s (record { each = λ j q. w.each j (omega arith) }))) (w.each i (omega arith) ∙ own);
-    can-still = f.can-still;
+    can_still = f.can_still;
     least = λ j q t w e. low j q t w e;
     free = λ j p q. record {
-      each = λ l a b. f.rest l (levels-apart k (get_or vs j 0) (get_or vs i 0) l (order.differ j i q (omega arith)) a b) ∙ (g.free j (omega arith) q).each l a b;
+      each = λ l a b. f.rest l (levels_apart k (get_or vs j 0) (get_or vs i 0) l (order.differ j i q (omega arith)) a b) ∙ (g.free j (omega arith) q).each l a b;
     };
     past = λ j p. get_or-set_other ms i j m 0 (λ e. omega arith) ∙ g.past j (omega arith);
   }
@@ -159,7 +159,7 @@ module _ {d : Tree} {k : ℕ} {vs : List ℕ} {count i : ℕ} {fs fs' ms : List 
           here j y w = rw (y, own) (f.least t (g.meets t (before i (omega arith) t (rw y at w))) e)
 
 -- all are bound
-pub going-first : {d : Tree} {k : ℕ} {vs : List ℕ} {count : ℕ} {fs ms : List ℕ} → (hi : ℕ) → Fine 0 hi d → Going d k vs count count fs ms → First k (eval d) vs count ms
-going-first {d} {fs = fs} hi fine g =
-    let t = can-some fs hi d fine g.can-still in
+pub going_first : {d : Tree} {k : ℕ} {vs : List ℕ} {count : ℕ} {fs ms : List ℕ} → (hi : ℕ) → Fine 0 hi d → Going d k vs count count fs ms → First k (eval d) vs count ms
+going_first {d} {fs = fs} hi fine g =
+    let t = can_some fs hi d fine g.can_still in
     record { some = (t.0, g.met t.0 t.1, t.2); least = g.least }

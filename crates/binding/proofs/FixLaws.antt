@@ -11,42 +11,42 @@ use lib.ListN.{length, get_or, set, length-set}
 use lib.Seq.{get_or-set_other, set-set}
 use Rattle.trees.specs.Bits.{Bits, bit, number}
 use Rattle.trees.specs.Tree.{Tree, eval, Fine}
-use Rattle.trees.proofs.Tests.{bool, false-true}
+use Rattle.trees.proofs.Tests.{bool, false_true}
 use Rattle.trees.proofs.BitsLaws.{number_lt}
 use Rattle.binding.specs.Fixing.{Meets, can, Settles, Fixes}
-use Rattle.binding.proofs.CanLaws.{bit-small, can-of, can-some, meets-set, set-meets}
+use Rattle.binding.proofs.CanLaws.{bit_small, can_of, can_some, meets_set, set_meets}
 
 -- where the test says that d can say yes with 0 there, the bit is 0
-pub settles-zero : (d : Tree) (l : ℕ) (fs : List ℕ) {r : Bool} → r ≡ can (set fs l 1) d → r ≡ true → Settles d l fs (set fs l 1) 0
-settles-zero d l fs e h = record { bit_is = rw (← e, h) refl; fixed-is = refl }
+pub settles_zero : (d : Tree) (l : ℕ) (fs : List ℕ) {r : Bool} → r ≡ can (set fs l 1) d → r ≡ true → Settles d l fs (set fs l 1) 0
+settles_zero d l fs e h = record { bit_is = rw (← e, h) refl; fixed_is = refl }
 
 -- and else 1
-pub settles-one : (d : Tree) (l : ℕ) (fs : List ℕ) {r : Bool} → r ≡ can (set fs l 1) d → r ≡ false → Settles d l fs (set (set fs l 1) l 2) 1
-settles-one d l fs e h = record { bit_is = rw (← e, h) refl; fixed-is = set-set fs l 1 2 }
+pub settles_one : (d : Tree) (l : ℕ) (fs : List ℕ) {r : Bool} → r ≡ can (set fs l 1) d → r ≡ false → Settles d l fs (set (set fs l 1) l 2) 1
+settles_one d l fs e h = record { bit_is = rw (← e, h) refl; fixed_is = set-set fs l 1 2 }
 
-pub settles-small : {d : Tree} {l : ℕ} {fs fs' : List ℕ} {x : ℕ} → Settles d l fs fs' x → x < 2
-settles-small {d} {l} {fs} w = rw w.bit_is (bit-small (not (can (set fs l 1) d)))
+pub settles_small : {d : Tree} {l : ℕ} {fs fs' : List ℕ} {x : ℕ} → Settles d l fs fs' x → x < 2
+settles_small {d} {l} {fs} w = rw w.bit_is (bit_small (not (can (set fs l 1) d)))
 
 -- no bit is fixed yet
-pub fixes-none : (d : Tree) (base n : ℕ) (fs : List ℕ) → n ≡ 0 → can fs d ≡ true → Fixes d base n fs fs 0
+pub fixes_none : (d : Tree) (base n : ℕ) (fs : List ℕ) → n ≡ 0 → can fs d ≡ true → Fixes d base n fs fs 0
 unfolding number
-fixes-none d base n fs z h = record {
+fixes_none d base n fs z h = record {
   size = refl;
   met = λ s w. (w, ap (number s base) z);
   meets = λ s w e. w;
-  can-still = h;
+  can_still = h;
   least = λ t w e. omega arith;
   rest = λ l o. refl;
 }
 
 -- the same, with other words for the level and the count
-pub fixes-same : {d : Tree} {base base' n n' : ℕ} {fs fs' : List ℕ} {m : ℕ} → base ≡ base' → n ≡ n' → Fixes d base n fs fs' m → Fixes d base' n' fs fs' m
-fixes-same e g f = rw (← e, ← g) f
+pub fixes_same : {d : Tree} {base base' n n' : ℕ} {fs fs' : List ℕ} {m : ℕ} → base ≡ base' → n ≡ n' → Fixes d base n fs fs' m → Fixes d base' n' fs fs' m
+fixes_same e g f = rw (← e, ← g) f
 
 -- the number that is fixed is shown by some bits, so it is small
-pub fixes-lt : {d : Tree} {base n : ℕ} {fs fs' : List ℕ} {m : ℕ} → (hi : ℕ) → Fine 0 hi d → Fixes d base n fs fs' m → m < 2 ^ n
-fixes-lt {d} {base} {n} {fs' = fs'} hi fine f =
-    let t = can-some fs' hi d fine f.can-still in
+pub fixes_lt : {d : Tree} {base n : ℕ} {fs fs' : List ℕ} {m : ℕ} → (hi : ℕ) → Fine 0 hi d → Fixes d base n fs fs' m → m < 2 ^ n
+fixes_lt {d} {base} {n} {fs' = fs'} hi fine f =
+    let t = can_some fs' hi d fine f.can_still in
     omega (arith, (f.met t.0 t.1).1, number_lt t.0 base n)
 
 -- two bits and the numbers above them, told apart
@@ -60,8 +60,8 @@ module _ (d : Tree) (base n : ℕ) (fs fs' : List ℕ) (m : ℕ) (f : Fixes d (s
   below : base < length fs'
   below = omega (arith, inside, f.size)
 
-  free-still : get_or fs' base 0 ≡ 0
-  free-still = f.rest base (inl (omega arith)) ∙ free
+  free_still : get_or fs' base 0 ≡ 0
+  free_still = f.rest base (inl (omega arith)) ∙ free
 
   -- one bit more, which is the least that will do
   one_bit : (y : Bool) → can (set fs' base (suc (bit y))) d ≡ true → ((t : Bits) → Meets fs' t → eval d t ≡ true → bit y ≤ bit (t base))
@@ -70,11 +70,11 @@ module _ (d : Tree) (base n : ℕ) (fs fs' : List ℕ) (m : ℕ) (f : Fixes d (s
   one_bit y still low = record {
     size = length-set fs' base (suc (bit y)) ∙ f.size;
     met = λ s w.
-        let p = set-meets fs' base y s below free-still w in
+        let p = set_meets fs' base y s below free_still w in
         let q = f.met s p.0 in
         (q.0, rw (p.1, q.1) (swap m (bit y)));
-    meets = λ s w e. let p = odd_even (s base) y (number s (suc base) n) m e in meets-set fs' base y s below (f.meets s w p.1) p.0;
-    can-still = still;
+    meets = λ s w e. let p = odd_even (s base) y (number s (suc base) n) m e in meets_set fs' base y s below (f.meets s w p.1) p.0;
+    can_still = still;
     least = λ t w e. more t w e (eq-or-lt_of_le (f.least t w e));
     rest = λ l o. get_or-set_other fs' base l (suc (bit y)) 0 (apart l o) ∙ f.rest l (around l o);
   }
@@ -84,7 +84,7 @@ module _ (d : Tree) (base n : ℕ) (fs fs' : List ℕ) (m : ℕ) (f : Fixes d (s
 
       more : (t : Bits) → Meets fs t → eval d t ≡ true → (m ≡ number t (suc base) n) ⊎ (m < number t (suc base) n) → 2 * m + bit y ≤ bit (t base) + 2 * number t (suc base) n
       more t w e (inl q) = omega (arith, q, low t (f.meets t w (sym q)) e)
-      more t w e (inr q) = omega (arith, q, bit-small y)
+      more t w e (inr q) = omega (arith, q, bit_small y)
 
       apart : (l : ℕ) → (l < base) ⊎ (base + suc n ≤ l) → l ≡ base → ⊥
       apart l (inl o) e = omega arith
@@ -95,16 +95,16 @@ module _ (d : Tree) (base n : ℕ) (fs fs' : List ℕ) (m : ℕ) (f : Fixes d (s
       around l (inr o) = inr (omega arith)
 
   -- the bit is 0 where the diagram can still say yes, and else 1
-  pub fixes-more : (hi : ℕ) → Fine 0 hi d → {fs'' : List ℕ} {x : ℕ} → Settles d base fs' fs'' x → Fixes d base (suc n) fs fs'' (2 * m + x)
-  fixes-more hi fine w = rw (w.fixed-is, w.bit_is) (go (can (set fs' base 1) d) refl)
+  pub fixes_more : (hi : ℕ) → Fine 0 hi d → {fs'' : List ℕ} {x : ℕ} → Settles d base fs' fs'' x → Fixes d base (suc n) fs fs'' (2 * m + x)
+  fixes_more hi fine w = rw (w.fixed_is, w.bit_is) (go (can (set fs' base 1) d) refl)
     where
       must : can (set fs' base 1) d ≡ false → (t : Bits) → Meets fs' t → eval d t ≡ true → t base ≡ true
-      must q t w h = ⊎_elim (λ z. z) (λ z. absurd (false-true q (can-of (set fs' base 1) d t (meets-set fs' base false t below w z) h))) (bool (t base))
+      must q t w h = ⊎_elim (λ z. z) (λ z. absurd (false_true q (can_of (set fs' base 1) d t (meets_set fs' base false t below w z) h))) (bool (t base))
 
       go : (q : Bool) → can (set fs' base 1) d ≡ q → Fixes d base (suc n) fs (set fs' base (suc (bit (not q)))) (2 * m + bit (not q))
       go true q = one_bit false q (λ t w h. omega arith)
       go false q =
-          let s = can-some fs' hi d fine f.can-still in
+          let s = can_some fs' hi d fine f.can_still in
           one_bit true
-          (can-of (set fs' base 2) d s.0 (meets-set fs' base true s.0 below s.1 (must q s.0 s.1 s.2)) s.2)
+          (can_of (set fs' base 2) d s.0 (meets_set fs' base true s.0 below s.1 (must q s.0 s.1 s.2)) s.2)
           (λ t w h. rw (must q t w h) (omega arith))

@@ -11,56 +11,56 @@ use lib.ListN.{length, get_or, set, length-set}
 use lib.Seq.{get_or-set_same, get_or-set_other}
 use Rattle.trees.specs.Bits.{bit}
 use Rattle.trees.specs.Tree.{Tree, node}
-use Rattle.trees.specs.Table.{at, treesOf}
+use Rattle.trees.specs.Table.{at, trees_of}
 use Rattle.nodes.specs.Nodes.{Table, Splits}
 use Rattle.nodes.proofs.ReadLaws.{read_below}
 use Rattle.binding.specs.Fixing.{either, can, Marks}
 
 -- an open bit allows both sides
-pub either-open : (f : ℕ) (a b : Bool) → f ≢ 1 → f ≢ 2 → either f a b ≡ (a || b)
+pub either_open : (f : ℕ) (a b : Bool) → f ≢ 1 → f ≢ 2 → either f a b ≡ (a || b)
 unfolding either
-either-open zero a b p q = refl
-either-open (suc zero) a b p q = absurd (p refl)
-either-open (suc (suc zero)) a b p q = absurd (q refl)
-either-open (suc (suc (suc f))) a b p q = refl
+either_open zero a b p q = refl
+either_open (suc zero) a b p q = absurd (p refl)
+either_open (suc (suc zero)) a b p q = absurd (q refl)
+either_open (suc (suc (suc f))) a b p q = refl
 
 -- a low mark of 1 is enough, and after another the high one tells
-pub low-enough : (a b : Bool) → bit a ≡ 1 → 1 ≡ bit (a || b)
-low-enough true b e = refl
-low-enough false b e = absurd (omega arith)
+pub low_enough : (a b : Bool) → bit a ≡ 1 → 1 ≡ bit (a || b)
+low_enough true b e = refl
+low_enough false b e = absurd (omega arith)
 
-pub high-tells : (a b : Bool) → bit a ≢ 1 → bit b ≡ bit (a || b)
-high-tells true b e = absurd (e refl)
-high-tells false b e = refl
+pub high_tells : (a b : Bool) → bit a ≢ 1 → bit b ≡ bit (a || b)
+high_tells true b e = absurd (e refl)
+high_tells false b e = refl
 
 -- a mark as a test
-pub mark-test : (y : Bool) → eqb (bit y) 1 ≡ y
-mark-test true = refl
-mark-test false = refl
+pub mark_test : (y : Bool) → eqb (bit y) 1 ≡ y
+mark_test true = refl
+mark_test false = refl
 
 -- the leaves' marks
-pub marks-none : (ns : List ℕ) (kept : ℕ) (fs w : List ℕ) → 2 ≤ length w → Marks ns kept fs (set (set w 0 0) 1 1) 2
+pub marks_none : (ns : List ℕ) (kept : ℕ) (fs w : List ℕ) → 2 ≤ length w → Marks ns kept fs (set (set w 0 0) 1 1) 2
 unfolding at can
-marks-none ns kept fs w h = record { is = go }
+marks_none ns kept fs w h = record { is = go }
   where
-    go : (q : ℕ) → q < 2 → get_or (set (set w 0 0) 1 1) q 0 ≡ bit (can fs (at (treesOf ns kept) q))
+    go : (q : ℕ) → q < 2 → get_or (set (set w 0 0) 1 1) q 0 ≡ bit (can fs (at (trees_of ns kept) q))
     go zero l = get_or-set_other (set w 0 0) 1 0 1 0 (omega arith) ∙ get_or-set_same w 0 0 0 (omega arith)
     go (suc zero) l = get_or-set_same (set w 0 0) 1 1 0 (rw length-set h)
     go (suc (suc q)) l = absurd (omega arith)
 
 -- one reference more is marked
-pub marks-more : {ns : List ℕ} {kept : ℕ} {fs w : List ℕ} {r : ℕ} → Marks ns kept fs w r → r < length w
-    → (x : ℕ) → x ≡ bit (can fs (at (treesOf ns kept) r)) → Marks ns kept fs (set w r x) (r + 1)
-marks-more {ns} {kept} {fs} {w} {r} m l x e = record { is = λ q h. go q h (ℕ_discrete q r) }
+pub marks_more : {ns : List ℕ} {kept : ℕ} {fs w : List ℕ} {r : ℕ} → Marks ns kept fs w r → r < length w
+    → (x : ℕ) → x ≡ bit (can fs (at (trees_of ns kept) r)) → Marks ns kept fs (set w r x) (r + 1)
+marks_more {ns} {kept} {fs} {w} {r} m l x e = record { is = λ q h. go q h (ℕ_discrete q r) }
   where
-    go : (q : ℕ) → q < r + 1 → Dec (q ≡ r) → get_or (set w r x) q 0 ≡ bit (can fs (at (treesOf ns kept) q))
+    go : (q : ℕ) → q < r + 1 → Dec (q ≡ r) → get_or (set w r x) q 0 ≡ bit (can fs (at (trees_of ns kept) q))
     go q h (yes z) = rw (z, get_or-set_same w r x 0 l) e
     go q h (no z) = get_or-set_other w r q x 0 z ∙ m.is q (omega arith)
 
 -- the mark of a node, from its sides' marks
-pub node-can : {ns : List ℕ} {kept : ℕ} {fs w : List ℕ} {r l a b : ℕ} → Table ns kept → 2 ≤ r → r < kept + 2 → Splits ns kept r l a b → Marks ns kept fs w r
-    → (x : ℕ) → ((p q : Bool) → get_or w a 0 ≡ bit p → get_or w b 0 ≡ bit q → x ≡ bit (either (get_or fs l 0) p q)) → x ≡ bit (can fs (at (treesOf ns kept) r))
+pub node_can : {ns : List ℕ} {kept : ℕ} {fs w : List ℕ} {r l a b : ℕ} → Table ns kept → 2 ≤ r → r < kept + 2 → Splits ns kept r l a b → Marks ns kept fs w r
+    → (x : ℕ) → ((p q : Bool) → get_or w a 0 ≡ bit p → get_or w b 0 ≡ bit q → x ≡ bit (either (get_or fs l 0) p q)) → x ≡ bit (can fs (at (trees_of ns kept) r))
 unfolding can
-node-can {ns} {kept} {fs} {w} {r} {l} {a} {b} t h k s m x f =
+node_can {ns} {kept} {fs} {w} {r} {l} {a} {b} t h k s m x f =
     let z = read_below t s h k in
-    f (can fs (at (treesOf ns kept) a)) (can fs (at (treesOf ns kept) b)) (m.is a z.0) (m.is b z.1) ∙ sym (ap (λ (d : Tree). bit (can fs d)) s.is)
+    f (can fs (at (trees_of ns kept) a)) (can fs (at (trees_of ns kept) b)) (m.is a z.0) (m.is b z.1) ∙ sym (ap (λ (d : Tree). bit (can fs d)) s.is)

@@ -19,14 +19,14 @@ unfoldable pub before : ℕ → Chain → Chain
 before v c = record { variables = v ∷ c.variables; row = c.row }
 
 -- the chain from the row i on, as long as it goes: link j tells what the row j is, and n is more than the rows that it may have
-unfoldable pub goOn : Link → (ℕ → Chain) → ℕ → Chain
-goOn (removes v r) rest i = before v (rest r)
-goOn (negates r) rest i = record { variables = []; row = i }
-goOn other rest i = record { variables = []; row = i }
+unfoldable pub go_on : Link → (ℕ → Chain) → ℕ → Chain
+go_on (removes v r) rest i = before v (rest r)
+go_on (negates r) rest i = record { variables = []; row = i }
+go_on other rest i = record { variables = []; row = i }
 
-unfoldable pub chainFrom : (ℕ → Link) → ℕ → ℕ → Chain
-chainFrom link zero i = record { variables = []; row = i }
-chainFrom link (suc n) i = goOn (link i) (chainFrom link n) i
+unfoldable pub chain_from : (ℕ → Link) → ℕ → ℕ → Chain
+chain_from link zero i = record { variables = []; row = i }
+chain_from link (suc n) i = go_on (link i) (chain_from link n) i
 
 -- the chain below the last row: without variables where that is no not, or a not of another row than an exists
 unfoldable pub below : Link → (ℕ → Chain) → Chain
@@ -35,8 +35,8 @@ below (removes v r) rest = record { variables = []; row = 0 }
 below other rest = record { variables = []; row = 0 }
 
 -- the chain of a rule of so many rows
-unfoldable pub chainOf : (ℕ → Link) → ℕ → Chain
-chainOf link count = below (link (count - 1)) (chainFrom link count)
+unfoldable pub chain_of : (ℕ → Link) → ℕ → Chain
+chain_of link count = below (link (count - 1)) (chain_from link count)
 
 -- what a chain over g says, k bits a variable
 unfoldable pub chained : ℕ → List ℕ → Function → Function

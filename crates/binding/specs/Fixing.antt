@@ -3,7 +3,7 @@
 use Rattle.std.specs.Prelude.{ℕ, zero, suc, ◌+◌, ◌≤◌, ◌<◌, ◌≡◌, Bool, true, false, not, ◌||◌, List, ◌⊎◌, length, get_or, set}
 use Rattle.trees.specs.Bits.{Bits, bit, number}
 use Rattle.trees.specs.Tree.{Tree, off, on, node, eval}
-use Rattle.trees.specs.Table.{at, treesOf}
+use Rattle.trees.specs.Table.{at, trees_of}
 
 -- the bits are as fixed
 pub record Meets (fs : List ℕ) (s : Bits) : Type 0 where
@@ -28,18 +28,18 @@ can fs (node l a b) = either (get_or fs l 0) (can fs a) (can fs b)
 
 -- each reference before r is marked with 1 where its tree can say yes, and with 0 elsewhere
 pub record Marks (ns : List ℕ) (kept : ℕ) (fs work : List ℕ) (r : ℕ) : Type 0 where
-  pub is : (q : ℕ) → q < r → get_or work q 0 ≡ bit (can fs (at (treesOf ns kept) q))
+  pub is : (q : ℕ) → q < r → get_or work q 0 ≡ bit (can fs (at (trees_of ns kept) q))
 
 -- the bit at the level l is fixed: to 0 where d can still say yes, and else to 1
 pub record Settles (d : Tree) (l : ℕ) (fs fs' : List ℕ) (x : ℕ) : Type 0 where
   pub bit_is : x ≡ bit (not (can (set fs l 1) d))
-  pub fixed-is : fs' ≡ set fs l (suc x)
+  pub fixed_is : fs' ≡ set fs l (suc x)
 
 -- the n bits from base on, and no others, are now fixed too: they show the least number m for which d can say yes
 pub record Fixes (d : Tree) (base n : ℕ) (fs fs' : List ℕ) (m : ℕ) : Type 0 where
   pub size : length fs' ≡ length fs
   pub met : (s : Bits) → Meets fs' s → Meets fs s × (number s base n ≡ m)
   pub meets : (s : Bits) → Meets fs s → number s base n ≡ m → Meets fs' s
-  pub can-still : can fs' d ≡ true
+  pub can_still : can fs' d ≡ true
   pub least : (t : Bits) → Meets fs t → eval d t ≡ true → m ≤ number t base n
   pub rest : (l : ℕ) → (l < base) ⊎ (base + n ≤ l) → get_or fs' l 0 ≡ get_or fs l 0

@@ -5,7 +5,7 @@ mod possible; // the pass
 
 ghost use Rattle.std.specs.Prelude.{◌≡◌, true, ℕ, ◌+◌, ◌*◌, ◌<◌, ◌≤◌, length, get_or};
 ghost use Rattle.trees.specs.Tree.{eval, Fine};
-ghost use Rattle.trees.specs.Table.{at, treesOf};
+ghost use Rattle.trees.specs.Table.{at, trees_of};
 ghost use Rattle.nodes.specs.Nodes.{Table, Rest};
 ghost use Rattle.binding.specs.First.{Order, First};
 ghost use Rattle.binding.specs.Fixing.{can, Free, Settles, Fixes};
@@ -24,7 +24,7 @@ fn settle(
     requires table { Table nodes.now kept }
     requires p_bound { (p < kept + 2) × (kept + 2 ≤ length work.old) }
     requires level_bound { (level < 40) × (length fixed.old ≡ 40) }
-    ensures settles { Settles (at (treesOf nodes.now kept) p) level fixed.old fixed.new result }
+    ensures settles { Settles (at (trees_of nodes.now kept) p) level fixed.old fixed.new result }
     ensures rest { Rest (kept + 2) work.old work.new }
 {
     let l = level as usize;
@@ -46,12 +46,12 @@ fn least(
     fixed: &mut [u32; 40],
     work: &mut [u32],
 ) -> u32
-    requires table { Table nodes.now kept × Fine 0 (4 * k) (at (treesOf nodes.now kept) p) }
+    requires table { Table nodes.now kept × Fine 0 (4 * k) (at (trees_of nodes.now kept) p) }
     requires p_bound { (p < kept + 2) × (kept + 2 ≤ length work.old) }
     requires k_bound { (k ≤ 10) × (v < 4) × (length fixed.old ≡ 40) }
-    requires p_value { can fixed.old (at (treesOf nodes.now kept) p) ≡ true }
+    requires p_value { can fixed.old (at (trees_of nodes.now kept) p) ≡ true }
     requires free { Free (v * k) k fixed.old }
-    ensures fixes { Fixes (at (treesOf nodes.now kept) p) (v * k) k fixed.old fixed.new result }
+    ensures fixes { Fixes (at (trees_of nodes.now kept) p) (v * k) k fixed.old fixed.new result }
     ensures rest { Rest (kept + 2) work.old work.new }
 {
     let base = v * k;
@@ -76,10 +76,10 @@ pub fn first(
     count: u32,
     work: &mut [u32],
 ) -> [u32; 4]
-    requires table { Table nodes.now kept × Fine 0 (4 * k) (at (treesOf nodes.now kept) p) }
+    requires table { Table nodes.now kept × Fine 0 (4 * k) (at (trees_of nodes.now kept) p) }
     requires p_nonzero { (0 < p) × (p < kept + 2) × (kept + 2 ≤ length work.old) }
     requires k_bound { (k ≤ 10) × (count ≤ 4) × (length order.now ≡ 4) × Order order.now count }
-    ensures first { First k (eval (at (treesOf nodes.now kept) p)) order.now count result }
+    ensures first { First k (eval (at (trees_of nodes.now kept) p)) order.now count result }
     ensures by_index { (i : ℕ) → count ≤ i → get_or result i 0 ≡ 0 }
     ensures rest { Rest (kept + 2) work.old work.new }
 {

@@ -2,7 +2,7 @@
 // level 0 stands for an open bit, and 1 and 2 for a bit fixed to 0 and to 1; the levels past the array are open. Assumes nothing.
 ghost use Rattle.std.specs.Prelude.{◌≡◌, Bool, ◌+◌, ◌<◌, ◌≤◌, length, get_or};
 ghost use Rattle.trees.specs.Bits.{bit};
-ghost use Rattle.trees.specs.Table.{at, treesOf};
+ghost use Rattle.trees.specs.Table.{at, trees_of};
 ghost use Rattle.nodes.specs.Nodes.{Table, Rest};
 ghost use Rattle.binding.specs.Fixing.{either, can, Marks};
 
@@ -49,7 +49,7 @@ fn mark(f: u32, low: u32, high: u32) -> u32
 fn node_mark(nodes: &[u32], kept: u32, r: u32, fixed: &[u32; 40], work: &[u32]) -> u32
     requires table { Table nodes.now kept × Marks nodes.now kept fixed.now work.now r }
     requires le_r { (2 ≤ r) × (r < kept + 2) × (kept + 2 ≤ length work.now) × (length fixed.now ≡ 40) }
-    ensures { result ≡ bit (can fixed.now (at (treesOf nodes.now kept) r)) }
+    ensures { result ≡ bit (can fixed.now (at (trees_of nodes.now kept) r)) }
 {
     let x = read(nodes, kept, r);
     let f = fixed_at(fixed, x.level);
@@ -62,7 +62,7 @@ fn node_mark(nodes: &[u32], kept: u32, r: u32, fixed: &[u32; 40], work: &[u32]) 
 pub fn possible(nodes: &[u32], kept: u32, p: u32, fixed: &[u32; 40], work: &mut [u32]) -> bool
     requires table { Table nodes.now kept }
     requires p_bound { (p < kept + 2) × (kept + 2 ≤ length work.old) × (length fixed.now ≡ 40) }
-    ensures value { result ≡ can fixed.now (at (treesOf nodes.now kept) p) }
+    ensures value { result ≡ can fixed.now (at (trees_of nodes.now kept) p) }
     ensures rest { Rest (kept + 2) work.old work.new }
 {
     work[0] = 0;

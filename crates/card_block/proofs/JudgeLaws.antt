@@ -9,7 +9,7 @@ use lib.Dec.{eqb, ltb, leb}
 use lib.ListN.{length, take, drop, get_or}
 use borrow.Author.Tests.{eq-eqb, ne_eqb, lt-ltb, le-ltb, leb-true}
 use Rattle.cards.specs.Bytes.{number_of, same, check}
-use Rattle.cards.specs.Blocks.{body, block_of, pieceBy, piece_of, Block}
+use Rattle.cards.specs.Blocks.{body, block_of, piece_by, piece_of, Block}
 use Rattle.cards.specs.Counting.{closed, into}
 use Rattle.cards.proofs.Tests.{and_left, and_right}
 use Rattle.card_block.specs.declared.Reason.{Reason}
@@ -19,75 +19,75 @@ use Rattle.card_block.specs.declared.Judged.{Judged}
 use Rattle.card_block.specs.declared.Judged.TheVariants.{Stays, Goes}
 use Rattle.card_block.specs.declared.moments.Walked.{Walked}
 use Rattle.card_block.specs.declared.moments.Walked.TheVariants.{Whole, Broken}
-use Rattle.card_block.specs.Shapes.{recordShaped, partsPass, recordsFrom, Shaped}
-use Rattle.card_block.specs.Judging.{open_at, walkedBy, settledBy, settled, judgedBlock, told, judgedPiece, judgement}
-use Rattle.card_block.proofs.ShapeLaws.{records-from}
-use Rattle.card_block.proofs.TestLaws.{block-tests}
+use Rattle.card_block.specs.Shapes.{record_shaped, parts_pass, records_from, Shaped}
+use Rattle.card_block.specs.Judging.{open_at, walked_by, settled_by, settled, judged_block, told, judged_piece, judgement}
+use Rattle.card_block.proofs.ShapeLaws.{records_from_law}
+use Rattle.card_block.proofs.TestLaws.{block_tests}
 
 -- number after shape
-pub settled-broken : (n next : ℕ) (w : Walked) → w ≡ Broken → Goes Shape ≡ settled n next w
+pub settled_broken : (n next : ℕ) (w : Walked) → w ≡ Broken → Goes Shape ≡ settled n next w
 unfolding settled
-settled-broken n next w e = rw e
+settled_broken n next w e = rw e
 
-pub settled-below : (n next a b : ℕ) (w : Walked) → w ≡ Whole a b → n < next → Goes Number ≡ settled n next w
-unfolding settled settledBy
-settled-below n next a b w e h = rw (e, lt-ltb n next h)
+pub settled_below : (n next a b : ℕ) (w : Walked) → w ≡ Whole a b → n < next → Goes Number ≡ settled n next w
+unfolding settled settled_by
+settled_below n next a b w e h = rw (e, lt-ltb n next h)
 
-pub settled-above : (n next a b : ℕ) (w : Walked) → w ≡ Whole a b → next ≤ n → Stays (record { next = n + 1; count = a; stamp = b }) ≡ settled n next w
-unfolding settled settledBy
-settled-above n next a b w e h = rw (e, le-ltb n next h, add-one)
+pub settled_above : (n next a b : ℕ) (w : Walked) → w ≡ Whole a b → next ≤ n → Stays (record { next = n + 1; count = a; stamp = b }) ≡ settled n next w
+unfolding settled settled_by
+settled_above n next a b w e h = rw (e, le-ltb n next h, add-one)
 
 -- a block by its bytes
-pub block-records : (piece : List ℕ) → get_or piece 1 0 ≤ 21 → (block_of piece).records ≡ recordsFrom (get_or piece 1 0) (drop 6 piece)
+pub block_records : (piece : List ℕ) → get_or piece 1 0 ≤ 21 → (block_of piece).records ≡ records_from (get_or piece 1 0) (drop 6 piece)
 unfolding block_of
-block-records piece h = records-from (get_or piece 1 0) 21 (drop 6 piece) h
+block_records piece h = records_from_law (get_or piece 1 0) 21 (drop 6 piece) h
 
-pub block-number : (piece : List ℕ) → (block_of piece).number ≡ number_of (take 4 (drop 2 piece))
+pub block_number : (piece : List ℕ) → (block_of piece).number ≡ number_of (take 4 (drop 2 piece))
 unfolding block_of
-block-number piece = refl
+block_number piece = refl
 
 module _ (piece : List ℕ) (c : Carried) (s : Shaped piece) (n k : ℕ) (e : n ≡ number_of (take 4 (drop 2 piece))) (f : k ≡ get_or piece 1 0) where
-  pub judged-on : n ≡ c.next → settled n c.next (walkedBy (open_at c.count c.stamp) (recordsFrom k (drop 6 piece))) ≡ judgedBlock (block_of piece) c
-  unfolding judgedBlock into
-  judged-on h =
-      let named : (block_of piece).number ≡ n = block-number piece ∙ sym e in
-      rw (named, eq-eqb n c.next h, block-records piece s.few, sym f)
+  pub judged_on : n ≡ c.next → settled n c.next (walked_by (open_at c.count c.stamp) (records_from k (drop 6 piece))) ≡ judged_block (block_of piece) c
+  unfolding judged_block into
+  judged_on h =
+      let named : (block_of piece).number ≡ n = block_number piece ∙ sym e in
+      rw (named, eq-eqb n c.next h, block_records piece s.few, sym f)
 
-  pub judged-anew : (n ≡ c.next → ⊥) → settled n c.next (walkedBy (open_at 0 0) (recordsFrom k (drop 6 piece))) ≡ judgedBlock (block_of piece) c
-  unfolding judgedBlock into closed open_at
-  judged-anew h =
-      let named : (block_of piece).number ≡ n = block-number piece ∙ sym e in
-      rw (named, ne_eqb n c.next h, block-records piece s.few, sym f)
+  pub judged_anew : (n ≡ c.next → ⊥) → settled n c.next (walked_by (open_at 0 0) (records_from k (drop 6 piece))) ≡ judged_block (block_of piece) c
+  unfolding judged_block into closed open_at
+  judged_anew h =
+      let named : (block_of piece).number ≡ n = block_number piece ∙ sym e in
+      rw (named, ne_eqb n c.next h, block_records piece s.few, sym f)
 
 -- a piece by the three tests
 module _ (piece : List ℕ) (c : Carried) where
-  pub judged-short : (length piece ≡ 512 → ⊥) → Goes Shape ≡ judgement piece c
-  unfolding judgement judgedPiece told piece_of pieceBy
-  judged-short h = rw (ne_eqb (length piece) 512 h)
+  pub judged_short : (length piece ≡ 512 → ⊥) → Goes Shape ≡ judgement piece c
+  unfolding judgement judged_piece told piece_of piece_by
+  judged_short h = rw (ne_eqb (length piece) 512 h)
 
-  pub judged-check : length piece ≡ 512 → false ≡ same (check (take 510 piece)) (drop 510 piece) → Goes Check ≡ judgement piece c
-  unfolding judgement judgedPiece told piece_of pieceBy
-  judged-check n e = rw (eq-eqb (length piece) 512 n, sym e)
+  pub judged_check : length piece ≡ 512 → false ≡ same (check (take 510 piece)) (drop 510 piece) → Goes Check ≡ judgement piece c
+  unfolding judgement judged_piece told piece_of piece_by
+  judged_check n e = rw (eq-eqb (length piece) 512 n, sym e)
 
-  pub judged-shape : length piece ≡ 512 → true ≡ same (check (take 510 piece)) (drop 510 piece) → false ≡ same (body (block_of piece)) (take 510 piece)
+  pub judged_shape : length piece ≡ 512 → true ≡ same (check (take 510 piece)) (drop 510 piece) → false ≡ same (body (block_of piece)) (take 510 piece)
       → Goes Shape ≡ judgement piece c
-  unfolding judgement judgedPiece told piece_of pieceBy
-  judged-shape n e f = rw (eq-eqb (length piece) 512 n, sym e, sym f)
+  unfolding judgement judged_piece told piece_of piece_by
+  judged_shape n e f = rw (eq-eqb (length piece) 512 n, sym e, sym f)
 
-  pub judged-good : length piece ≡ 512 → true ≡ same (check (take 510 piece)) (drop 510 piece) → true ≡ same (body (block_of piece)) (take 510 piece)
-      → judgedBlock (block_of piece) c ≡ judgement piece c
-  unfolding judgement judgedPiece piece_of pieceBy
-  judged-good n e f = rw (eq-eqb (length piece) 512 n, sym e, sym f)
+  pub judged_good : length piece ≡ 512 → true ≡ same (check (take 510 piece)) (drop 510 piece) → true ≡ same (body (block_of piece)) (take 510 piece)
+      → judged_block (block_of piece) c ≡ judgement piece c
+  unfolding judgement judged_piece piece_of piece_by
+  judged_good n e f = rw (eq-eqb (length piece) 512 n, sym e, sym f)
 
 -- a piece of a good shape has at most 21 records
-pub shaped-few : (piece : List ℕ) → length piece ≡ 512 → ((i : ℕ) → i < length piece → get_or piece i 0 < 256)
+pub shaped_few : (piece : List ℕ) → length piece ≡ 512 → ((i : ℕ) → i < length piece → get_or piece i 0 < 256)
     → true ≡ same (body (block_of piece)) (take 510 piece) → Shaped piece
-shaped-few piece n bytes e =
+shaped_few piece n bytes e =
     record {
       whole = n;
       few =
           leb-true (get_or piece 1 0) 21
-          (and_left (leb (get_or piece 1 0) 21) (partsPass recordShaped 24 (get_or piece 1 0) (drop 6 (take 510 piece)))
-          (and_right (eqb (get_or piece 0 0) 75) (leb (get_or piece 1 0) 21 && partsPass recordShaped 24 (get_or piece 1 0) (drop 6 (take 510 piece)))
-          (sym (block-tests piece n bytes) ∙ sym e)));
+          (and_left (leb (get_or piece 1 0) 21) (parts_pass record_shaped 24 (get_or piece 1 0) (drop 6 (take 510 piece)))
+          (and_right (eqb (get_or piece 0 0) 75) (leb (get_or piece 1 0) 21 && parts_pass record_shaped 24 (get_or piece 1 0) (drop 6 (take 510 piece)))
+          (sym (block_tests piece n bytes) ∙ sym e)));
     }

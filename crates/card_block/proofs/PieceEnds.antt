@@ -9,13 +9,13 @@ use lib.ListN.{length, take, drop, length-drop, drop_of_length-le}
 use lib.Seq.{drop-drop, take_all}
 use borrow.Author.Tests.{ltb-true, ltb-false}
 use Rattle.cards.specs.Blocks.{piece_of, pieces}
-use Rattle.cards.proofs.PieceLaws.{pieces-some}
+use Rattle.cards.proofs.PieceLaws.{pieces_some}
 
 -- the piece at a place, and those past it
-pub piece-end : (card : List ℕ) (at end : ℕ) → at < length card → end ≡ min (at + 512) (length card)
+pub piece_end : (card : List ℕ) (at end : ℕ) → at < length card → end ≡ min (at + 512) (length card)
     → pieces (drop at card) ≡ piece_of (take (end - at) (drop at card)) ∷ pieces (drop end card)
-piece-end card at end h e =
-    pieces-some (drop at card) (omega (arith, length-drop at card)) ∙ rw (drop-drop 512 at card) (go (ltb (length card) (at + 512)) refl)
+piece_end card at end h e =
+    pieces_some (drop at card) (omega (arith, length-drop at card)) ∙ rw (drop-drop 512 at card) (go (ltb (length card) (at + 512)) refl)
   where
     go : (q : Bool) → ltb (length card) (at + 512) ≡ q
         → (piece_of (take 512 (drop at card)) ∷ pieces (drop (at + 512) card)) ≡ (piece_of (take (end - at) (drop at card)) ∷ pieces (drop end card))

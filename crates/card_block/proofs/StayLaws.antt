@@ -8,55 +8,55 @@ use lib.Dec.{ltb}
 use lib.ListN.{length, drop, get_or}
 use Rattle.cards.specs.Bytes.{bytes_of, filled}
 use Rattle.cards.specs.Moments.{Record}
-use Rattle.cards.specs.Blocks.{Block, body, blockBytes, block_of, Piece, good, faulty, piece_of}
-use Rattle.cards.proofs.BlockLaws.{Holds, Written, good-written, length-block}
+use Rattle.cards.specs.Blocks.{Block, body, block_bytes, block_of, Piece, good, faulty, piece_of}
+use Rattle.cards.proofs.BlockLaws.{Holds, Written, good_written, length_block}
 use Rattle.card_block.specs.declared.moments.Walked.{Walked}
 use Rattle.card_block.specs.declared.moments.Walked.TheVariants.{Whole, Broken}
 use Rattle.card_block.specs.declared.Carried.{Carried}
 use Rattle.card_block.specs.declared.Judged.{Judged}
 use Rattle.card_block.specs.declared.Judged.TheVariants.{Stays, Goes}
-use Rattle.card_block.specs.Shapes.{Shaped, recordsFrom}
-use Rattle.card_block.specs.Judging.{settledBy, settled, judgedBlock, judgedPiece, judgement}
-use Rattle.card_block.proofs.JudgeLaws.{block-records}
+use Rattle.card_block.specs.Shapes.{Shaped, records_from}
+use Rattle.card_block.specs.Judging.{settled_by, settled, judged_block, judged_piece, judgement}
+use Rattle.card_block.proofs.JudgeLaws.{block_records}
 
 -- a block that stays has a number, and the next one is above 0
-settled-next : (n next : ℕ) (w : Walked) (g : Carried) → settled n next w ≡ Stays g → 0 < g.next
-unfolding settled settledBy
-settled-next n next Broken g e = absurd (let z : ◌≡◌ {A = ℕ} 0 1 = cc in omega arith)
-settled-next n next (Whole a b) g e = go (ltb n next) e
+settled_next : (n next : ℕ) (w : Walked) (g : Carried) → settled n next w ≡ Stays g → 0 < g.next
+unfolding settled settled_by
+settled_next n next Broken g e = absurd (let z : ◌≡◌ {A = ℕ} 0 1 = cc in omega arith)
+settled_next n next (Whole a b) g e = go (ltb n next) e
   where
-    go : (q : Bool) → settledBy q n a b ≡ Stays g → 0 < g.next
+    go : (q : Bool) → settled_by q n a b ≡ Stays g → 0 < g.next
     go true h = absurd (let z : ◌≡◌ {A = ℕ} 0 1 = cc in omega arith)
     go false h =
         let same : g ≡ record { next = suc n; count = a; stamp = b } = cc in
         omega (arith, ap (λ (x : Carried). x.next) same)
 
-pub stays-next : (bytes : List ℕ) (c g : Carried) → judgement bytes c ≡ Stays g → 0 < g.next
-unfolding judgement judgedPiece judgedBlock
-stays-next bytes c g e = go (piece_of bytes) e
+pub stays_next : (bytes : List ℕ) (c g : Carried) → judgement bytes c ≡ Stays g → 0 < g.next
+unfolding judgement judged_piece judged_block
+stays_next bytes c g e = go (piece_of bytes) e
   where
-    go : (p : Piece) → judgedPiece p c ≡ Stays g → 0 < g.next
-    go (good b) h = settled-next b.number c.next _ g h
+    go : (p : Piece) → judged_piece p c ≡ Stays g → 0 < g.next
+    go (good b) h = settled_next b.number c.next _ g h
     go (faulty why) h = absurd (let z : ◌≡◌ {A = ℕ} 0 1 = cc in omega arith)
 
 -- byte 1 of a good block is the count of its records
-pub count-byte : (b : Block) → get_or (blockBytes b) 1 0 ≡ length b.records
-unfolding blockBytes body filled bytes_of
-count-byte b = refl
+pub count_byte : (b : Block) → get_or (block_bytes b) 1 0 ≡ length b.records
+unfolding block_bytes body filled bytes_of
+count_byte b = refl
 
 -- a block that stays is 512 bytes with at most 21 records
-pub good-shaped : (bytes : List ℕ) (b : Block) → piece_of bytes ≡ good b → Shaped bytes
-good-shaped bytes b e =
-    let w : Written bytes b = good-written bytes b e in
+pub good_shaped : (bytes : List ℕ) (b : Block) → piece_of bytes ≡ good b → Shaped bytes
+good_shaped bytes b e =
+    let w : Written bytes b = good_written bytes b e in
     record {
-      whole = ap length w.shown ∙ length-block b;
-      few = omega (arith, ap (λ (l : List ℕ). get_or l 1 0) w.shown, count-byte b, w.holds.few);
+      whole = ap length w.shown ∙ length_block b;
+      few = omega (arith, ap (λ (l : List ℕ). get_or l 1 0) w.shown, count_byte b, w.holds.few);
     }
 
-pub stays-shaped : (bytes : List ℕ) (c g : Carried) → judgement bytes c ≡ Stays g → Shaped bytes
-unfolding judgement judgedPiece
-stays-shaped bytes c g e = go (piece_of bytes) refl e
+pub stays_shaped : (bytes : List ℕ) (c g : Carried) → judgement bytes c ≡ Stays g → Shaped bytes
+unfolding judgement judged_piece
+stays_shaped bytes c g e = go (piece_of bytes) refl e
   where
-    go : (p : Piece) → piece_of bytes ≡ p → judgedPiece p c ≡ Stays g → Shaped bytes
-    go (good b) f h = good-shaped bytes b f
+    go : (p : Piece) → piece_of bytes ≡ p → judged_piece p c ≡ Stays g → Shaped bytes
+    go (good b) f h = good_shaped bytes b f
     go (faulty why) f h = absurd (let z : ◌≡◌ {A = ℕ} 0 1 = cc in omega arith)

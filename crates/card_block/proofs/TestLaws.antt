@@ -12,8 +12,8 @@ use borrow.Author.Tests.{eq-eqb, ne_eqb, le-leb, lt-leb}
 use Rattle.cards.specs.Bytes.{same, check}
 use Rattle.cards.specs.Blocks.{body, block_of}
 use Rattle.cards.specs.Writing.{Every}
-use Rattle.card_block.specs.Shapes.{unused, recordShaped, partsPass, blockShaped}
-use Rattle.card_block.proofs.ShapeLaws.{Byte, every_take, drop-take, block_same, block-first}
+use Rattle.card_block.specs.Shapes.{unused, record_shaped, parts_pass, block_shaped}
+use Rattle.card_block.proofs.ShapeLaws.{Byte, every_take, drop_take, block_same, block_first}
 
 -- each byte of a slice is one
 pub every_byte : (bs : List ℕ) → ((i : ℕ) → i < length bs → get_or bs i 0 < 256) → Every Byte bs
@@ -26,34 +26,34 @@ pub record Unused (s : List ℕ) (from to i : ℕ) : Type 0 where
   pub within : i ≤ to
   pub leads : unused (take (to - i) (drop i s)) ≡ unused (take (to - from) (drop from s))
 
-pub unused-start : (s : List ℕ) (from to : ℕ) → from ≤ to → Unused s from to from
-unused-start s from to h = record { after = omega arith; within = h; leads = refl }
+pub unused_start : (s : List ℕ) (from to : ℕ) → from ≤ to → Unused s from to from
+unused_start s from to h = record { after = omega arith; within = h; leads = refl }
 
-unused-step : (s : List ℕ) (to i : ℕ) → i < to → to ≤ length s
+unused_step : (s : List ℕ) (to i : ℕ) → i < to → to ≤ length s
     → unused (take (to - i) (drop i s)) ≡ (eqb (get_or s i 0) 0 && unused (take (to - (i + 1)) (drop (i + 1) s)))
 unfolding unused
-unused-step s to i h k =
+unused_step s to i h k =
     let one : to - i ≡ suc (to - (i + 1)) = omega arith in
     rw (one, drop-cons s i 0 (omega arith), add-one)
 
-pub unused-not : {s : List ℕ} {from to i : ℕ} → Unused s from to i → i < to → to ≤ length s → (get_or s i 0 ≡ 0 → ⊥)
+pub unused_not : {s : List ℕ} {from to i : ℕ} → Unused s from to i → i < to → to ≤ length s → (get_or s i 0 ≡ 0 → ⊥)
     → false ≡ unused (take (to - from) (drop from s))
-unused-not {s} {from} {to} {i} u h k n = sym (rw (ne_eqb (get_or s i 0) 0 n) at (unused-step s to i h k)) ∙ u.leads
+unused_not {s} {from} {to} {i} u h k n = sym (rw (ne_eqb (get_or s i 0) 0 n) at (unused_step s to i h k)) ∙ u.leads
 
-pub unused-more : {s : List ℕ} {from to i : ℕ} → Unused s from to i → i < to → to ≤ length s → get_or s i 0 ≡ 0 → Unused s from to (i + 1)
-unused-more {s} {from} {to} {i} u h k e =
-    record { after = omega (arith, u.after); within = omega arith; leads = sym (rw (eq-eqb (get_or s i 0) 0 e) at (unused-step s to i h k)) ∙ u.leads }
+pub unused_more : {s : List ℕ} {from to i : ℕ} → Unused s from to i → i < to → to ≤ length s → get_or s i 0 ≡ 0 → Unused s from to (i + 1)
+unused_more {s} {from} {to} {i} u h k e =
+    record { after = omega (arith, u.after); within = omega arith; leads = sym (rw (eq-eqb (get_or s i 0) 0 e) at (unused_step s to i h k)) ∙ u.leads }
 
-pub unused-all : {s : List ℕ} {from to i : ℕ} → Unused s from to i → to ≤ i → true ≡ unused (take (to - from) (drop from s))
+pub unused_all : {s : List ℕ} {from to i : ℕ} → Unused s from to i → to ≤ i → true ≡ unused (take (to - from) (drop from s))
 unfolding unused
-unused-all {s} {from} {to} {i} u h = let none : to - i ≡ 0 = omega arith in rw none at u.leads
+unused_all {s} {from} {to} {i} u h = let none : to - i ≡ 0 = omega arith in rw none at u.leads
 
 -- the tests of a record at a place
-pub record-tests : (s : List ℕ) (at : ℕ)
-    → recordShaped (take 24 (drop at s))
+pub record_tests : (s : List ℕ) (at : ℕ)
+    → record_shaped (take 24 (drop at s))
     ≡ (leb (get_or s (at + 8) 0) 3 && (leb (get_or s (at + 9) 0) 1 && (eqb (get_or s (at + 10) 0) 0 && (eqb (get_or s (at + 11) 0) 0 && unused (drop (12 + 4 * get_or s (at + 8) 0) (take 24 (drop at s)))))))
-unfolding recordShaped
-record-tests s at =
+unfolding record_shaped
+record_tests s at =
     rw (
       get_or-take 24 (drop at s) 8 0 (omega arith),
       get_or-take 24 (drop at s) 9 0 (omega arith),
@@ -66,64 +66,64 @@ record-tests s at =
     )
 
 -- past its values
-pub record-rest : (s : List ℕ) (at k : ℕ) → k ≤ 3
+pub record_rest : (s : List ℕ) (at k : ℕ) → k ≤ 3
     → drop (12 + 4 * k) (take 24 (drop at s)) ≡ take (at + 24 - (at + 12 + 4 * k)) (drop (at + 12 + 4 * k) s)
-record-rest s at k h =
+record_rest s at k h =
     let whole : 24 ≡ 12 + 4 * k + (12 - 4 * k) = omega arith in
     let left : at + 24 - (at + 12 + 4 * k) ≡ 12 - 4 * k = omega arith in
     let far : at + (12 + 4 * k) ≡ at + 12 + 4 * k = omega arith in
     ap (λ (n : ℕ). drop (12 + 4 * k) (take n (drop at s))) whole
-    ∙ drop-take (12 + 4 * k) (12 - 4 * k) (drop at s)
+    ∙ drop_take (12 + 4 * k) (12 - 4 * k) (drop at s)
     ∙ rw (left, drop-drop (12 + 4 * k) at s, far)
 
 -- the records of a block that are still to be tested
 pub record Tested (piece : List ℕ) (records i : ℕ) : Type 0 where
   pub within : i ≤ records
-  pub leads : partsPass recordShaped 24 (records - i) (drop (6 + 24 * i) (take 510 piece)) ≡ partsPass recordShaped 24 records (drop 6 (take 510 piece))
+  pub leads : parts_pass record_shaped 24 (records - i) (drop (6 + 24 * i) (take 510 piece)) ≡ parts_pass record_shaped 24 records (drop 6 (take 510 piece))
 
-pub tested-start : (piece : List ℕ) (records : ℕ) → Tested piece records 0
-tested-start piece records = let none : records - 0 ≡ records = omega arith in record { within = omega arith; leads = rw none }
+pub tested_start : (piece : List ℕ) (records : ℕ) → Tested piece records 0
+tested_start piece records = let none : records - 0 ≡ records = omega arith in record { within = omega arith; leads = rw none }
 
 rest_at : (piece : List ℕ) (n : ℕ) → n ≤ 510 → drop n (take 510 piece) ≡ take (510 - n) (drop n piece)
 rest_at piece n h =
     let whole : 510 ≡ n + (510 - n) = omega arith in
-    ap (λ (m : ℕ). drop n (take m piece)) whole ∙ drop-take n (510 - n) piece
+    ap (λ (m : ℕ). drop n (take m piece)) whole ∙ drop_take n (510 - n) piece
 
-tested-step : (piece : List ℕ) (records i : ℕ) → i < records → records ≤ 21
-    → partsPass recordShaped 24 (records - i) (drop (6 + 24 * i) (take 510 piece))
-    ≡ (recordShaped (take 24 (drop (6 + 24 * i) piece)) && partsPass recordShaped 24 (records - (i + 1)) (drop (6 + 24 * (i + 1)) (take 510 piece)))
-unfolding partsPass
-tested-step piece records i h k =
+tested_step : (piece : List ℕ) (records i : ℕ) → i < records → records ≤ 21
+    → parts_pass record_shaped 24 (records - i) (drop (6 + 24 * i) (take 510 piece))
+    ≡ (record_shaped (take 24 (drop (6 + 24 * i) piece)) && parts_pass record_shaped 24 (records - (i + 1)) (drop (6 + 24 * (i + 1)) (take 510 piece)))
+unfolding parts_pass
+tested_step piece records i h k =
     let one : records - i ≡ suc (records - (i + 1)) = omega arith in
     let far : 6 + 24 * (i + 1) ≡ 6 + 24 * i + 24 = omega arith in
     let first : take 24 (drop (6 + 24 * i) (take 510 piece)) ≡ take 24 (drop (6 + 24 * i) piece) =
     ap (take 24) (rest_at piece (6 + 24 * i) (omega arith)) ∙ take-take 24 (510 - (6 + 24 * i)) (drop (6 + 24 * i) piece) (omega arith) in
     rw (one, far, drop-drop 24 (6 + 24 * i) (take 510 piece), first)
 
-pub tested-not : {piece : List ℕ} {records i : ℕ} → Tested piece records i → i < records → records ≤ 21
-    → false ≡ recordShaped (take 24 (drop (6 + 24 * i) piece)) → false ≡ partsPass recordShaped 24 records (drop 6 (take 510 piece))
-tested-not {piece} {records} {i} t h k e = sym (rw (sym e) at (tested-step piece records i h k)) ∙ t.leads
+pub tested_not : {piece : List ℕ} {records i : ℕ} → Tested piece records i → i < records → records ≤ 21
+    → false ≡ record_shaped (take 24 (drop (6 + 24 * i) piece)) → false ≡ parts_pass record_shaped 24 records (drop 6 (take 510 piece))
+tested_not {piece} {records} {i} t h k e = sym (rw (sym e) at (tested_step piece records i h k)) ∙ t.leads
 
-pub tested-more : {piece : List ℕ} {records i : ℕ} → Tested piece records i → i < records → records ≤ 21
-    → true ≡ recordShaped (take 24 (drop (6 + 24 * i) piece)) → Tested piece records (i + 1)
-tested-more {piece} {records} {i} t h k e =
-    record { within = omega arith; leads = sym (rw (sym e) at (tested-step piece records i h k)) ∙ t.leads }
+pub tested_more : {piece : List ℕ} {records i : ℕ} → Tested piece records i → i < records → records ≤ 21
+    → true ≡ record_shaped (take 24 (drop (6 + 24 * i) piece)) → Tested piece records (i + 1)
+tested_more {piece} {records} {i} t h k e =
+    record { within = omega arith; leads = sym (rw (sym e) at (tested_step piece records i h k)) ∙ t.leads }
 
-pub tested-end : {piece : List ℕ} {records i : ℕ} → Tested piece records i → records ≤ i → records ≤ 21
-    → unused (take (510 - (6 + 24 * records)) (drop (6 + 24 * records) piece)) ≡ partsPass recordShaped 24 records (drop 6 (take 510 piece))
-unfolding partsPass
-tested-end {piece} {records} {i} t h k =
+pub tested_end : {piece : List ℕ} {records i : ℕ} → Tested piece records i → records ≤ i → records ≤ 21
+    → unused (take (510 - (6 + 24 * records)) (drop (6 + 24 * records) piece)) ≡ parts_pass record_shaped 24 records (drop 6 (take 510 piece))
+unfolding parts_pass
+tested_end {piece} {records} {i} t h k =
     let all : i ≡ records = omega (arith, t.within) in
     let none : records - records ≡ 0 = omega arith in
     ap unused (sym (rest_at piece (6 + 24 * records) (omega arith))) ∙ (rw (all, none) at t.leads)
 
 -- a block's shape by its tests
-pub block-tests : (piece : List ℕ) → length piece ≡ 512 → ((i : ℕ) → i < length piece → get_or piece i 0 < 256)
+pub block_tests : (piece : List ℕ) → length piece ≡ 512 → ((i : ℕ) → i < length piece → get_or piece i 0 < 256)
     → same (body (block_of piece)) (take 510 piece)
-    ≡ (eqb (get_or piece 0 0) 75 && (leb (get_or piece 1 0) 21 && partsPass recordShaped 24 (get_or piece 1 0) (drop 6 (take 510 piece))))
-unfolding blockShaped
-block-tests piece n bytes =
-    ap (λ (b : Rattle.cards.specs.Blocks.Block). same (body b) (take 510 piece)) (sym (block-first piece n))
+    ≡ (eqb (get_or piece 0 0) 75 && (leb (get_or piece 1 0) 21 && parts_pass record_shaped 24 (get_or piece 1 0) (drop 6 (take 510 piece))))
+unfolding block_shaped
+block_tests piece n bytes =
+    ap (λ (b : Rattle.cards.specs.Blocks.Block). same (body b) (take 510 piece)) (sym (block_first piece n))
     ∙ block_same (take 510 piece) (length-take-le 510 piece (omega arith)) (every_take 510 piece (every_byte piece bytes))
     ∙ rw (get_or-take 510 piece 0 0 (omega arith), get_or-take 510 piece 1 0 (omega arith))
 
@@ -134,49 +134,49 @@ two_bytes piece n =
     ∙ ap (λ (l : List ℕ). get_or piece 510 0 ∷ l) (drop-cons piece 511 0 (omega arith) ∙ ap (λ (m : ℕ). get_or piece 511 0 ∷ drop m piece) (sym n))
     ∙ rw (drop-length piece)
 
-and-true : (q : Bool) → (q && true) ≡ q
-and-true true = refl
-and-true false = refl
+and_true : (q : Bool) → (q && true) ≡ q
+and_true true = refl
+and_true false = refl
 
-pub check-tests : (piece : List ℕ) (a b x y : ℕ) → length piece ≡ 512 → check (take 510 piece) ≡ a ∷ b ∷ [] → x ≡ get_or piece 510 0 → y ≡ get_or piece 511 0
+pub check_tests : (piece : List ℕ) (a b x y : ℕ) → length piece ≡ 512 → check (take 510 piece) ≡ a ∷ b ∷ [] → x ≡ get_or piece 510 0 → y ≡ get_or piece 511 0
     → same (check (take 510 piece)) (drop 510 piece) ≡ (eqb a x && eqb b y)
 unfolding same
-check-tests piece a b x y n e f g = rw (e, two_bytes piece n, sym f, sym g, and-true (eqb b y))
+check_tests piece a b x y n e f g = rw (e, two_bytes piece n, sym f, sym g, and_true (eqb b y))
 
 -- the answers of a record's tests
 module _ (s : List ℕ) (at : ℕ) where
-  pub record-many : 3 < get_or s (at + 8) 0 → false ≡ recordShaped (take 24 (drop at s))
-  record-many h = sym (record-tests s at ∙ rw (lt-leb (get_or s (at + 8) 0) 3 h))
+  pub record_many : 3 < get_or s (at + 8) 0 → false ≡ record_shaped (take 24 (drop at s))
+  record_many h = sym (record_tests s at ∙ rw (lt-leb (get_or s (at + 8) 0) 3 h))
 
-  pub record-flag : get_or s (at + 8) 0 ≤ 3 → 1 < get_or s (at + 9) 0 → false ≡ recordShaped (take 24 (drop at s))
-  record-flag h k = sym (record-tests s at ∙ rw (le-leb (get_or s (at + 8) 0) 3 h, lt-leb (get_or s (at + 9) 0) 1 k))
+  pub record_flag : get_or s (at + 8) 0 ≤ 3 → 1 < get_or s (at + 9) 0 → false ≡ record_shaped (take 24 (drop at s))
+  record_flag h k = sym (record_tests s at ∙ rw (le-leb (get_or s (at + 8) 0) 3 h, lt-leb (get_or s (at + 9) 0) 1 k))
 
-  pub record-zero : get_or s (at + 8) 0 ≤ 3 → get_or s (at + 9) 0 ≤ 1 → (get_or s (at + 10) 0 ≡ 0 → ⊥) → false ≡ recordShaped (take 24 (drop at s))
-  record-zero h k n = sym (record-tests s at ∙ rw (le-leb (get_or s (at + 8) 0) 3 h, le-leb (get_or s (at + 9) 0) 1 k, ne_eqb (get_or s (at + 10) 0) 0 n))
+  pub record_zero : get_or s (at + 8) 0 ≤ 3 → get_or s (at + 9) 0 ≤ 1 → (get_or s (at + 10) 0 ≡ 0 → ⊥) → false ≡ record_shaped (take 24 (drop at s))
+  record_zero h k n = sym (record_tests s at ∙ rw (le-leb (get_or s (at + 8) 0) 3 h, le-leb (get_or s (at + 9) 0) 1 k, ne_eqb (get_or s (at + 10) 0) 0 n))
 
-  pub record-zero-2 : get_or s (at + 8) 0 ≤ 3 → get_or s (at + 9) 0 ≤ 1 → get_or s (at + 10) 0 ≡ 0 → (get_or s (at + 11) 0 ≡ 0 → ⊥)
-      → false ≡ recordShaped (take 24 (drop at s))
-  record-zero-2 h k e n =
-      sym (record-tests s at
+  pub record_zero_2 : get_or s (at + 8) 0 ≤ 3 → get_or s (at + 9) 0 ≤ 1 → get_or s (at + 10) 0 ≡ 0 → (get_or s (at + 11) 0 ≡ 0 → ⊥)
+      → false ≡ record_shaped (take 24 (drop at s))
+  record_zero_2 h k e n =
+      sym (record_tests s at
       ∙ rw (le-leb (get_or s (at + 8) 0) 3 h, le-leb (get_or s (at + 9) 0) 1 k, eq-eqb (get_or s (at + 10) 0) 0 e, ne_eqb (get_or s (at + 11) 0) 0 n))
 
-  pub record-past : (r : Bool) → get_or s (at + 8) 0 ≤ 3 → get_or s (at + 9) 0 ≤ 1 → get_or s (at + 10) 0 ≡ 0 → get_or s (at + 11) 0 ≡ 0
+  pub record_past : (r : Bool) → get_or s (at + 8) 0 ≤ 3 → get_or s (at + 9) 0 ≤ 1 → get_or s (at + 10) 0 ≡ 0 → get_or s (at + 11) 0 ≡ 0
       → r ≡ unused (take (at + 24 - (at + 12 + 4 * get_or s (at + 8) 0)) (drop (at + 12 + 4 * get_or s (at + 8) 0) s))
-      → r ≡ recordShaped (take 24 (drop at s))
-  record-past r h k e f g =
-      g ∙ ap unused (sym (record-rest s at (get_or s (at + 8) 0) h))
-      ∙ sym (record-tests s at
+      → r ≡ record_shaped (take 24 (drop at s))
+  record_past r h k e f g =
+      g ∙ ap unused (sym (record_rest s at (get_or s (at + 8) 0) h))
+      ∙ sym (record_tests s at
       ∙ rw (le-leb (get_or s (at + 8) 0) 3 h, le-leb (get_or s (at + 9) 0) 1 k, eq-eqb (get_or s (at + 10) 0) 0 e, eq-eqb (get_or s (at + 11) 0) 0 f))
 
 -- the answers of a block's tests
 module _ (piece : List ℕ) (n : length piece ≡ 512) (bytes : (i : ℕ) → i < length piece → get_or piece i 0 < 256) where
-  pub block-other : (get_or piece 0 0 ≡ 75 → ⊥) → false ≡ same (body (block_of piece)) (take 510 piece)
-  block-other h = sym (block-tests piece n bytes ∙ rw (ne_eqb (get_or piece 0 0) 75 h))
+  pub block_other : (get_or piece 0 0 ≡ 75 → ⊥) → false ≡ same (body (block_of piece)) (take 510 piece)
+  block_other h = sym (block_tests piece n bytes ∙ rw (ne_eqb (get_or piece 0 0) 75 h))
 
-  pub block-many : get_or piece 0 0 ≡ 75 → 21 < get_or piece 1 0 → false ≡ same (body (block_of piece)) (take 510 piece)
-  block-many e h = sym (block-tests piece n bytes ∙ rw (eq-eqb (get_or piece 0 0) 75 e, lt-leb (get_or piece 1 0) 21 h))
+  pub block_many : get_or piece 0 0 ≡ 75 → 21 < get_or piece 1 0 → false ≡ same (body (block_of piece)) (take 510 piece)
+  block_many e h = sym (block_tests piece n bytes ∙ rw (eq-eqb (get_or piece 0 0) 75 e, lt-leb (get_or piece 1 0) 21 h))
 
-  pub block-past : (r : Bool) (k : ℕ) → get_or piece 0 0 ≡ 75 → k ≡ get_or piece 1 0 → k ≤ 21 → r ≡ partsPass recordShaped 24 k (drop 6 (take 510 piece))
+  pub block_past : (r : Bool) (k : ℕ) → get_or piece 0 0 ≡ 75 → k ≡ get_or piece 1 0 → k ≤ 21 → r ≡ parts_pass record_shaped 24 k (drop 6 (take 510 piece))
       → r ≡ same (body (block_of piece)) (take 510 piece)
-  block-past r k e f h g =
-      g ∙ sym (block-tests piece n bytes ∙ rw (eq-eqb (get_or piece 0 0) 75 e, sym f, le-leb k 21 h))
+  block_past r k e f h g =
+      g ∙ sym (block_tests piece n bytes ∙ rw (eq-eqb (get_or piece 0 0) 75 e, sym f, le-leb k 21 h))

@@ -6,7 +6,7 @@ pub mod moments; // moments.rt: the moments that run through a block
 
 ghost use Rattle.std.specs.Prelude.{◌≡◌, ◌+◌, ◌≤◌, min, length, get_or};
 ghost use Rattle.cards.specs.Blocks.{block_of};
-ghost use Rattle.card_block.specs.Judging.{nothing, judgedBlock, settledBy, settled, judgement};
+ghost use Rattle.card_block.specs.Judging.{nothing, judged_block, settled_by, settled, judgement};
 ghost use Rattle.card_block.specs.Shapes.{Shaped};
 
 use crate::moments::{Walked, walk};
@@ -91,7 +91,7 @@ fn settle(number: u32, next: u64, walked: Walked) -> Judged
 // A block of a good shape: a moment that is open runs on into it where it has the next number.
 fn judge_block(piece: &[u8], before: Carried) -> Judged
     requires { Shaped piece.now }
-    ensures { result ≡ judgedBlock (block_of piece.now) before }
+    ensures { result ≡ judged_block (block_of piece.now) before }
 {
     let number = number_at(piece, 2);
     let records = size_of(piece);

@@ -1,7 +1,7 @@
 // The moments that run through a block, with the count and the stamp of the open one.
 ghost use Rattle.std.specs.Prelude.{◌+◌, ◌*◌, ◌≤◌, ◌≡◌, length, drop};
-ghost use Rattle.card_block.specs.Shapes.{recordsFrom};
-ghost use Rattle.card_block.specs.Judging.{open_at, mayBelong, walkedBy, onward};
+ghost use Rattle.card_block.specs.Shapes.{records_from};
+ghost use Rattle.card_block.specs.Judging.{open_at, may_belong, walked_by, onward};
 
 use crate::sums::number_at;
 
@@ -21,7 +21,7 @@ pub struct Opened {
 
 // A record of this stamp can belong to the open moment, or begin one.
 pub fn may_belong(count: u32, stamp: u32, new: u32) -> bool
-    ensures { result ≡ mayBelong count stamp new }
+    ensures { result ≡ may_belong count stamp new }
 {
     if count == 0 {
         return true;
@@ -55,7 +55,7 @@ pub fn go_on(count: u32, stamp: u32, new: u32, flag: u8) -> Opened
 // Goes over the first `records` records of a block.
 pub fn walk(piece: &[u8], records: usize, count: u32, stamp: u32) -> Walked
     requires { 6 + 24 * records ≤ length piece.now }
-    ensures { result ≡ walkedBy (open_at count stamp) (recordsFrom records (drop 6 piece.now)) }
+    ensures { result ≡ walked_by (open_at count stamp) (records_from records (drop 6 piece.now)) }
 {
     let mut held = Opened { count, stamp };
     let mut i: usize = 0;

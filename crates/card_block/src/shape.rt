@@ -2,14 +2,14 @@
 ghost use Rattle.std.specs.Prelude.{◌+◌, ◌≤◌, ◌≡◌, length, take, drop};
 ghost use Rattle.cards.specs.Bytes.{same};
 ghost use Rattle.cards.specs.Blocks.{body, block_of};
-ghost use Rattle.card_block.specs.Shapes.{recordShaped};
+ghost use Rattle.card_block.specs.Shapes.{record_shaped};
 
 use crate::sums::{size_of, zeros};
 
 // The 24 bytes at a place are a record's: at most 3 values, a flag of 0 or 1, two zero bytes, and 0 past the values.
 fn record_shaped(s: &[u8], at: usize) -> bool
     requires { at + 24 ≤ length s.now }
-    ensures { result ≡ recordShaped (take 24 (drop at s.now)) }
+    ensures { result ≡ record_shaped (take 24 (drop at s.now)) }
 {
     let values = s[at + 8];
     if 3 < values {

@@ -8,31 +8,31 @@ use lib.Seq.{take_at}
 use Rattle.cards.specs.Bytes.{joined}
 use Rattle.cards.specs.Moments.{Record, Moment}
 use Rattle.cards.specs.Reading.{taken, read}
-use Rattle.cards.specs.Writing.{Every, RightMoment, recordsOf, written}
+use Rattle.cards.specs.Writing.{Every, RightMoment, records_of, written}
 use Rattle.cards.specs.Writing as Writing
 use Rattle.cards.proofs.RoundTrip.{round_trip}
 use Rattle.card_log.specs.declared.Written.{Written}
 use Rattle.card_log.specs.declared.Written.TheVariants.{Done, Wrong, NoRoom}
-use Rattle.card_log.specs.Rows.{rowsIn}
-use Rattle.card_log.specs.Logging.{cardOf, Writes, WritesTo}
+use Rattle.card_log.specs.Rows.{rows_in}
+use Rattle.card_log.specs.Logging.{card_of, Writes, WritesTo}
 
 -- the card of the rows is the card of the moments that they say
-pub log-card : (rows : List ℕ) (ms : List Moment) → rowsIn rows ≡ joined (map recordsOf ms) → cardOf (rowsIn rows) ≡ Writing.write ms
-unfolding cardOf Writing.write written
-log-card rows ms e = rw e
+pub log_card : (rows : List ℕ) (ms : List Moment) → rows_in rows ≡ joined (map records_of ms) → card_of (rows_in rows) ≡ Writing.write ms
+unfolding card_of Writing.write written
+log_card rows ms e = rw e
 
 -- "what is written is read back as the same moments"
-pub log_back : (rows out out₁ : List ℕ) (n : ℕ) (ms : List Moment) → Every RightMoment ms → length (joined (map recordsOf ms)) ≤ 90194313216
-    → rowsIn rows ≡ joined (map recordsOf ms) → Writes rows out n out₁ → read (take n out₁) ≡ taken (ms ∷ [])
+pub log_back : (rows out out₁ : List ℕ) (n : ℕ) (ms : List Moment) → Every RightMoment ms → length (joined (map records_of ms)) ≤ 90194313216
+    → rows_in rows ≡ joined (map records_of ms) → Writes rows out n out₁ → read (take n out₁) ≡ taken (ms ∷ [])
 log_back rows out out₁ n ms right few e w =
     ap read
-    (ap (take n) w.put ∙ take_at (cardOf (rowsIn rows)) (drop n out) n (sym w.count) ∙ log-card rows ms e)
+    (ap (take n) w.put ∙ take_at (card_of (rows_in rows)) (drop n out) n (sym w.count) ∙ log_card rows ms e)
     ∙ round_trip ms right few
 
 pub written_once : (rows out : List ℕ) (r s : Written) (out₁ out₂ : List ℕ) → WritesTo rows out r out₁ → WritesTo rows out s out₂ → (r ≡ s) × (out₁ ≡ out₂)
 written_once rows out (Done n) (Done m) out₁ out₂ p q =
     let same : n ≡ m = p.count ∙ sym q.count in
-    (ap Done same, p.put ∙ ap (λ (k : ℕ). cardOf (rowsIn rows) ++ drop k out) same ∙ sym q.put)
+    (ap Done same, p.put ∙ ap (λ (k : ℕ). card_of (rows_in rows) ++ drop k out) same ∙ sym q.put)
 written_once rows out (Done n) Wrong out₁ out₂ p q = absurd (q.wrong p.right)
 written_once rows out (Done n) NoRoom out₁ out₂ p q = absurd (q.small p.room)
 written_once rows out Wrong (Done m) out₁ out₂ p q = absurd (p.wrong q.right)

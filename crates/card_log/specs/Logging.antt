@@ -2,31 +2,31 @@
 use Rattle.std.specs.Prelude.{ℕ, ◌+◌, ◌*◌, ◌/◌, ◌%◌, ◌≤◌, ◌≡◌, true, List, ◌++◌, length, drop}
 use Rattle.cards.specs.Moments.{Record}
 use Rattle.cards.specs.Counting.{closed}
-use Rattle.cards.specs.Mending.{cardBytes}
+use Rattle.cards.specs.Mending.{card_bytes}
 use Rattle.cards.specs.Writing.{fill}
 use Rattle.card_log.specs.declared.Written.{Written}
 use Rattle.card_log.specs.declared.Written.TheVariants.{Done, Wrong, NoRoom}
-use Rattle.card_log.specs.Rows.{rowsIn, rightFrom}
+use Rattle.card_log.specs.Rows.{rows_in, right_from}
 
 -- the count of blocks of so many records
-unfoldable pub blocksIn : ℕ → ℕ
-blocksIn n = (n + 20) / 21
+unfoldable pub blocks_in : ℕ → ℕ
+blocks_in n = (n + 20) / 21
 
 -- the card of records, as writing says it
-unfoldable pub cardOf : List Record → List ℕ
-cardOf rs = cardBytes (fill (length rs) 0 rs)
+unfoldable pub card_of : List Record → List ℕ
+card_of rs = card_bytes (fill (length rs) 0 rs)
 
 -- whole rows, that are moments, and no more than a card holds
 pub record Right (rows : List ℕ) : Type 0 where
   pub whole : length rows % 7 ≡ 0
-  pub moments : rightFrom closed (length rows / 7) rows ≡ true
-  pub few : blocksIn (length rows / 7) ≤ 4294967296
+  pub moments : right_from closed (length rows / 7) rows ≡ true
+  pub few : blocks_in (length rows / 7) ≤ 4294967296
 
 pub record Writes (rows out : List ℕ) (n : ℕ) (out₁ : List ℕ) : Type 0 where
   pub right : Right rows
-  pub room : 512 * blocksIn (length rows / 7) ≤ length out
-  pub put : out₁ ≡ cardOf (rowsIn rows) ++ drop n out
-  pub count : n ≡ length (cardOf (rowsIn rows))
+  pub room : 512 * blocks_in (length rows / 7) ≤ length out
+  pub put : out₁ ≡ card_of (rows_in rows) ++ drop n out
+  pub count : n ≡ length (card_of (rows_in rows))
 
 pub record Refuses (rows out out₁ : List ℕ) : Type 0 where
   pub wrong : Right rows → ⊥
@@ -34,7 +34,7 @@ pub record Refuses (rows out out₁ : List ℕ) : Type 0 where
 
 pub record Small (rows out out₁ : List ℕ) : Type 0 where
   pub right : Right rows
-  pub small : 512 * blocksIn (length rows / 7) ≤ length out → ⊥
+  pub small : 512 * blocks_in (length rows / 7) ≤ length out → ⊥
   pub same_out : out₁ ≡ out
 
 abbrev pub WritesTo : List ℕ → List ℕ → Written → List ℕ → Type 0

@@ -2,12 +2,12 @@
 // is the last of its moment. What rows say is in specs/Rows.antt, what `write` leaves in specs/Logging.antt. Assumes nothing.
 ghost use Rattle.std.specs.Prelude.{◌≡◌, ◌+◌, ◌-◌, ◌*◌, ◌≤◌, ◌<◌, min, length, take, drop, get_or};
 ghost use Rattle.std.proofs.lemmas.List.Edits.{sets};
-ghost use Rattle.cards.specs.Blocks.{blockBytes};
+ghost use Rattle.cards.specs.Blocks.{block_bytes};
 ghost use Rattle.cards.specs.Counting.{closed};
-ghost use Rattle.card_records.specs.Facts.{recordFrom};
-ghost use Rattle.card_writer.specs.Sheets.{blockWith};
-ghost use Rattle.card_log.specs.Rows.{rowRecord, rows_from, rightFrom};
-ghost use Rattle.card_log.specs.Logging.{blocksIn, WritesTo};
+ghost use Rattle.card_records.specs.Facts.{record_from};
+ghost use Rattle.card_writer.specs.Sheets.{block_with};
+ghost use Rattle.card_log.specs.Rows.{row_record, rows_from, right_from};
+ghost use Rattle.card_log.specs.Logging.{blocks_in, WritesTo};
 
 use card_block::moments::{Opened, go_on, may_belong};
 use card_records::Fact;
@@ -24,7 +24,7 @@ pub enum Written {
 // The record of row i.
 fn fact_of(rows: &[u32], i: usize) -> Fact
     requires { 7 * i + 7 ≤ length rows.now }
-    ensures result_value { recordFrom result ≡ rowRecord (take 7 (drop (7 * i) rows.now)) }
+    ensures result_value { record_from result ≡ row_record (take 7 (drop (7 * i) rows.now)) }
     ensures count_value { result.count ≡ get_or rows.now (7 * i + 2) 0 }
 {
     let at = 7 * i;
@@ -42,7 +42,7 @@ fn fact_of(rows: &[u32], i: usize) -> Fact
 
 // The flag of a record as a number.
 fn flag_of(last: bool) -> u8
-    ensures { result ≡ Rattle.cards.specs.Blocks.flagByte last }
+    ensures { result ≡ Rattle.cards.specs.Blocks.flag_byte last }
 {
     if last { 1 } else { 0 }
 }
@@ -50,7 +50,7 @@ fn flag_of(last: bool) -> u8
 // The first n rows are moments: at most three values, at most eight records of one stamp, and none is open at the end.
 fn rows_right(rows: &[u32], n: usize) -> bool
     requires { 7 * n ≤ length rows.now }
-    ensures { result ≡ rightFrom closed n rows.now }
+    ensures { result ≡ right_from closed n rows.now }
 {
     let mut held = Opened { count: 0, stamp: 0 };
     let mut i: usize = 0;
@@ -71,7 +71,7 @@ fn rows_right(rows: &[u32], n: usize) -> bool
 // Puts a block with the rows from one place up to another.
 fn put_rows(rows: &[u32], from: usize, to: usize, number: u32, out: &mut [u8])
     requires { (7 * to ≤ length rows.now) × (from ≤ to) × (to ≤ from + 21) × (length out.old ≡ 512) }
-    ensures { out.new ≡ blockBytes (blockWith number (rows_from (to - from) (drop (7 * from) rows.now))) }
+    ensures { out.new ≡ block_bytes (block_with number (rows_from (to - from) (drop (7 * from) rows.now))) }
 {
     start_block(out, number);
     let mut i = from;
@@ -85,7 +85,7 @@ fn put_rows(rows: &[u32], from: usize, to: usize, number: u32, out: &mut [u8])
 // The count of blocks of so many records.
 fn blocks_in(n: usize) -> usize
     requires { n < 4611686018427387904 }
-    ensures { result ≡ blocksIn n }
+    ensures { result ≡ blocks_in n }
 {
     (n + 20) / 21
 }
@@ -104,7 +104,7 @@ fn end_of(from: usize, n: usize) -> usize
 // Puts block b of the card.
 fn put_at(rows: &[u32], n: usize, b: usize, out: &mut [u8])
     requires { (7 * n ≤ length rows.now) × (21 * b < n) × (b < 4294967296) × (512 * b + 512 ≤ length out.old) }
-    ensures { out.new ≡ sets out.old (512 * b) (blockBytes (blockWith b (take 21 (drop (21 * b) (rows_from n rows.now))))) }
+    ensures { out.new ≡ sets out.old (512 * b) (block_bytes (block_with b (take 21 (drop (21 * b) (rows_from n rows.now))))) }
 {
     let from = 21 * b;
     let to = end_of(from, n);

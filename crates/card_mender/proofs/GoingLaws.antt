@@ -8,65 +8,65 @@ use lib.ListN.{length, take, drop, length-append, length-drop, length-take, take
 use lib.Seq.{sets, length-sets, drop-drop, length-take-le}
 use Rattle.cards.specs.Bytes.{joined}
 use Rattle.cards.specs.Moments.{Record, flagged}
-use Rattle.cards.specs.Blocks.{Block, Reason, block_of, blockBytes, Piece, piece_of, pieces}
-use Rattle.cards.specs.Reading.{Before, start, runsOn, after, Fate, stays, goes, fate, fates}
-use Rattle.cards.specs.Mending.{kept, fromFirst, toLast, mendFrom, mendedBlocks, cardBytes, mended, Listed, kept_less, gone, listing, listed}
+use Rattle.cards.specs.Blocks.{Block, Reason, block_of, block_bytes, Piece, piece_of, pieces}
+use Rattle.cards.specs.Reading.{Before, start, runs_on, after, Fate, stays, goes, fate, fates}
+use Rattle.cards.specs.Mending.{kept, from_first, to_last, mend_from, mended_blocks, card_bytes, mended, Listed, kept_less, gone, listing, listed}
 use Rattle.cards.specs.Mending as Mending
-use Rattle.cards.specs.Piecewise.{flaggedAhead}
-use Rattle.cards.proofs.BlockLaws.{length-block}
-use Rattle.cards.proofs.FateLaws.{fates-stays, fates-goes}
+use Rattle.cards.specs.Piecewise.{flagged_ahead}
+use Rattle.cards.proofs.BlockLaws.{length_block}
+use Rattle.cards.proofs.FateLaws.{fates_stays, fates_goes}
 use Rattle.cards.proofs.PieceLaws.{pieces_none}
-use Rattle.cards.proofs.Ahead.{kept-stays, kept_goes, ahead-flagged}
+use Rattle.cards.proofs.Ahead.{kept_stays, kept_goes, ahead_flagged}
 use Rattle.card_block.specs.declared.Carried.{Carried}
-use Rattle.card_block.specs.Shapes.{recordsFrom}
+use Rattle.card_block.specs.Shapes.{records_from}
 use Rattle.card_block.specs.Judging.{Carries, meant, nothing}
-use Rattle.card_block.proofs.Judgements.{carries-start}
-use Rattle.card_block.proofs.PieceEnds.{piece-end}
-use Rattle.card_writer.specs.Sheets.{blockWith}
+use Rattle.card_block.proofs.Judgements.{carries_start}
+use Rattle.card_block.proofs.PieceEnds.{piece_end}
+use Rattle.card_writer.specs.Sheets.{block_with}
 use Rattle.card_mender.specs.declared.Held.{Held}
 use Rattle.card_mender.specs.declared.State.{State}
 use Rattle.card_mender.specs.declared.Weighed.{Weighed}
 use Rattle.card_mender.specs.declared.Weighed.TheVariants.{Kept, Gone}
-use Rattle.card_mender.specs.Weighing.{weighed, stayTo}
-use Rattle.card_mender.specs.Lines.{word, line_of, lines_of, piecesIn, Room, Mends}
-use Rattle.card_mender.specs.Turning.{bytesToCome, linesToCome, Going, Ready, Turns, Whole, PutHeld}
+use Rattle.card_mender.specs.Weighing.{weighed, stay_to}
+use Rattle.card_mender.specs.Lines.{word, line_of, lines_of, pieces_in, Room, Mends}
+use Rattle.card_mender.specs.Turning.{bytes_to_come, lines_to_come, Going, Ready, Turns, Whole, PutHeld}
 use Rattle.card_mender.proofs.FlagLaws.{length_from}
-use Rattle.card_mender.proofs.Weights.{Weighs, WeighsRight, weighs-right}
-use Rattle.card_writer.proofs.StoreLaws.{sets-take, sets-drop}
+use Rattle.card_mender.proofs.Weights.{Weighs, WeighsRight, weighs_right}
+use Rattle.card_writer.proofs.StoreLaws.{sets_take, sets_drop}
 
 -- the pieces to come, one by one
-bytes-goes : (begun : Bool) (f : Before) (p : Piece) (ps : List Piece) (why : Reason) → fate f p ≡ goes why
-    → bytesToCome begun f (p ∷ ps) ≡ bytesToCome begun f ps
-unfolding bytesToCome
-bytes-goes begun f p ps why e = rw (kept_goes f p ps why e)
+bytes_goes : (begun : Bool) (f : Before) (p : Piece) (ps : List Piece) (why : Reason) → fate f p ≡ goes why
+    → bytes_to_come begun f (p ∷ ps) ≡ bytes_to_come begun f ps
+unfolding bytes_to_come
+bytes_goes begun f p ps why e = rw (kept_goes f p ps why e)
 
-lines-goes : (begun : Bool) (f : Before) (p : Piece) (ps : List Piece) (why : Reason) → fate f p ≡ goes why
-    → linesToCome begun f (p ∷ ps) ≡ gone why ∷ linesToCome begun f ps
-unfolding linesToCome listing kept
-lines-goes begun f p ps why e = rw (fates-goes f p ps why e)
+lines_goes : (begun : Bool) (f : Before) (p : Piece) (ps : List Piece) (why : Reason) → fate f p ≡ goes why
+    → lines_to_come begun f (p ∷ ps) ≡ gone why ∷ lines_to_come begun f ps
+unfolding lines_to_come listing kept
+lines_goes begun f p ps why e = rw (fates_goes f p ps why e)
 
 -- the records that stay in a block
 abbrev staying : Bool → Before → Block → List Piece → List Record
-staying begun f b ps = toLast (flaggedAhead (after f b) ps) (fromFirst (begun && runsOn f.next b) b.records)
+staying begun f b ps = to_last (flagged_ahead (after f b) ps) (from_first (begun && runs_on f.next b) b.records)
 
 abbrev began : Bool → Before → Block → Bool
-began begun f b = (begun && runsOn f.next b) || flagged b.records
+began begun f b = (begun && runs_on f.next b) || flagged b.records
 
-mend-stays : (begun : Bool) (f : Before) (p : Piece) (ps : List Piece) (b : Block) → fate f p ≡ stays b
-    → mendFrom begun f.next (kept (fates f (p ∷ ps)))
-    ≡ blockWith b.number (staying begun f b ps) ∷ mendFrom (began begun f b) (after f b).next (kept (fates (after f b) ps))
-unfolding mendFrom blockWith after
-mend-stays begun f p ps b e = rw (kept-stays f p ps b e, ahead-flagged (after f b) ps)
+mend_stays : (begun : Bool) (f : Before) (p : Piece) (ps : List Piece) (b : Block) → fate f p ≡ stays b
+    → mend_from begun f.next (kept (fates f (p ∷ ps)))
+    ≡ block_with b.number (staying begun f b ps) ∷ mend_from (began begun f b) (after f b).next (kept (fates (after f b) ps))
+unfolding mend_from block_with after
+mend_stays begun f p ps b e = rw (kept_stays f p ps b e, ahead_flagged (after f b) ps)
 
-bytes-stays : (begun : Bool) (f : Before) (p : Piece) (ps : List Piece) (b : Block) → fate f p ≡ stays b
-    → bytesToCome begun f (p ∷ ps) ≡ blockBytes (blockWith b.number (staying begun f b ps)) ++ bytesToCome (began begun f b) (after f b) ps
-unfolding bytesToCome cardBytes joined
-bytes-stays begun f p ps b e = rw (mend-stays begun f p ps b e)
+bytes_stays : (begun : Bool) (f : Before) (p : Piece) (ps : List Piece) (b : Block) → fate f p ≡ stays b
+    → bytes_to_come begun f (p ∷ ps) ≡ block_bytes (block_with b.number (staying begun f b ps)) ++ bytes_to_come (began begun f b) (after f b) ps
+unfolding bytes_to_come card_bytes joined
+bytes_stays begun f p ps b e = rw (mend_stays begun f p ps b e)
 
-lines-stays : (begun : Bool) (f : Before) (p : Piece) (ps : List Piece) (b : Block) → fate f p ≡ stays b
-    → linesToCome begun f (p ∷ ps) ≡ kept_less (length b.records - length (staying begun f b ps)) ∷ linesToCome (began begun f b) (after f b) ps
-unfolding linesToCome listing blockWith
-lines-stays begun f p ps b e = rw (mend-stays begun f p ps b e, fates-stays f p ps b e)
+lines_stays : (begun : Bool) (f : Before) (p : Piece) (ps : List Piece) (b : Block) → fate f p ≡ stays b
+    → lines_to_come begun f (p ∷ ps) ≡ kept_less (length b.records - length (staying begun f b ps)) ∷ lines_to_come (began begun f b) (after f b) ps
+unfolding lines_to_come listing block_with
+lines_stays begun f p ps b e = rw (mend_stays begun f p ps b e, fates_stays f p ps b e)
 
 lines_cons : (l : Listed) (ls : List Listed) → lines_of (l ∷ ls) ≡ line_of l ++ lines_of ls
 unfolding lines_of joined
@@ -74,16 +74,16 @@ lines_cons l ls = refl
 
 -- at the beginning
 pub going_start : (card out list : List ℕ) (s : State) → s ≡ record { carried = nothing; begun = true; put = 0 } → Going card out list s 0 0 out list
-unfolding bytesToCome linesToCome mended mendedBlocks Mending.list listed start
+unfolding bytes_to_come lines_to_come mended mended_blocks Mending.list listed start
 going_start card out list s e =
     rw e
     (record {
       before = start;
-      carries = carries-start;
+      carries = carries_start;
       here = omega arith;
       behind = omega arith;
-      out-size = refl;
-      list-size = refl;
+      out_size = refl;
+      list_size = refl;
       puts = refl;
       tail = refl;
       lines = refl;
@@ -95,62 +95,62 @@ module _ {card : List ℕ} {at end place : ℕ} {s : State} {out list : List ℕ
   abbrev piece : List ℕ
   piece = take (end - at) (drop at card)
 
-  cut-here : pieces (drop at card) ≡ piece_of piece ∷ pieces (drop end card)
-  cut-here = piece-end card at end y.inside y.ends
+  cut_here : pieces (drop at card) ≡ piece_of piece ∷ pieces (drop end card)
+  cut_here = piece_end card at end y.inside y.ends
 
   next_here : at ≡ min (512 * place) (length card) → end ≡ min (512 * (place + 1)) (length card)
   next_here e = omega (arith, y.inside, y.ends)
 
-  piece-long : length piece ≡ 512 → end ≡ at + 512
-  piece-long e = omega (arith, e, y.inside, y.ends, length-take (end - at) (drop at card), length-drop at card)
+  piece_long : length piece ≡ 512 → end ≡ at + 512
+  piece_long e = omega (arith, e, y.inside, y.ends, length-take (end - at) (drop at card), length-drop at card)
 
-  line-more : (list₀ list₁ : List ℕ) (a b : ℕ) → list₁ ≡ sets list (2 * place) (a ∷ b ∷ [])
+  line_more : (list₀ list₁ : List ℕ) (a b : ℕ) → list₁ ≡ sets list (2 * place) (a ∷ b ∷ [])
       → (take (2 * (place + 1)) list₁ ≡ take (2 * place) list ++ (a ∷ b ∷ []))
       × ((drop (2 * place) list ≡ drop (2 * place) list₀) → drop (2 * (place + 1)) list₁ ≡ drop (2 * (place + 1)) list₀)
-  line-more list₀ list₁ a b e =
+  line_more list₀ list₁ a b e =
       let two : 2 * (place + 1) ≡ 2 * place + 2 = omega arith in (
-        rw (two, e) (sets-take list (2 * place) (a ∷ b ∷ []) y.lines),
+        rw (two, e) (sets_take list (2 * place) (a ∷ b ∷ []) y.lines),
         λ r.
             rw (two, e)
-            (sets-drop list (2 * place) (a ∷ b ∷ []) y.lines
+            (sets_drop list (2 * place) (a ∷ b ∷ []) y.lines
             ∙ sym (drop-drop 2 (2 * place) list) ∙ ap (drop 2) r ∙ drop-drop 2 (2 * place) list₀),
       )
 
-  pub going-gone : (why : Rattle.card_block.specs.declared.Reason.Reason) (w : ℕ) (list₁ : List ℕ) → Gone why ≡ weighed piece s.carried s.begun
+  pub going_gone : (why : Rattle.card_block.specs.declared.Reason.Reason) (w : ℕ) (list₁ : List ℕ) → Gone why ≡ weighed piece s.carried s.begun
       → w ≡ word (meant why) → list₁ ≡ sets list (2 * place) (w ∷ 0 ∷ []) → Turns card at end place s out list s out list₁
   unfolding line_of
-  going-gone why w list₁ e v q =
+  going_gone why w list₁ e v q =
       record {
         on = λ out₀ list₀ g.
             let goer : fate g.before (piece_of piece) ≡ goes (meant why) =
-            rw (sym e) at (weighs-right g.before s.carried s.begun piece g.carries) in
+            rw (sym e) at (weighs_right g.before s.carried s.begun piece g.carries) in
             record {
               before = g.before;
               carries = g.carries;
               here = next_here g.here;
               behind = omega (arith, g.behind, y.inside, y.ends);
-              out-size = g.out-size;
-              list-size = ap length q ∙ length-sets list (2 * place) (w ∷ 0 ∷ []) ∙ g.list-size;
+              out_size = g.out_size;
+              list_size = ap length q ∙ length-sets list (2 * place) (w ∷ 0 ∷ []) ∙ g.list_size;
               puts =
                   ap (λ (l : List ℕ). take s.put out ++ l)
-                  (sym (bytes-goes s.begun g.before (piece_of piece) (pieces (drop end card)) (meant why) goer) ∙ ap (bytesToCome s.begun g.before) (sym cut-here))
+                  (sym (bytes_goes s.begun g.before (piece_of piece) (pieces (drop end card)) (meant why) goer) ∙ ap (bytes_to_come s.begun g.before) (sym cut_here))
                   ∙ g.puts;
               tail = g.tail;
               lines =
-                  ap (λ (l : List ℕ). l ++ lines_of (linesToCome s.begun g.before (pieces (drop end card)))) (line-more list₀ list₁ w 0 q).0
-                  ∙ append_assoc (take (2 * place) list) (w ∷ 0 ∷ []) (lines_of (linesToCome s.begun g.before (pieces (drop end card))))
+                  ap (λ (l : List ℕ). l ++ lines_of (lines_to_come s.begun g.before (pieces (drop end card)))) (line_more list₀ list₁ w 0 q).0
+                  ∙ append_assoc (take (2 * place) list) (w ∷ 0 ∷ []) (lines_of (lines_to_come s.begun g.before (pieces (drop end card))))
                   ∙ ap (λ (l : List ℕ). take (2 * place) list ++ l)
-                  (ap (λ (n : ℕ). n ∷ 0 ∷ lines_of (linesToCome s.begun g.before (pieces (drop end card)))) v
-                  ∙ sym (lines_cons (gone (meant why)) (linesToCome s.begun g.before (pieces (drop end card))))
+                  (ap (λ (n : ℕ). n ∷ 0 ∷ lines_of (lines_to_come s.begun g.before (pieces (drop end card)))) v
+                  ∙ sym (lines_cons (gone (meant why)) (lines_to_come s.begun g.before (pieces (drop end card))))
                   ∙ ap lines_of
-                  (sym (lines-goes s.begun g.before (piece_of piece) (pieces (drop end card)) (meant why) goer) ∙ ap (linesToCome s.begun g.before) (sym cut-here)))
+                  (sym (lines_goes s.begun g.before (piece_of piece) (pieces (drop end card)) (meant why) goer) ∙ ap (lines_to_come s.begun g.before) (sym cut_here)))
                   ∙ g.lines;
-              rest = (line-more list₀ list₁ w 0 q).1 g.rest;
+              rest = (line_more list₀ list₁ w 0 q).1 g.rest;
             };
       }
 
   weigher : (h : Held) → Kept h ≡ weighed piece s.carried s.begun → (f : Before) → Carries f s.carried → Weighs f s.begun piece h
-  weigher h e f k = rw (sym e) at (weighs-right f s.carried s.begun piece k)
+  weigher h e f k = rw (sym e) at (weighs_right f s.carried s.begun piece k)
 
   pub held_whole : (h : Held) → Kept h ≡ weighed piece s.carried s.begun → Whole card at end h
   held_whole h e =
@@ -158,32 +158,32 @@ module _ {card : List ℕ} {at end place : ℕ} {s : State} {out list : List ℕ
       record {
         before = after y.before (block_of piece);
         carries = w.carries;
-        whole = piece-long w.whole;
+        whole = piece_long w.whole;
         inside = omega (arith, y.ends);
         order = w.order;
         most = w.inside;
         few = w.few;
       }
 
-  pub going-kept : (h : Held) (n to : ℕ) (out₁ list₁ : List ℕ) (r : State) → Kept h ≡ weighed piece s.carried s.begun
-      → ((f : Before) → Carries f h.carried → PutHeld (flaggedAhead f (pieces (drop end card))) card at end h s.put out out₁ to)
+  pub going_kept : (h : Held) (n to : ℕ) (out₁ list₁ : List ℕ) (r : State) → Kept h ≡ weighed piece s.carried s.begun
+      → ((f : Before) → Carries f h.carried → PutHeld (flagged_ahead f (pieces (drop end card))) card at end h s.put out out₁ to)
       → n ≡ h.records - (to - h.«from») → list₁ ≡ sets list (2 * place) (0 ∷ n ∷ [])
       → r ≡ record { carried = h.carried; begun = h.begun; put = s.put + 512 } → Turns card at end place s out list r out₁ list₁
   unfolding line_of
-  going-kept h n to out₁ list₁ r e p m q t =
+  going_kept h n to out₁ list₁ r e p m q t =
       rw t
       (record {
         on = λ out₀ list₀ g.
             let w : Weighs g.before s.begun piece h = weigher h e g.before g.carries in
             let ps : List Piece = pieces (drop end card) in
             let b : Block = block_of piece in
-            let z : PutHeld (flaggedAhead (after g.before b) ps) card at end h s.put out out₁ to = p (after g.before b) w.carries in
-            let room : s.put + 512 ≤ length out = omega (arith, g.behind, piece-long w.whole, y.ends, y.bytes) in
-            let stay : recordsFrom (to - h.«from») (drop (6 + 24 * h.«from») piece) ≡ staying s.begun g.before b ps =
-            ap (λ (k : ℕ). recordsFrom (k - h.«from») (drop (6 + 24 * h.«from») piece)) z.to_is ∙ sym (w.keeps (flaggedAhead (after g.before b) ps)) in
-            let block : List ℕ = blockBytes (blockWith b.number (staying s.begun g.before b ps)) in
-            let stored : out₁ ≡ sets out s.put block = z.puts ∙ ap (λ (l : List Record). sets out s.put (blockBytes (blockWith b.number l))) stay in
-            let long : length block ≡ 512 = length-block (blockWith b.number (staying s.begun g.before b ps)) in
+            let z : PutHeld (flagged_ahead (after g.before b) ps) card at end h s.put out out₁ to = p (after g.before b) w.carries in
+            let room : s.put + 512 ≤ length out = omega (arith, g.behind, piece_long w.whole, y.ends, y.bytes) in
+            let stay : records_from (to - h.«from») (drop (6 + 24 * h.«from») piece) ≡ staying s.begun g.before b ps =
+            ap (λ (k : ℕ). records_from (k - h.«from») (drop (6 + 24 * h.«from») piece)) z.to_is ∙ sym (w.keeps (flagged_ahead (after g.before b) ps)) in
+            let block : List ℕ = block_bytes (block_with b.number (staying s.begun g.before b ps)) in
+            let stored : out₁ ≡ sets out s.put block = z.puts ∙ ap (λ (l : List Record). sets out s.put (block_bytes (block_with b.number l))) stay in
+            let long : length block ≡ 512 = length_block (block_with b.number (staying s.begun g.before b ps)) in
             let far : s.put + 512 ≡ s.put + length block = omega (arith, long) in
             let fits : s.put + length block ≤ length out = omega (arith, long, room) in
             let less : n ≡ length b.records - length (staying s.begun g.before b ps) =
@@ -192,51 +192,51 @@ module _ {card : List ℕ} {at end place : ℕ} {s : State} {out list : List ℕ
               before = after g.before b;
               carries = w.carries;
               here = next_here g.here;
-              behind = omega (arith, g.behind, piece-long w.whole);
-              out-size = ap length stored ∙ length-sets out s.put block ∙ g.out-size;
-              list-size = ap length q ∙ length-sets list (2 * place) (0 ∷ n ∷ []) ∙ g.list-size;
+              behind = omega (arith, g.behind, piece_long w.whole);
+              out_size = ap length stored ∙ length-sets out s.put block ∙ g.out_size;
+              list_size = ap length q ∙ length-sets list (2 * place) (0 ∷ n ∷ []) ∙ g.list_size;
               puts =
-                  ap (λ (k : ℕ). take k out₁ ++ bytesToCome h.begun (after g.before b) ps) far
-                  ∙ ap (λ (l : List ℕ). l ++ bytesToCome h.begun (after g.before b) ps) (ap (take (s.put + length block)) stored ∙ sets-take out s.put block fits)
-                  ∙ append_assoc (take s.put out) block (bytesToCome h.begun (after g.before b) ps)
+                  ap (λ (k : ℕ). take k out₁ ++ bytes_to_come h.begun (after g.before b) ps) far
+                  ∙ ap (λ (l : List ℕ). l ++ bytes_to_come h.begun (after g.before b) ps) (ap (take (s.put + length block)) stored ∙ sets_take out s.put block fits)
+                  ∙ append_assoc (take s.put out) block (bytes_to_come h.begun (after g.before b) ps)
                   ∙ ap (λ (l : List ℕ). take s.put out ++ l)
-                  (ap (λ (k : Bool). block ++ bytesToCome k (after g.before b) ps) w.begins
-                  ∙ sym (bytes-stays s.begun g.before (piece_of piece) ps b w.stay)
-                  ∙ ap (bytesToCome s.begun g.before) (sym cut-here))
+                  (ap (λ (k : Bool). block ++ bytes_to_come k (after g.before b) ps) w.begins
+                  ∙ sym (bytes_stays s.begun g.before (piece_of piece) ps b w.stay)
+                  ∙ ap (bytes_to_come s.begun g.before) (sym cut_here))
                   ∙ g.puts;
               tail =
                   ap (λ (k : ℕ). drop k out₁) far
                   ∙ ap (drop (s.put + length block)) stored
-                  ∙ sets-drop out s.put block fits
+                  ∙ sets_drop out s.put block fits
                   ∙ sym (drop-drop (length block) s.put out)
                   ∙ ap (drop (length block)) g.tail
                   ∙ drop-drop (length block) s.put out₀
                   ∙ ap (λ (k : ℕ). drop k out₀) (sym far);
               lines =
-                  ap (λ (l : List ℕ). l ++ lines_of (linesToCome h.begun (after g.before b) ps)) (line-more list₀ list₁ 0 n q).0
-                  ∙ append_assoc (take (2 * place) list) (0 ∷ n ∷ []) (lines_of (linesToCome h.begun (after g.before b) ps))
+                  ap (λ (l : List ℕ). l ++ lines_of (lines_to_come h.begun (after g.before b) ps)) (line_more list₀ list₁ 0 n q).0
+                  ∙ append_assoc (take (2 * place) list) (0 ∷ n ∷ []) (lines_of (lines_to_come h.begun (after g.before b) ps))
                   ∙ ap (λ (l : List ℕ). take (2 * place) list ++ l)
-                  (ap (λ (k : ℕ). 0 ∷ k ∷ lines_of (linesToCome h.begun (after g.before b) ps)) less
-                  ∙ sym (lines_cons (kept_less (length b.records - length (staying s.begun g.before b ps))) (linesToCome h.begun (after g.before b) ps))
+                  (ap (λ (k : ℕ). 0 ∷ k ∷ lines_of (lines_to_come h.begun (after g.before b) ps)) less
+                  ∙ sym (lines_cons (kept_less (length b.records - length (staying s.begun g.before b ps))) (lines_to_come h.begun (after g.before b) ps))
                   ∙ ap lines_of
-                  (ap (λ (k : Bool). kept_less (length b.records - length (staying s.begun g.before b ps)) ∷ linesToCome k (after g.before b) ps) w.begins
-                  ∙ sym (lines-stays s.begun g.before (piece_of piece) ps b w.stay)
-                  ∙ ap (linesToCome s.begun g.before) (sym cut-here)))
+                  (ap (λ (k : Bool). kept_less (length b.records - length (staying s.begun g.before b ps)) ∷ lines_to_come k (after g.before b) ps) w.begins
+                  ∙ sym (lines_stays s.begun g.before (piece_of piece) ps b w.stay)
+                  ∙ ap (lines_to_come s.begun g.before) (sym cut_here)))
                   ∙ g.lines;
-              rest = (line-more list₀ list₁ 0 n q).1 g.rest;
+              rest = (line_more list₀ list₁ 0 n q).1 g.rest;
             };
       })
 
 -- how far records stay lies between
-pub stay-between : (later : Bool) (h : Held) → h.«from» ≤ h.last → h.last ≤ h.records → (h.«from» ≤ stayTo later h) × (stayTo later h ≤ h.records)
-unfolding stayTo
-stay-between true h a b = (omega arith, omega arith)
-stay-between false h a b = (a, b)
+pub stay_between : (later : Bool) (h : Held) → h.«from» ≤ h.last → h.last ≤ h.records → (h.«from» ≤ stay_to later h) × (stay_to later h ≤ h.records)
+unfolding stay_to
+stay_between true h a b = (omega arith, omega arith)
+stay_between false h a b = (a, b)
 
 -- at the end
 pub going_end : {card out₀ list₀ : List ℕ} {s : State} {at place : ℕ} {out list : List ℕ} → Going card out₀ list₀ s at place out list
-    → Room card out₀ list₀ → length card ≤ at → place ≡ piecesIn (length card) → Mends card out₀ list₀ s.put out list
-unfolding bytesToCome linesToCome fates kept mendFrom listing cardBytes joined lines_of
+    → Room card out₀ list₀ → length card ≤ at → place ≡ pieces_in (length card) → Mends card out₀ list₀ s.put out list
+unfolding bytes_to_come lines_to_come fates kept mend_from listing card_bytes joined lines_of
 going_end {card} {out₀} {list₀} {s} {at} {place} {out} {list} g room h e =
     let none : pieces (drop at card) ≡ [] = pieces_none (drop at card) (omega (arith, length-drop at card)) in
     let all : take s.put out ≡ mended card =
@@ -246,25 +246,25 @@ going_end {card} {out₀} {list₀} {s} {at} {place} {out} {list} g room h e =
     record {
       room = room;
       put = sym (take-append-drop s.put out) ∙ ap (λ (l : List ℕ). l ++ drop s.put out) all ∙ ap (λ (l : List ℕ). mended card ++ l) g.tail;
-      count = sym (length-take-le s.put out (omega (arith, g.behind, g.here, g.out-size, room.bytes))) ∙ ap length all;
+      count = sym (length-take-le s.put out (omega (arith, g.behind, g.here, g.out_size, room.bytes))) ∙ ap length all;
       listed =
           sym (take-append-drop (2 * place) list) ∙ ap (λ (l : List ℕ). l ++ drop (2 * place) list) each
           ∙ ap (λ (l : List ℕ). lines_of (Mending.list card) ++ l) g.rest ∙ ap (λ (k : ℕ). lines_of (Mending.list card) ++ drop (2 * k) list₀) e;
     }
 
 -- the count of turns
-pub counted-pieces : (n place : ℕ) → n ≤ 512 * place → 512 * place < n + 512 → place ≡ piecesIn n
-unfolding piecesIn
-counted-pieces n place a b = omega arith
+pub counted_pieces : (n place : ℕ) → n ≤ 512 * place → 512 * place < n + 512 → place ≡ pieces_in n
+unfolding pieces_in
+counted_pieces n place a b = omega arith
 
 -- bounds that the code needs
 pub whole_long : {card : List ℕ} {at end : ℕ} {h : Held} → Whole card at end h → length (take (end - at) (drop at card)) ≡ 512
 whole_long {card} {at} {end} {h} w = omega (arith, length-take (end - at) (drop at card), length-drop at card, w.whole, w.inside)
 
-pub to-between : {card : List ℕ} {at end : ℕ} {h : Held} (later : Bool) (to : ℕ) → Whole card at end h → to ≡ stayTo later h
+pub to_between : {card : List ℕ} {at end : ℕ} {h : Held} (later : Bool) (to : ℕ) → Whole card at end h → to ≡ stay_to later h
     → (h.«from» ≤ to) × (to ≤ h.records)
-to-between {card} {at} {end} {h} later to w e = rw e (stay-between later h w.order w.most)
+to_between {card} {at} {end} {h} later to w e = rw e (stay_between later h w.order w.most)
 
-pub ready-lines : (n place list : ℕ) → 512 * place < n → piecesIn n ≤ list / 2 → 2 * place + 2 ≤ list
-unfolding piecesIn
-ready-lines n place list a b = omega arith
+pub ready_lines : (n place list : ℕ) → 512 * place < n → pieces_in n ≤ list / 2 → 2 * place + 2 ≤ list
+unfolding pieces_in
+ready_lines n place list a b = omega arith

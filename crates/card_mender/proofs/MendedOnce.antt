@@ -8,15 +8,15 @@ use Rattle.card_mender.specs.declared.Mended.{Mended}
 use Rattle.card_mender.specs.declared.Mended.TheVariants.{Refused, Done}
 use Rattle.card_mender.specs.Lines.{MendsTo}
 
-pub mended-once : (card out list : List ℕ) (r s : Mended) (out₁ out₂ list₁ list₂ : List ℕ) → MendsTo card out list r out₁ list₁
+pub mended_once : (card out list : List ℕ) (r s : Mended) (out₁ out₂ list₁ list₂ : List ℕ) → MendsTo card out list r out₁ list₁
     → MendsTo card out list s out₂ list₂ → (r ≡ s) × (out₁ ≡ out₂) × (list₁ ≡ list₂)
-mended-once card out list (Done n) (Done m) out₁ out₂ list₁ list₂ p q =
+mended_once card out list (Done n) (Done m) out₁ out₂ list₁ list₂ p q =
     let same : n ≡ m = p.count ∙ sym q.count in (
       ap Done same,
       p.put ∙ ap (λ (k : ℕ). mended card ++ drop k out) same ∙ sym q.put,
       p.listed ∙ sym q.listed,
     )
-mended-once card out list (Done n) Refused out₁ out₂ list₁ list₂ p q = absurd (q.small p.room)
-mended-once card out list Refused (Done m) out₁ out₂ list₁ list₂ p q = absurd (p.small q.room)
-mended-once card out list Refused Refused out₁ out₂ list₁ list₂ p q =
-    (refl, p.same_out ∙ sym q.same_out, p.same-list ∙ sym q.same-list)
+mended_once card out list (Done n) Refused out₁ out₂ list₁ list₂ p q = absurd (q.small p.room)
+mended_once card out list Refused (Done m) out₁ out₂ list₁ list₂ p q = absurd (p.small q.room)
+mended_once card out list Refused Refused out₁ out₂ list₁ list₂ p q =
+    (refl, p.same_out ∙ sym q.same_out, p.same_list ∙ sym q.same_list)

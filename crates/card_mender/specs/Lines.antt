@@ -22,26 +22,26 @@ unfoldable pub lines_of : List Listed → List ℕ
 lines_of ls = joined (map line_of ls)
 
 -- the count of pieces of so many bytes
-unfoldable pub piecesIn : ℕ → ℕ
-piecesIn n = (n + 511) / 512
+unfoldable pub pieces_in : ℕ → ℕ
+pieces_in n = (n + 511) / 512
 
 -- the slices have room: for the card, and for two numbers a piece
 pub record Room (card out list : List ℕ) : Type 0 where
   pub bytes : length card ≤ length out
-  pub lines : 2 * piecesIn (length card) ≤ length list
+  pub lines : 2 * pieces_in (length card) ≤ length list
 
 -- the mended card stands in the first n bytes of `out`, and its list at the beginning of `list`; the rest of both is as it was
 pub record Mends (card out list : List ℕ) (n : ℕ) (out₁ list₁ : List ℕ) : Type 0 where
   pub room : Room card out list
   pub put : out₁ ≡ mended card ++ drop n out
   pub count : n ≡ length (mended card)
-  pub listed : list₁ ≡ lines_of (Mending.list card) ++ drop (2 * piecesIn (length card)) list
+  pub listed : list₁ ≡ lines_of (Mending.list card) ++ drop (2 * pieces_in (length card)) list
 
 -- nothing is written where there is no room
 pub record Leaves (card out list out₁ list₁ : List ℕ) : Type 0 where
   pub small : Room card out list → ⊥
   pub same_out : out₁ ≡ out
-  pub same-list : list₁ ≡ list
+  pub same_list : list₁ ≡ list
 
 abbrev pub MendsTo : List ℕ → List ℕ → List ℕ → Mended → List ℕ → List ℕ → Type 0
 MendsTo card out list (Done n) out₁ list₁ = Mends card out list n out₁ list₁

@@ -1,24 +1,24 @@
 -- Mending under way: what is put and listed so far, with what the pieces to come give, is the whole. What one turn keeps. Assumes nothing.
 use Rattle.std.specs.Prelude.{ℕ, ◌+◌, ◌-◌, ◌*◌, ◌≤◌, ◌<◌, min, ◌≡◌, Bool, List, ◌++◌, length, take, drop}
 use Rattle.std.proofs.lemmas.List.Edits.{sets}
-use Rattle.cards.specs.Blocks.{Piece, pieces, block_of, blockBytes}
+use Rattle.cards.specs.Blocks.{Piece, pieces, block_of, block_bytes}
 use Rattle.cards.specs.Reading.{Before, fates}
-use Rattle.cards.specs.Mending.{kept, mendFrom, cardBytes, mended, Listed, listing}
+use Rattle.cards.specs.Mending.{kept, mend_from, card_bytes, mended, Listed, listing}
 use Rattle.cards.specs.Mending as Mending
-use Rattle.card_block.specs.Shapes.{recordsFrom}
+use Rattle.card_block.specs.Shapes.{records_from}
 use Rattle.card_block.specs.Judging.{Carries}
-use Rattle.card_writer.specs.Sheets.{blockWith}
+use Rattle.card_writer.specs.Sheets.{block_with}
 use Rattle.card_mender.specs.declared.Held.{Held}
 use Rattle.card_mender.specs.declared.State.{State}
-use Rattle.card_mender.specs.Weighing.{stayTo}
+use Rattle.card_mender.specs.Weighing.{stay_to}
 use Rattle.card_mender.specs.Lines.{lines_of}
 
 -- what the pieces to come give: the bytes of their mended blocks, and their lines
-unfoldable pub bytesToCome : Bool → Before → List Piece → List ℕ
-bytesToCome begun f ps = cardBytes (mendFrom begun f.next (kept (fates f ps)))
+unfoldable pub bytes_to_come : Bool → Before → List Piece → List ℕ
+bytes_to_come begun f ps = card_bytes (mend_from begun f.next (kept (fates f ps)))
 
-unfoldable pub linesToCome : Bool → Before → List Piece → List Listed
-linesToCome begun f ps = listing (fates f ps) (mendFrom begun f.next (kept (fates f ps)))
+unfoldable pub lines_to_come : Bool → Before → List Piece → List Listed
+lines_to_come begun f ps = listing (fates f ps) (mend_from begun f.next (kept (fates f ps)))
 
 -- mending under way
 pub record Going (card out₀ list₀ : List ℕ) (s : State) (at place : ℕ) (out list : List ℕ) : Type 0 where
@@ -26,11 +26,11 @@ pub record Going (card out₀ list₀ : List ℕ) (s : State) (at place : ℕ) (
   pub carries : Carries before s.carried
   pub here : at ≡ min (512 * place) (length card)
   pub behind : s.put ≤ at
-  pub out-size : length out ≡ length out₀
-  pub list-size : length list ≡ length list₀
-  pub puts : take s.put out ++ bytesToCome s.begun before (pieces (drop at card)) ≡ mended card
+  pub out_size : length out ≡ length out₀
+  pub list_size : length list ≡ length list₀
+  pub puts : take s.put out ++ bytes_to_come s.begun before (pieces (drop at card)) ≡ mended card
   pub tail : drop s.put out ≡ drop s.put out₀
-  pub lines : take (2 * place) list ++ lines_of (linesToCome s.begun before (pieces (drop at card))) ≡ lines_of (Mending.list card)
+  pub lines : take (2 * place) list ++ lines_of (lines_to_come s.begun before (pieces (drop at card))) ≡ lines_of (Mending.list card)
   pub rest : drop (2 * place) list ≡ drop (2 * place) list₀
 
 -- a piece can be turned: something is carried to it, and there is room
@@ -59,6 +59,6 @@ pub record Whole (card : List ℕ) (at end : ℕ) (h : Held) : Type 0 where
 
 -- the block is put with the records that stay in it
 pub record PutHeld (later : Bool) (card : List ℕ) (at end : ℕ) (h : Held) (put : ℕ) (out out₁ : List ℕ) (to : ℕ) : Type 0 where
-  pub to_is : to ≡ stayTo later h
-  pub puts : out₁ ≡ sets out put (blockBytes (blockWith (block_of (take (end - at) (drop at card))).number
-      (recordsFrom (to - h.«from») (drop (6 + 24 * h.«from») (take (end - at) (drop at card))))))
+  pub to_is : to ≡ stay_to later h
+  pub puts : out₁ ≡ sets out put (block_bytes (block_with (block_of (take (end - at) (drop at card))).number
+      (records_from (to - h.«from») (drop (6 + 24 * h.«from») (take (end - at) (drop at card))))))

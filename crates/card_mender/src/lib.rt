@@ -4,16 +4,16 @@ mod flags; // flags.rt: the first and the last flagged record of a block
 pub mod looking; // looking.rt: whether a flagged record comes later in the stretch
 
 ghost use Rattle.std.specs.Prelude.{◌≡◌, Bool, ◌+◌, ◌-◌, ◌*◌, ◌≤◌, ◌<◌, length, drop, ◌∷◌, []};
-ghost use Rattle.cards.specs.Blocks.{block_of, blockBytes};
-ghost use Rattle.card_block.specs.Shapes.{recordsFrom, Shaped};
-ghost use Rattle.card_writer.specs.Sheets.{blockWith};
+ghost use Rattle.cards.specs.Blocks.{block_of, block_bytes};
+ghost use Rattle.card_block.specs.Shapes.{records_from, Shaped};
+ghost use Rattle.card_writer.specs.Sheets.{block_with};
 ghost use Rattle.std.proofs.lemmas.List.Edits.{sets};
 ghost use Rattle.cards.specs.Blocks.{pieces};
 ghost use Rattle.cards.specs.Reading.{Before};
-ghost use Rattle.cards.specs.Piecewise.{flaggedAhead};
+ghost use Rattle.cards.specs.Piecewise.{flagged_ahead};
 ghost use Rattle.card_block.specs.Judging.{Carries, meant};
-ghost use Rattle.card_mender.specs.Weighing.{weighed, keptBy, stayTo};
-ghost use Rattle.card_mender.specs.Lines.{word, piecesIn, MendsTo};
+ghost use Rattle.card_mender.specs.Weighing.{weighed, kept_by, stay_to};
+ghost use Rattle.card_mender.specs.Lines.{word, pieces_in, MendsTo};
 ghost use Rattle.card_mender.specs.Turning.{Whole, PutHeld, Ready, Turns};
 
 use crate::flags::{past_first, past_last};
@@ -43,7 +43,7 @@ pub enum Weighed {
 // A block that stays. `on` says that it came after no gap, or that its stretch had a flagged record before it.
 fn weigh_kept(piece: &[u8], after: Carried, on: bool) -> Weighed
     requires { Shaped piece.now }
-    ensures { result ≡ keptBy piece.now after on }
+    ensures { result ≡ kept_by piece.now after on }
 {
     let records = card_block::records(piece);
     if on {
@@ -86,7 +86,7 @@ pub fn weigh(piece: &[u8], carried: Carried, begun: bool) -> Weighed
 // Puts a block with its number and its records from one place up to another, and a new check.
 pub fn put_kept(piece: &[u8], from: usize, to: usize, out: &mut [u8])
     requires { (6 + 24 * to ≤ length piece.now) × (from ≤ to) × (to ≤ 21) × (length out.old ≡ 512) }
-    ensures { out.new ≡ blockBytes (blockWith (block_of piece.now).number (recordsFrom (to - from) (drop (6 + 24 * from) piece.now))) }
+    ensures { out.new ≡ block_bytes (block_with (block_of piece.now).number (records_from (to - from) (drop (6 + 24 * from) piece.now))) }
 {
     start_block(out, number_at(piece, 2));
     let mut i = from;
@@ -125,7 +125,7 @@ fn word_of(why: Reason) -> u32
 
 // How far the records of a block stay: all of them where a flagged one comes later, or where none is past the last flagged one.
 fn stay_to(card: &[u8], end: usize, held: Held) -> usize
-    ensures { (f : Before) → Carries f held.carried → result ≡ stayTo (flaggedAhead f (pieces (drop end card.now))) held }
+    ensures { (f : Before) → Carries f held.carried → result ≡ stay_to (flagged_ahead f (pieces (drop end card.now))) held }
 {
     if held.last == held.records {
         return held.records;
@@ -149,7 +149,7 @@ fn put_line(list: &mut [u32], place: usize, word: u32, count: u32)
 // A block that stays: put behind those that are there.
 fn put_held(card: &[u8], at: usize, end: usize, held: Held, put: usize, out: &mut [u8]) -> usize
     requires { Whole card.now at end held × (put + 512 ≤ length out.old) }
-    ensures { (f : Before) → Carries f held.carried → PutHeld (flaggedAhead f (pieces (drop end card.now))) card.now at end held put out.old out.new result }
+    ensures { (f : Before) → Carries f held.carried → PutHeld (flagged_ahead f (pieces (drop end card.now))) card.now at end held put out.old out.new result }
 {
     let to = stay_to(card, end, held);
     let from = held.from;
@@ -194,7 +194,7 @@ fn turn(
 
 // The count of pieces of so many bytes.
 fn pieces_in(n: usize) -> usize
-    ensures { result ≡ piecesIn n }
+    ensures { result ≡ pieces_in n }
 {
     if n % 512 == 0 {
         return n / 512;

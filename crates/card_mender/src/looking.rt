@@ -2,10 +2,10 @@
 ghost use Rattle.std.specs.Prelude.{◌≡◌, drop};
 ghost use Rattle.cards.specs.Blocks.{pieces};
 ghost use Rattle.cards.specs.Reading.{Before};
-ghost use Rattle.cards.specs.Piecewise.{flaggedAhead};
+ghost use Rattle.cards.specs.Piecewise.{flagged_ahead};
 ghost use Rattle.card_block.specs.Judging.{Carries};
 ghost use Rattle.card_block.specs.Shapes.{Shaped};
-ghost use Rattle.card_mender.specs.Weighing.{looked, lookedOn};
+ghost use Rattle.card_mender.specs.Weighing.{looked, looked_on};
 
 use crate::flags::past_last;
 use card_block::{Carried, Judged};
@@ -21,7 +21,7 @@ pub enum Looked {
 // A block that stays and runs on.
 fn look_on(piece: &[u8], after: Carried) -> Looked
     requires { Shaped piece.now }
-    ensures { result ≡ lookedOn piece.now after }
+    ensures { result ≡ looked_on piece.now after }
 {
     let records = card_block::records(piece);
     if past_last(piece, 0, records) != 0 {
@@ -47,7 +47,7 @@ pub fn look(piece: &[u8], carried: Carried) -> Looked
 
 // Whether a flagged record comes from a place of the card on, before a gap.
 pub fn flagged_ahead(card: &[u8], from: usize, carried: Carried) -> bool
-    ensures { (f : Before) → Carries f carried → result ≡ flaggedAhead f (pieces (drop from card.now)) }
+    ensures { (f : Before) → Carries f carried → result ≡ flagged_ahead f (pieces (drop from card.now)) }
 {
     let mut carries = carried;
     let mut at = from;

@@ -9,17 +9,17 @@ use Rattle.card_reader.specs.declared.Step.{Step}
 use Rattle.card_reader.specs.declared.Step.TheVariants.{On, Bad, Open}
 
 -- a block that stays: it runs on, or begins anew after a gap, or a moment is open there
-unfoldable pub onwardBy : Bool → Bool → Carried → ℕ → Step
-onwardBy true closed after records = On (record { carried = after; anew = false; records = records })
-onwardBy false true after records = On (record { carried = after; anew = true; records = records })
-onwardBy false false after records = Open
+unfoldable pub onward_by : Bool → Bool → Carried → ℕ → Step
+onward_by true closed after records = On (record { carried = after; anew = false; records = records })
+onward_by false true after records = On (record { carried = after; anew = true; records = records })
+onward_by false false after records = Open
 
-unfoldable pub steppedBy : Carried → Carried → ℕ → Step
-steppedBy carried after records = onwardBy (eqb after.next (suc carried.next)) (eqb carried.count 0) after records
+unfoldable pub stepped_by : Carried → Carried → ℕ → Step
+stepped_by carried after records = onward_by (eqb after.next (suc carried.next)) (eqb carried.count 0) after records
 
-unfoldable pub steppedTo : List ℕ → Carried → Judged → Step
-steppedTo bytes carried (Stays after) = steppedBy carried after (get_or bytes 1 0)
-steppedTo bytes carried (Goes why) = Bad why
+unfoldable pub stepped_to : List ℕ → Carried → Judged → Step
+stepped_to bytes carried (Stays after) = stepped_by carried after (get_or bytes 1 0)
+stepped_to bytes carried (Goes why) = Bad why
 
 unfoldable pub stepped : List ℕ → Carried → Step
-stepped bytes carried = steppedTo bytes carried (judgement bytes carried)
+stepped bytes carried = stepped_to bytes carried (judgement bytes carried)

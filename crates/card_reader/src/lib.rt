@@ -1,7 +1,7 @@
 // The reader of a card: piece after piece, up to the first bad block. What a card says is in the crate `cards`; what one step answers is in
 // specs/Stepping.antt, and what `read` answers in specs/Finding.antt. Assumes nothing: any bytes are read.
 ghost use Rattle.std.specs.Prelude.{◌≡◌, ◌<◌};
-ghost use Rattle.card_reader.specs.Stepping.{stepped, steppedBy};
+ghost use Rattle.card_reader.specs.Stepping.{stepped, stepped_by};
 ghost use Rattle.card_reader.specs.Finding.{Finds};
 
 use card_block::{Carried, Judged, Reason};
@@ -32,7 +32,7 @@ pub enum Found {
 // A block that stays, after what was carried to it.
 fn go_on(carried: Carried, after: Carried, records: usize) -> Step
     requires { 0 < after.next }
-    ensures { result ≡ steppedBy carried after records }
+    ensures { result ≡ stepped_by carried after records }
 {
     let next = after.next - 1;
     if next == carried.next {

@@ -11,76 +11,76 @@ use lib.Seq.{sets, take-take, drop-drop, get_or-take, get_or-drop}
 use borrow.Author.Tests.{lt-ltb, le-ltb}
 use Rattle.cards.specs.Bytes.{bytes_of, number_of, filled, parts, joined}
 use Rattle.cards.specs.Moments.{Record}
-use Rattle.cards.specs.Blocks.{flagByte, recordOf, recordBytes}
-use Rattle.card_block.proofs.ShapeLaws.{drop-take}
+use Rattle.cards.specs.Blocks.{flag_byte, record_of, record_bytes}
+use Rattle.card_block.proofs.ShapeLaws.{drop_take}
 use Rattle.card_records.specs.declared.Fact.{Fact}
-use Rattle.card_records.specs.Facts.{recordFrom, usedBy, used, marks, valuesBytes}
+use Rattle.card_records.specs.Facts.{record_from, used_by, used, marks, values_bytes}
 
 -- runs of stores, one behind the other
-pub sets-append : (l : List ℕ) (i : ℕ) (xs ys : List ℕ) → sets l i (xs ++ ys) ≡ sets (sets l i xs) (i + length xs) ys
-sets-append l i [] ys = let z : i + 0 ≡ i = omega arith in rw z
-sets-append l i (x ∷ xs) ys = let z : i + suc (length xs) ≡ suc i + length xs = omega arith in rw z (sets-append (set l i x) (suc i) xs ys)
+pub sets_append : (l : List ℕ) (i : ℕ) (xs ys : List ℕ) → sets l i (xs ++ ys) ≡ sets (sets l i xs) (i + length xs) ys
+sets_append l i [] ys = let z : i + 0 ≡ i = omega arith in rw z
+sets_append l i (x ∷ xs) ys = let z : i + suc (length xs) ≡ suc i + length xs = omega arith in rw z (sets_append (set l i x) (suc i) xs ys)
 
 -- four bytes
-pub sets-number : (l : List ℕ) (at n : ℕ) → set (set (set (set l at (n % 256)) (at + 1) (n / 256 % 256)) (at + 2) (n / 256 / 256 % 256)) (at + 3) (n / 256 / 256 / 256 % 256) ≡ sets l at (bytes_of 4 n)
+pub sets_number : (l : List ℕ) (at n : ℕ) → set (set (set (set l at (n % 256)) (at + 1) (n / 256 % 256)) (at + 2) (n / 256 / 256 % 256)) (at + 3) (n / 256 / 256 / 256 % 256) ≡ sets l at (bytes_of 4 n)
 unfolding bytes_of
-sets-number l at n = rw (add-one, add-two, add-three)
+sets_number l at n = rw (add-one, add-two, add-three)
 
 -- a record's bytes part by part
-values-bytes : (k a b c : ℕ) → filled 12 (joined (map (bytes_of 4) (take k (a ∷ b ∷ c ∷ [])))) ≡ bytes_of 4 (used k 0 a) ++ (bytes_of 4 (used k 1 b) ++ bytes_of 4 (used k 2 c))
-unfolding filled joined bytes_of used usedBy
-values-bytes zero a b c = refl
-values-bytes (suc zero) a b c = refl
-values-bytes (suc (suc zero)) a b c = refl
-values-bytes (suc (suc (suc k))) a b c = rw (lt-ltb 0 (suc (suc (suc k))) (omega arith), lt-ltb 1 (suc (suc (suc k))) (omega arith), lt-ltb 2 (suc (suc (suc k))) (omega arith))
+values_bytes_law : (k a b c : ℕ) → filled 12 (joined (map (bytes_of 4) (take k (a ∷ b ∷ c ∷ [])))) ≡ bytes_of 4 (used k 0 a) ++ (bytes_of 4 (used k 1 b) ++ bytes_of 4 (used k 2 c))
+unfolding filled joined bytes_of used used_by
+values_bytes_law zero a b c = refl
+values_bytes_law (suc zero) a b c = refl
+values_bytes_law (suc (suc zero)) a b c = refl
+values_bytes_law (suc (suc (suc k))) a b c = rw (lt-ltb 0 (suc (suc (suc k))) (omega arith), lt-ltb 1 (suc (suc (suc k))) (omega arith), lt-ltb 2 (suc (suc (suc k))) (omega arith))
 
-pub fact-bytes : (f : Fact) → recordBytes (recordFrom f) ≡ bytes_of 4 f.stamp ++ (bytes_of 4 f.predicate ++ (marks f.count f.last ++ valuesBytes f))
-unfolding recordBytes recordFrom marks valuesBytes
-fact-bytes f = rw (length-take f.count (f.first ∷ f.second ∷ f.third ∷ []), values-bytes f.count f.first f.second f.third)
+pub fact_bytes : (f : Fact) → record_bytes (record_from f) ≡ bytes_of 4 f.stamp ++ (bytes_of 4 f.predicate ++ (marks f.count f.last ++ values_bytes f))
+unfolding record_bytes record_from marks values_bytes
+fact_bytes f = rw (length-take f.count (f.first ∷ f.second ∷ f.third ∷ []), values_bytes_law f.count f.first f.second f.third)
 
 -- lengths
-pub length-four : (n : ℕ) → length (bytes_of 4 n) ≡ 4
+pub length_four : (n : ℕ) → length (bytes_of 4 n) ≡ 4
 unfolding bytes_of
-length-four n = refl
+length_four n = refl
 
-pub length-marks : (count : ℕ) (last : Bool) → length (marks count last) ≡ 4
+pub length_marks : (count : ℕ) (last : Bool) → length (marks count last) ≡ 4
 unfolding marks
-length-marks count last = refl
+length_marks count last = refl
 
-pub sets-marks : (l : List ℕ) (at count : ℕ) (last : Bool) (a b : ℕ) → a ≡ min count 3 → b ≡ flagByte last
+pub sets_marks : (l : List ℕ) (at count : ℕ) (last : Bool) (a b : ℕ) → a ≡ min count 3 → b ≡ flag_byte last
     → set (set (set (set l at a) (at + 1) b) (at + 2) 0) (at + 3) 0 ≡ sets l at (marks count last)
 unfolding marks
-sets-marks l at count last a b e f = rw (add-one, add-two, add-three, e, f)
+sets_marks l at count last a b e f = rw (add-one, add-two, add-three, e, f)
 
-pub used-in : (count i n : ℕ) → i < count → n ≡ used count i n
-unfolding used usedBy
-used-in count i n h = rw (lt-ltb i count h)
+pub used_in : (count i n : ℕ) → i < count → n ≡ used count i n
+unfolding used used_by
+used_in count i n h = rw (lt-ltb i count h)
 
-pub used-out : (count i n : ℕ) → count ≤ i → 0 ≡ used count i n
-unfolding used usedBy
-used-out count i n h = rw (le-ltb i count h)
+pub used_out : (count i n : ℕ) → count ≤ i → 0 ≡ used count i n
+unfolding used used_by
+used_out count i n h = rw (le-ltb i count h)
 
-pub flag-yes : (last : Bool) → last ≡ true → 1 ≡ flagByte last
-unfolding flagByte
-flag-yes last e = rw e
+pub flag_yes : (last : Bool) → last ≡ true → 1 ≡ flag_byte last
+unfolding flag_byte
+flag_yes last e = rw e
 
-pub flag-no : (last : Bool) → last ≡ false → 0 ≡ flagByte last
-unfolding flagByte
-flag-no last e = rw e
+pub flag_no : (last : Bool) → last ≡ false → 0 ≡ flag_byte last
+unfolding flag_byte
+flag_no last e = rw e
 
 -- the numbers of a record at a place
 number_in : (piece : List ℕ) (at k : ℕ) → k + 4 ≤ 24 → number_of (take 4 (drop k (take 24 (drop at piece)))) ≡ number_of (take 4 (drop (at + k) piece))
 number_in piece at k h =
     let whole : 24 ≡ k + (24 - k) = omega arith in
     ap (λ (n : ℕ). number_of (take 4 (drop k (take n (drop at piece))))) whole
-    ∙ rw (drop-take k (24 - k) (drop at piece), take-take 4 (24 - k) (drop k (drop at piece)) (omega arith), drop-drop k at piece)
+    ∙ rw (drop_take k (24 - k) (drop at piece), take-take 4 (24 - k) (drop k (drop at piece)) (omega arith), drop-drop k at piece)
 
-pub fact-says : (piece : List ℕ) (at : ℕ) (f : Fact) → f.stamp ≡ number_of (take 4 (drop at piece)) → f.predicate ≡ number_of (take 4 (drop (at + 4) piece))
+pub fact_says : (piece : List ℕ) (at : ℕ) (f : Fact) → f.stamp ≡ number_of (take 4 (drop at piece)) → f.predicate ≡ number_of (take 4 (drop (at + 4) piece))
     → f.count ≡ get_or piece (at + 8) 0 → f.last ≡ eqb (get_or piece (at + 9) 0) 1 → f.first ≡ number_of (take 4 (drop (at + 12) piece))
     → f.second ≡ number_of (take 4 (drop (at + 16) piece)) → f.third ≡ number_of (take 4 (drop (at + 20) piece))
-    → recordFrom f ≡ recordOf (take 24 (drop at piece))
-unfolding recordFrom recordOf parts
-fact-says piece at f a b c d e g h =
+    → record_from f ≡ record_of (take 24 (drop at piece))
+unfolding record_from record_of parts
+fact_says piece at f a b c d e g h =
     rw (
       a,
       b,
@@ -104,21 +104,21 @@ fact-says piece at f a b c d e g h =
 
 -- one run of stores behind another
 sets_then : (l l₁ l₂ : List ℕ) (i j : ℕ) (xs ys : List ℕ) → l₁ ≡ sets l i xs → j ≡ i + length xs → l₂ ≡ sets l₁ j ys → l₂ ≡ sets l i (xs ++ ys)
-sets_then l l₁ l₂ i j xs ys e f g = g ∙ rw (e, f) (sym (sets-append l i xs ys))
+sets_then l l₁ l₂ i j xs ys e f g = g ∙ rw (e, f) (sym (sets_append l i xs ys))
 
-pub values-put : (l l₁ l₂ l₃ : List ℕ) (at : ℕ) (f : Fact) (a b c : ℕ) → a ≡ used f.count 0 f.first → b ≡ used f.count 1 f.second
+pub values_put : (l l₁ l₂ l₃ : List ℕ) (at : ℕ) (f : Fact) (a b c : ℕ) → a ≡ used f.count 0 f.first → b ≡ used f.count 1 f.second
     → c ≡ used f.count 2 f.third → l₁ ≡ sets l at (bytes_of 4 a) → l₂ ≡ sets l₁ (at + 4) (bytes_of 4 b) → l₃ ≡ sets l₂ (at + 8) (bytes_of 4 c)
-    → l₃ ≡ sets l at (valuesBytes f)
-unfolding valuesBytes
-values-put l l₁ l₂ l₃ at f a b c u v w p q r =
+    → l₃ ≡ sets l at (values_bytes f)
+unfolding values_bytes
+values_put l l₁ l₂ l₃ at f a b c u v w p q r =
     rw (sym u, sym v, sym w)
-    (sets_then l l₁ l₃ at (at + 4) (bytes_of 4 a) (bytes_of 4 b ++ bytes_of 4 c) p (omega (arith, length-four a))
-    (sets_then l₁ l₂ l₃ (at + 4) (at + 8) (bytes_of 4 b) (bytes_of 4 c) q (omega (arith, length-four b)) r))
+    (sets_then l l₁ l₃ at (at + 4) (bytes_of 4 a) (bytes_of 4 b ++ bytes_of 4 c) p (omega (arith, length_four a))
+    (sets_then l₁ l₂ l₃ (at + 4) (at + 8) (bytes_of 4 b) (bytes_of 4 c) q (omega (arith, length_four b)) r))
 
-pub fact-put : (l l₁ l₂ l₃ l₄ : List ℕ) (at : ℕ) (f : Fact) → l₁ ≡ sets l at (bytes_of 4 f.stamp) → l₂ ≡ sets l₁ (at + 4) (bytes_of 4 f.predicate)
-    → l₃ ≡ sets l₂ (at + 8) (marks f.count f.last) → l₄ ≡ sets l₃ (at + 12) (valuesBytes f) → l₄ ≡ sets l at (recordBytes (recordFrom f))
-fact-put l l₁ l₂ l₃ l₄ at f p q r t =
-    rw (fact-bytes f)
-    (sets_then l l₁ l₄ at (at + 4) (bytes_of 4 f.stamp) (bytes_of 4 f.predicate ++ (marks f.count f.last ++ valuesBytes f)) p (omega (arith, length-four f.stamp))
-    (sets_then l₁ l₂ l₄ (at + 4) (at + 8) (bytes_of 4 f.predicate) (marks f.count f.last ++ valuesBytes f) q (omega (arith, length-four f.predicate))
-    (sets_then l₂ l₃ l₄ (at + 8) (at + 12) (marks f.count f.last) (valuesBytes f) r (omega (arith, length-marks f.count f.last)) t)))
+pub fact_put : (l l₁ l₂ l₃ l₄ : List ℕ) (at : ℕ) (f : Fact) → l₁ ≡ sets l at (bytes_of 4 f.stamp) → l₂ ≡ sets l₁ (at + 4) (bytes_of 4 f.predicate)
+    → l₃ ≡ sets l₂ (at + 8) (marks f.count f.last) → l₄ ≡ sets l₃ (at + 12) (values_bytes f) → l₄ ≡ sets l at (record_bytes (record_from f))
+fact_put l l₁ l₂ l₃ l₄ at f p q r t =
+    rw (fact_bytes f)
+    (sets_then l l₁ l₄ at (at + 4) (bytes_of 4 f.stamp) (bytes_of 4 f.predicate ++ (marks f.count f.last ++ values_bytes f)) p (omega (arith, length_four f.stamp))
+    (sets_then l₁ l₂ l₄ (at + 4) (at + 8) (bytes_of 4 f.predicate) (marks f.count f.last ++ values_bytes f) q (omega (arith, length_four f.predicate))
+    (sets_then l₂ l₃ l₄ (at + 8) (at + 12) (marks f.count f.last) (values_bytes f) r (omega (arith, length_marks f.count f.last)) t)))

@@ -2,11 +2,11 @@
 use Rattle.std.specs.Prelude.{ℕ, min, Bool, true, false, List, [], ◌∷◌, ◌++◌, ltb, take}
 use Rattle.cards.specs.Bytes.{bytes_of}
 use Rattle.cards.specs.Moments.{Record}
-use Rattle.cards.specs.Blocks.{flagByte}
+use Rattle.cards.specs.Blocks.{flag_byte}
 use Rattle.card_records.specs.declared.Fact.{Fact}
 
-unfoldable pub recordFrom : Fact → Record
-recordFrom f = record {
+unfoldable pub record_from : Fact → Record
+record_from f = record {
   stamp = f.stamp;
   predicate = f.predicate;
   values = take f.count (f.first ∷ f.second ∷ f.third ∷ []);
@@ -14,18 +14,18 @@ recordFrom f = record {
 }
 
 -- the value at place i, and 0 past the count
-unfoldable pub usedBy : Bool → ℕ → ℕ
-usedBy true n = n
-usedBy false n = 0
+unfoldable pub used_by : Bool → ℕ → ℕ
+used_by true n = n
+used_by false n = 0
 
 unfoldable pub used : ℕ → ℕ → ℕ → ℕ
-used count i n = usedBy (ltb i count) n
+used count i n = used_by (ltb i count) n
 
 -- the count of values, the flag and two zero bytes
 unfoldable pub marks : ℕ → Bool → List ℕ
-marks count last = min count 3 ∷ flagByte last ∷ 0 ∷ 0 ∷ []
+marks count last = min count 3 ∷ flag_byte last ∷ 0 ∷ 0 ∷ []
 
 -- the values, 12 bytes
-unfoldable pub valuesBytes : Fact → List ℕ
-valuesBytes f =
+unfoldable pub values_bytes : Fact → List ℕ
+values_bytes f =
     bytes_of 4 (used f.count 0 f.first) ++ (bytes_of 4 (used f.count 1 f.second) ++ bytes_of 4 (used f.count 2 f.third))

@@ -2,8 +2,8 @@
 ghost use Rattle.std.specs.Prelude.{◌≡◌, ◌+◌, ◌*◌, ◌≤◌, min, length, take, drop};
 ghost use Rattle.std.proofs.lemmas.List.Edits.{sets};
 ghost use Rattle.cards.specs.Bytes.{bytes_of};
-ghost use Rattle.cards.specs.Blocks.{flagByte, recordOf, recordBytes};
-ghost use Rattle.card_records.specs.Facts.{recordFrom, used, marks, valuesBytes};
+ghost use Rattle.cards.specs.Blocks.{flag_byte, record_of, record_bytes};
+ghost use Rattle.card_records.specs.Facts.{record_from, used, marks, values_bytes};
 
 use card_block::sums::number_at;
 
@@ -30,7 +30,7 @@ fn wide(x: u8) -> u32
 // The record at place i of a block.
 pub fn fact_at(piece: &[u8], i: usize) -> Fact
     requires { 30 + 24 * i ≤ length piece.now }
-    ensures { recordFrom result ≡ recordOf (take 24 (drop (6 + 24 * i) piece.now)) }
+    ensures { record_from result ≡ record_of (take 24 (drop (6 + 24 * i) piece.now)) }
 {
     let at = 6 + 24 * i;
     let stamp = number_at(piece, at);
@@ -81,7 +81,7 @@ fn count_of(count: u32) -> u8
 
 // The flag's byte.
 fn flag_of(last: bool) -> u8
-    ensures { result ≡ flagByte last }
+    ensures { result ≡ flag_byte last }
 {
     if last { 1 } else { 0 }
 }
@@ -100,7 +100,7 @@ fn put_marks(out: &mut [u8], at: usize, count: u32, last: bool)
 // Puts three values.
 fn put_values(out: &mut [u8], at: usize, f: Fact)
     requires { at + 12 ≤ length out.old }
-    ensures { out.new ≡ sets out.old at (valuesBytes f) }
+    ensures { out.new ≡ sets out.old at (values_bytes f) }
 {
     let count = f.count;
     put_number(out, at, value_of(count, 0, f.first));
@@ -111,7 +111,7 @@ fn put_values(out: &mut [u8], at: usize, f: Fact)
 // Puts a record as 24 bytes.
 pub fn put_fact(out: &mut [u8], at: usize, f: Fact)
     requires { at + 24 ≤ length out.old }
-    ensures { out.new ≡ sets out.old at (recordBytes (recordFrom f)) }
+    ensures { out.new ≡ sets out.old at (record_bytes (record_from f)) }
 {
     put_number(out, at, f.stamp);
     put_number(out, at + 4, f.predicate);

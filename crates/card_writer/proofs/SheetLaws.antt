@@ -8,12 +8,12 @@ use lib.ListN.{length, take, drop, get_or, set, length-append, length-set, take-
 use lib.Seq.{sets, length-sets, take-set-lt, take-set-le, drop-cons, drop-length, take-suc-set, take_all, get_or-set_same, get_or-set_other}
 use Rattle.cards.specs.Bytes.{bytes_of, filled, joined, sums, check}
 use Rattle.cards.specs.Moments.{Record}
-use Rattle.cards.specs.Blocks.{recordBytes, body, blockBytes}
-use Rattle.cards.proofs.BytesLaws.{length-filled, length-bytes}
-use Rattle.cards.proofs.BlockLaws.{length-record}
-use Rattle.card_block.proofs.ShapeLaws.{body-first}
+use Rattle.cards.specs.Blocks.{record_bytes, body, block_bytes}
+use Rattle.cards.proofs.BytesLaws.{length_filled, length_bytes}
+use Rattle.cards.proofs.BlockLaws.{length_record}
+use Rattle.card_block.proofs.ShapeLaws.{body_first}
 use Rattle.card_block.proofs.TestLaws.{two_bytes}
-use Rattle.card_writer.specs.Sheets.{blockWith, Holding}
+use Rattle.card_writer.specs.Sheets.{block_with, Holding}
 
 -- clearing, byte by byte
 pub record Cleared (before out : List ℕ) (i : ℕ) : Type 0 where
@@ -21,75 +21,75 @@ pub record Cleared (before out : List ℕ) (i : ℕ) : Type 0 where
   pub size : length out ≡ length before
   pub shown : take i out ≡ filled i []
 
-filled-snoc : (i : ℕ) → filled i [] ++ (0 ∷ []) ≡ filled (suc i) []
+filled_snoc : (i : ℕ) → filled i [] ++ (0 ∷ []) ≡ filled (suc i) []
 unfolding filled
-filled-snoc zero = refl
-filled-snoc (suc i) = ap (λ (l : List ℕ). 0 ∷ l) (filled-snoc i)
+filled_snoc zero = refl
+filled_snoc (suc i) = ap (λ (l : List ℕ). 0 ∷ l) (filled_snoc i)
 
-pub cleared-none : (before : List ℕ) → Cleared before before 0
+pub cleared_none : (before : List ℕ) → Cleared before before 0
 unfolding filled
-cleared-none before = record { within = omega arith; size = refl; shown = refl }
+cleared_none before = record { within = omega arith; size = refl; shown = refl }
 
 pub cleared_more : {before out : List ℕ} {i : ℕ} → Cleared before out i → i < length out → Cleared before (set out i 0) (i + 1)
 cleared_more {before} {out} {i} c h =
     record {
       within = omega (arith, c.size);
       size = length-set out i 0 ∙ c.size;
-      shown = rw add-one (take-suc-set out i 0 h ∙ ap (λ (l : List ℕ). l ++ (0 ∷ [])) c.shown ∙ filled-snoc i);
+      shown = rw add-one (take-suc-set out i 0 h ∙ ap (λ (l : List ℕ). l ++ (0 ∷ [])) c.shown ∙ filled_snoc i);
     }
 
-pub cleared-all : {before out : List ℕ} {i : ℕ} → Cleared before out i → length out ≤ i → out ≡ filled (length before) []
-cleared-all {before} {out} {i} c h =
+pub cleared_all : {before out : List ℕ} {i : ℕ} → Cleared before out i → length out ≤ i → out ≡ filled (length before) []
+cleared_all {before} {out} {i} c h =
     let all : i ≡ length before = omega (arith, c.within, c.size) in
     sym (take_all i out h) ∙ c.shown ∙ ap (λ (n : ℕ). filled n []) all
 
-pub cleared-long : (out : List ℕ) → out ≡ filled 512 [] → length out ≡ 512
-cleared-long out e = ap length e ∙ length-filled 512 []
+pub cleared_long : (out : List ℕ) → out ≡ filled 512 [] → length out ≡ 512
+cleared_long out e = ap length e ∙ length_filled 512 []
 
 -- stores past the front
-sets-cons : (x : ℕ) (l : List ℕ) (k : ℕ) (zs : List ℕ) → sets (x ∷ l) (suc k) zs ≡ x ∷ sets l k zs
-sets-cons x l k [] = refl
-sets-cons x l k (z ∷ zs) = sets-cons x (set l k z) (suc k) zs
+sets_cons : (x : ℕ) (l : List ℕ) (k : ℕ) (zs : List ℕ) → sets (x ∷ l) (suc k) zs ≡ x ∷ sets l k zs
+sets_cons x l k [] = refl
+sets_cons x l k (z ∷ zs) = sets_cons x (set l k z) (suc k) zs
 
-sets-skip : (xs l : List ℕ) (k : ℕ) (zs : List ℕ) → sets (xs ++ l) (length xs + k) zs ≡ xs ++ sets l k zs
-sets-skip [] l k zs = let z : 0 + k ≡ k = omega arith in rw z
-sets-skip (x ∷ xs) l k zs =
+sets_skip : (xs l : List ℕ) (k : ℕ) (zs : List ℕ) → sets (xs ++ l) (length xs + k) zs ≡ xs ++ sets l k zs
+sets_skip [] l k zs = let z : 0 + k ≡ k = omega arith in rw z
+sets_skip (x ∷ xs) l k zs =
     let z : suc (length xs) + k ≡ suc (length xs + k) = omega arith in
-    rw z (sets-cons x (xs ++ l) (length xs + k) zs ∙ ap (λ (m : List ℕ). x ∷ m) (sets-skip xs l k zs))
+    rw z (sets_cons x (xs ++ l) (length xs + k) zs ∙ ap (λ (m : List ℕ). x ∷ m) (sets_skip xs l k zs))
 
 -- stores behind what is filled
-filled-front : (room : ℕ) (zs : List ℕ) → length zs ≤ room → sets (filled room []) 0 zs ≡ filled room zs
+filled_front : (room : ℕ) (zs : List ℕ) → length zs ≤ room → sets (filled room []) 0 zs ≡ filled room zs
 unfolding filled
-filled-front room [] h = refl
-filled-front zero (z ∷ zs) h = absurd (omega arith)
-filled-front (suc room) (z ∷ zs) h = sets-cons z (filled room []) 0 zs ∙ ap (λ (m : List ℕ). z ∷ m) (filled-front room zs (omega arith))
+filled_front room [] h = refl
+filled_front zero (z ∷ zs) h = absurd (omega arith)
+filled_front (suc room) (z ∷ zs) h = sets_cons z (filled room []) 0 zs ∙ ap (λ (m : List ℕ). z ∷ m) (filled_front room zs (omega arith))
 
-filled-sets : (room : ℕ) (xs zs : List ℕ) → length xs + length zs ≤ room → sets (filled room xs) (length xs) zs ≡ filled room (xs ++ zs)
+filled_sets : (room : ℕ) (xs zs : List ℕ) → length xs + length zs ≤ room → sets (filled room xs) (length xs) zs ≡ filled room (xs ++ zs)
 unfolding filled
-filled-sets room [] zs h = filled-front room zs (omega arith)
-filled-sets zero (x ∷ xs) zs h = absurd (omega arith)
-filled-sets (suc room) (x ∷ xs) zs h =
-    sets-cons x (filled room xs) (length xs) zs ∙ ap (λ (m : List ℕ). x ∷ m) (filled-sets room xs zs (omega arith))
+filled_sets room [] zs h = filled_front room zs (omega arith)
+filled_sets zero (x ∷ xs) zs h = absurd (omega arith)
+filled_sets (suc room) (x ∷ xs) zs h =
+    sets_cons x (filled room xs) (length xs) zs ∙ ap (λ (m : List ℕ). x ∷ m) (filled_sets room xs zs (omega arith))
 
-take-sets : (n : ℕ) (l : List ℕ) (i : ℕ) (zs : List ℕ) → i + length zs ≤ n → take n (sets l i zs) ≡ sets (take n l) i zs
-take-sets n l i [] h = refl
-take-sets n l i (z ∷ zs) h =
-    take-sets n (set l i z) (suc i) zs (omega arith) ∙ ap (λ (m : List ℕ). sets m (suc i) zs) (take-set-lt n l i z (omega arith))
+take_sets : (n : ℕ) (l : List ℕ) (i : ℕ) (zs : List ℕ) → i + length zs ≤ n → take n (sets l i zs) ≡ sets (take n l) i zs
+take_sets n l i [] h = refl
+take_sets n l i (z ∷ zs) h =
+    take_sets n (set l i z) (suc i) zs (omega arith) ∙ ap (λ (m : List ℕ). sets m (suc i) zs) (take-set-lt n l i z (omega arith))
 
 -- records one behind the other
-joined_snoc : (rs : List Record) (r : Record) → joined (map recordBytes (rs ++ (r ∷ []))) ≡ joined (map recordBytes rs) ++ recordBytes r
+joined_snoc : (rs : List Record) (r : Record) → joined (map record_bytes (rs ++ (r ∷ []))) ≡ joined (map record_bytes rs) ++ record_bytes r
 unfolding joined
-joined_snoc [] r = append-nil (recordBytes r)
+joined_snoc [] r = append-nil (record_bytes r)
 joined_snoc (x ∷ rs) r =
-    ap (λ (l : List ℕ). recordBytes x ++ l) (joined_snoc rs r) ∙ sym (append_assoc (recordBytes x) (joined (map recordBytes rs)) (recordBytes r))
+    ap (λ (l : List ℕ). record_bytes x ++ l) (joined_snoc rs r) ∙ sym (append_assoc (record_bytes x) (joined (map record_bytes rs)) (record_bytes r))
 
-length-records : (rs : List Record) → length (joined (map recordBytes rs)) ≡ 24 * length rs
+length_records : (rs : List Record) → length (joined (map record_bytes rs)) ≡ 24 * length rs
 unfolding joined
-length-records [] = refl
-length-records (r ∷ rs) = omega (arith, length-append (recordBytes r) (joined (map recordBytes rs)), length-record r, length-records rs)
+length_records [] = refl
+length_records (r ∷ rs) = omega (arith, length-append (record_bytes r) (joined (map record_bytes rs)), length_record r, length_records rs)
 
-length-snoc : (rs : List Record) (r : Record) → length (rs ++ (r ∷ [])) ≡ length rs + 1
-length-snoc rs r = length-append rs (r ∷ [])
+length_snoc : (rs : List Record) (r : Record) → length (rs ++ (r ∷ [])) ≡ length rs + 1
+length_snoc rs r = length-append rs (r ∷ [])
 
 -- the first six bytes of a block, and what follows them
 front : ℕ → ℕ → List ℕ
@@ -97,82 +97,82 @@ front k n = 75 ∷ k ∷ bytes_of 4 n
 
 length_front : (k n : ℕ) → length (front k n) ≡ 6
 unfolding front
-length_front k n = omega (arith, length-bytes 4 n)
+length_front k n = omega (arith, length_bytes 4 n)
 
-body-front : (n : ℕ) (rs : List Record) → body (blockWith n rs) ≡ front (length rs) n ++ filled 504 (joined (map recordBytes rs))
-unfolding front blockWith
-body-front n rs = body-first (blockWith n rs)
+body_front : (n : ℕ) (rs : List Record) → body (block_with n rs) ≡ front (length rs) n ++ filled 504 (joined (map record_bytes rs))
+unfolding front block_with
+body_front n rs = body_first (block_with n rs)
 
 set_front : (k v n : ℕ) (l : List ℕ) → set (front k n ++ l) 1 v ≡ front v n ++ l
 unfolding front
 set_front k v n l = refl
 
 -- one record more
-pub holding-more : (out out₁ : List ℕ) (n i : ℕ) (rs : List Record) (r : Record) → Holding out n rs → length rs ≡ i → i < 21
-    → out₁ ≡ set (sets out (6 + 24 * i) (recordBytes r)) 1 (i + 1) → Holding out₁ n (rs ++ (r ∷ []))
-holding-more out out₁ n i rs r h e few f =
+pub holding_more : (out out₁ : List ℕ) (n i : ℕ) (rs : List Record) (r : Record) → Holding out n rs → length rs ≡ i → i < 21
+    → out₁ ≡ set (sets out (6 + 24 * i) (record_bytes r)) 1 (i + 1) → Holding out₁ n (rs ++ (r ∷ []))
+holding_more out out₁ n i rs r h e few f =
     record {
-      size = ap length f ∙ length-set (sets out (6 + 24 * i) (recordBytes r)) 1 (i + 1) ∙ length-sets out (6 + 24 * i) (recordBytes r) ∙ h.size;
+      size = ap length f ∙ length-set (sets out (6 + 24 * i) (record_bytes r)) 1 (i + 1) ∙ length-sets out (6 + 24 * i) (record_bytes r) ∙ h.size;
       shown =
           ap (take 510) f
-          ∙ take-set-lt 510 (sets out (6 + 24 * i) (recordBytes r)) 1 (i + 1) (omega arith)
+          ∙ take-set-lt 510 (sets out (6 + 24 * i) (record_bytes r)) 1 (i + 1) (omega arith)
           ∙ ap (λ (l : List ℕ). set l 1 (i + 1))
-          (take-sets 510 out (6 + 24 * i) (recordBytes r) (omega (arith, length-record r))
-          ∙ ap (λ (l : List ℕ). sets l (6 + 24 * i) (recordBytes r)) (h.shown ∙ body-front n rs)
-          ∙ ap (λ (k : ℕ). sets (front (length rs) n ++ filled 504 (joined (map recordBytes rs))) k (recordBytes r)) (omega (arith, length_front (length rs) n, length-records rs))
-          ∙ sets-skip (front (length rs) n) (filled 504 (joined (map recordBytes rs))) (length (joined (map recordBytes rs))) (recordBytes r)
+          (take_sets 510 out (6 + 24 * i) (record_bytes r) (omega (arith, length_record r))
+          ∙ ap (λ (l : List ℕ). sets l (6 + 24 * i) (record_bytes r)) (h.shown ∙ body_front n rs)
+          ∙ ap (λ (k : ℕ). sets (front (length rs) n ++ filled 504 (joined (map record_bytes rs))) k (record_bytes r)) (omega (arith, length_front (length rs) n, length_records rs))
+          ∙ sets_skip (front (length rs) n) (filled 504 (joined (map record_bytes rs))) (length (joined (map record_bytes rs))) (record_bytes r)
           ∙ ap (λ (l : List ℕ). front (length rs) n ++ l)
-          (filled-sets 504 (joined (map recordBytes rs)) (recordBytes r) (omega (arith, length-records rs, length-record r)) ∙ ap (filled 504) (sym (joined_snoc rs r))))
-          ∙ set_front (length rs) (i + 1) n (filled 504 (joined (map recordBytes (rs ++ (r ∷ [])))))
-          ∙ ap (λ (k : ℕ). front k n ++ filled 504 (joined (map recordBytes (rs ++ (r ∷ []))))) (omega (arith, length-snoc rs r))
-          ∙ sym (body-front n (rs ++ (r ∷ [])));
+          (filled_sets 504 (joined (map record_bytes rs)) (record_bytes r) (omega (arith, length_records rs, length_record r)) ∙ ap (filled 504) (sym (joined_snoc rs r))))
+          ∙ set_front (length rs) (i + 1) n (filled 504 (joined (map record_bytes (rs ++ (r ∷ [])))))
+          ∙ ap (λ (k : ℕ). front k n ++ filled 504 (joined (map record_bytes (rs ++ (r ∷ []))))) (omega (arith, length_snoc rs r))
+          ∙ sym (body_front n (rs ++ (r ∷ [])));
     }
 
 -- no record
-zeros-take : (n m : ℕ) → take n (filled (n + m) []) ≡ filled n []
+zeros_take : (n m : ℕ) → take n (filled (n + m) []) ≡ filled n []
 unfolding filled
-zeros-take zero m = refl
-zeros-take (suc n) m = let z : suc n + m ≡ suc (n + m) = omega arith in rw z (ap (λ (l : List ℕ). 0 ∷ l) (zeros-take n m))
+zeros_take zero m = refl
+zeros_take (suc n) m = let z : suc n + m ≡ suc (n + m) = omega arith in rw z (ap (λ (l : List ℕ). 0 ∷ l) (zeros_take n m))
 
-pub holding-none : (out out₁ : List ℕ) (n : ℕ) → out ≡ filled 512 [] → out₁ ≡ sets (set out 0 75) 2 (bytes_of 4 n) → Holding out₁ n []
-holding-none out out₁ n e f =
+pub holding_none : (out out₁ : List ℕ) (n : ℕ) → out ≡ filled 512 [] → out₁ ≡ sets (set out 0 75) 2 (bytes_of 4 n) → Holding out₁ n []
+holding_none out out₁ n e f =
     record {
-      size = ap length f ∙ length-sets (set out 0 75) 2 (bytes_of 4 n) ∙ length-set out 0 75 ∙ ap length e ∙ length-filled 512 [];
+      size = ap length f ∙ length-sets (set out 0 75) 2 (bytes_of 4 n) ∙ length-set out 0 75 ∙ ap length e ∙ length_filled 512 [];
       shown =
           ap (take 510) (f ∙ ap (λ (l : List ℕ). sets (set l 0 75) 2 (bytes_of 4 n)) e)
-          ∙ take-sets 510 (set (filled 512 []) 0 75) 2 (bytes_of 4 n) (omega (arith, length-bytes 4 n))
-          ∙ ap (λ (l : List ℕ). sets l 2 (bytes_of 4 n)) (take-set-lt 510 (filled 512 []) 0 75 (omega arith) ∙ ap (λ (l : List ℕ). set l 0 75) (zeros-take 510 2))
+          ∙ take_sets 510 (set (filled 512 []) 0 75) 2 (bytes_of 4 n) (omega (arith, length_bytes 4 n))
+          ∙ ap (λ (l : List ℕ). sets l 2 (bytes_of 4 n)) (take-set-lt 510 (filled 512 []) 0 75 (omega arith) ∙ ap (λ (l : List ℕ). set l 0 75) (zeros_take 510 2))
           ∙ begun
-          ∙ sym (body-front n []);
+          ∙ sym (body_front n []);
     }
   where
-    begun : sets (set (filled 510 []) 0 75) 2 (bytes_of 4 n) ≡ front 0 n ++ filled 504 (joined (map recordBytes []))
+    begun : sets (set (filled 510 []) 0 75) 2 (bytes_of 4 n) ≡ front 0 n ++ filled 504 (joined (map record_bytes []))
     begun = unfold front filled bytes_of joined in refl
 
 -- the sums of a check are bytes
-sums-small : (a b x y : ℕ) (bs : List ℕ) → a < 255 → b < 255 → sums a b bs ≡ x ∷ y ∷ [] → (x < 255) × (y < 255)
+sums_small : (a b x y : ℕ) (bs : List ℕ) → a < 255 → b < 255 → sums a b bs ≡ x ∷ y ∷ [] → (x < 255) × (y < 255)
 unfolding sums
-sums-small a b x y [] h k e = (let z : a ≡ x = cc in omega arith, let z : b ≡ y = cc in omega arith)
-sums-small a b x y (c ∷ cs) h k e = sums-small ((a + c) % 255) ((b + (a + c) % 255) % 255) x y cs (omega arith) (omega arith) e
+sums_small a b x y [] h k e = (let z : a ≡ x = cc in omega arith, let z : b ≡ y = cc in omega arith)
+sums_small a b x y (c ∷ cs) h k e = sums_small ((a + c) % 255) ((b + (a + c) % 255) % 255) x y cs (omega arith) (omega arith) e
 
-pub check-small : (x y : ℕ) (bs : List ℕ) → check bs ≡ x ∷ y ∷ [] → (x < 255) × (y < 255)
+pub check_small : (x y : ℕ) (bs : List ℕ) → check bs ≡ x ∷ y ∷ [] → (x < 255) × (y < 255)
 unfolding check
-check-small x y bs e = sums-small 0 0 x y bs (omega arith) (omega arith) e
+check_small x y bs e = sums_small 0 0 x y bs (omega arith) (omega arith) e
 
 -- the check at the end
-pub holding-end : (out out₁ : List ℕ) (n a b : ℕ) (rs : List Record) → Holding out n rs → check (take 510 out) ≡ a ∷ b ∷ []
-    → out₁ ≡ set (set out 510 a) 511 b → out₁ ≡ blockBytes (blockWith n rs)
-unfolding blockBytes
-holding-end out out₁ n a b rs h e f =
-    sym (take-append-drop 510 out₁) ∙ ap (λ (l : List ℕ). l ++ drop 510 out₁) first ∙ ap (λ (l : List ℕ). body (blockWith n rs) ++ l) second
+pub holding_end : (out out₁ : List ℕ) (n a b : ℕ) (rs : List Record) → Holding out n rs → check (take 510 out) ≡ a ∷ b ∷ []
+    → out₁ ≡ set (set out 510 a) 511 b → out₁ ≡ block_bytes (block_with n rs)
+unfolding block_bytes
+holding_end out out₁ n a b rs h e f =
+    sym (take-append-drop 510 out₁) ∙ ap (λ (l : List ℕ). l ++ drop 510 out₁) first ∙ ap (λ (l : List ℕ). body (block_with n rs) ++ l) second
   where
     long : length out₁ ≡ 512
     long = ap length f ∙ length-set (set out 510 a) 511 b ∙ length-set out 510 a ∙ h.size
 
-    first : take 510 out₁ ≡ body (blockWith n rs)
+    first : take 510 out₁ ≡ body (block_with n rs)
     first = ap (take 510) f ∙ take-set-le 510 (set out 510 a) 511 b (omega arith) ∙ take-set-le 510 out 510 a (omega arith) ∙ h.shown
 
-    second : drop 510 out₁ ≡ check (body (blockWith n rs))
+    second : drop 510 out₁ ≡ check (body (block_with n rs))
     second =
         two_bytes out₁ long
         ∙ rw (f, get_or-set_same (set out 510 a) 511 b 0 (omega (arith, length-set out 510 a, h.size)))

@@ -4,9 +4,9 @@ ghost use Rattle.std.specs.Prelude.{◌≡◌, ℕ, ◌+◌, ◌≤◌, ◌<◌,
 ghost use Rattle.std.proofs.lemmas.List.Edits.{sets};
 ghost use Rattle.cards.specs.Bytes.{filled};
 ghost use Rattle.cards.specs.Moments.{Record};
-ghost use Rattle.cards.specs.Blocks.{blockBytes};
-ghost use Rattle.card_records.specs.Facts.{recordFrom};
-ghost use Rattle.card_writer.specs.Sheets.{blockWith, Holding};
+ghost use Rattle.cards.specs.Blocks.{block_bytes};
+ghost use Rattle.card_records.specs.Facts.{record_from};
+ghost use Rattle.card_writer.specs.Sheets.{block_with, Holding};
 
 use card_block::sums::check_of;
 use card_records::{Fact, put_fact, put_number};
@@ -35,7 +35,7 @@ pub fn start_block(out: &mut [u8], number: u32)
 // One record more, behind the i that are there.
 pub fn add_fact(out: &mut [u8], i: usize, f: Fact)
     requires { (length out.old ≡ 512) × (i < 21) }
-    ensures { (n : ℕ) (rs : List Record) → Holding out.old n rs → length rs ≡ i → Holding out.new n (rs ++ (recordFrom f ∷ [])) }
+    ensures { (n : ℕ) (rs : List Record) → Holding out.old n rs → length rs ≡ i → Holding out.new n (rs ++ (record_from f ∷ [])) }
 {
     put_fact(out, 6 + 24 * i, f);
     out[1] = (i + 1) as u8;
@@ -44,7 +44,7 @@ pub fn add_fact(out: &mut [u8], i: usize, f: Fact)
 // Ends a block: its check.
 pub fn end_block(out: &mut [u8])
     requires { length out.old ≡ 512 }
-    ensures { (n : ℕ) (rs : List Record) → Holding out.old n rs → out.new ≡ blockBytes (blockWith n rs) }
+    ensures { (n : ℕ) (rs : List Record) → Holding out.old n rs → out.new ≡ block_bytes (block_with n rs) }
 {
     let sums = check_of(&out[0..510]);
     out[510] = sums.first as u8;

@@ -12,13 +12,13 @@ use borrow.Author.Tests.{eq-eqb}
 use Rattle.cards.specs.Bytes.{bytes_of, number_of, filled, parts, joined, same}
 use Rattle.cards.specs.Bytes
 use Rattle.cards.specs.Moments.{Record}
-use Rattle.cards.specs.Blocks.{flagByte, recordBytes, recordOf, Block, body, blockBytes, block_of, good, pieceBy, piece_of}
+use Rattle.cards.specs.Blocks.{flag_byte, record_bytes, record_of, Block, body, block_bytes, block_of, good, piece_by, piece_of}
 use Rattle.cards.specs.Writing.{Every, Fits}
-use Rattle.cards.proofs.BytesLaws.{length-filled, length-bytes, length-check, length-parts, four_bytes, parts-joined, same_true, same_refl}
+use Rattle.cards.proofs.BytesLaws.{length_filled, length_bytes, length_check, length_parts, four_bytes, parts-joined, same_true, same_refl}
 
 -- the record is read back from its bytes
 abbrev pub Says : Record → Type 0
-Says r = recordOf (recordBytes r) ≡ r
+Says r = record_of (record_bytes r) ≡ r
 
 -- the block can stand on a card: its number has four bytes, it has at most 21 records, and each is read back
 pub record Holds (b : Block) : Type 0 where
@@ -27,17 +27,17 @@ pub record Holds (b : Block) : Type 0 where
   pub records : Every Says b.records
 
 -- lengths
-pub length-record : (r : Record) → length (recordBytes r) ≡ 24
-unfolding recordBytes bytes_of
-length-record r = omega (arith, length-filled 12 (joined (map (bytes_of 4) r.values)))
+pub length_record : (r : Record) → length (record_bytes r) ≡ 24
+unfolding record_bytes bytes_of
+length_record r = omega (arith, length_filled 12 (joined (map (bytes_of 4) r.values)))
 
-pub length-body : (b : Block) → length (body b) ≡ 510
+pub length_body : (b : Block) → length (body b) ≡ 510
 unfolding body
-length-body b = length-filled 510 (75 ∷ length b.records ∷ (bytes_of 4 b.number ++ joined (map recordBytes b.records)))
+length_body b = length_filled 510 (75 ∷ length b.records ∷ (bytes_of 4 b.number ++ joined (map record_bytes b.records)))
 
-pub length-block : (b : Block) → length (blockBytes b) ≡ 512
-unfolding blockBytes
-length-block b = omega (arith, length-append (body b) (Bytes.check (body b)), length-body b, length-check (body b))
+pub length_block : (b : Block) → length (block_bytes b) ≡ 512
+unfolding block_bytes
+length_block b = omega (arith, length-append (body b) (Bytes.check (body b)), length_body b, length_check (body b))
 
 -- what is joined from parts of one size
 pub length-joined {ℓ} : {A : Type ℓ} (size most : ℕ) (shown : A → List ℕ) → ((x : A) → length (shown x) ≡ size) → (xs : List A)
@@ -55,99 +55,99 @@ pub record RightRecord (r : Record) : Type 0 where
   pub values : Every Fits r.values
   pub few : length r.values ≤ 3
 
-values-back : (vs : List ℕ) → Every Fits vs → map number_of (map (bytes_of 4) vs) ≡ vs
-values-back [] h = refl
-values-back (v ∷ vs) h = rw (four_bytes v h.0, values-back vs h.1)
+values_back : (vs : List ℕ) → Every Fits vs → map number_of (map (bytes_of 4) vs) ≡ vs
+values_back [] h = refl
+values_back (v ∷ vs) h = rw (four_bytes v h.0, values_back vs h.1)
 
-flag-back : (q : Bool) → eqb (flagByte q) 1 ≡ q
-unfolding flagByte
-flag-back true = refl
-flag-back false = refl
+flag_back : (q : Bool) → eqb (flag_byte q) 1 ≡ q
+unfolding flag_byte
+flag_back true = refl
+flag_back false = refl
 
-map-take : (n : ℕ) (xs : List (List ℕ)) → take n (map number_of xs) ≡ map number_of (take n xs)
-map-take zero xs = refl
-map-take (suc n) [] = refl
-map-take (suc n) (x ∷ xs) = ap (λ (l : List ℕ). number_of x ∷ l) (map-take n xs)
+map_take : (n : ℕ) (xs : List (List ℕ)) → take n (map number_of xs) ≡ map number_of (take n xs)
+map_take zero xs = refl
+map_take (suc n) [] = refl
+map_take (suc n) (x ∷ xs) = ap (λ (l : List ℕ). number_of x ∷ l) (map_take n xs)
 
 -- where a record's numbers stand in its bytes
-stamp-bytes : (r : Record) → take 4 (recordBytes r) ≡ bytes_of 4 r.stamp
-unfolding recordBytes bytes_of
-stamp-bytes r = refl
+stamp_bytes : (r : Record) → take 4 (record_bytes r) ≡ bytes_of 4 r.stamp
+unfolding record_bytes bytes_of
+stamp_bytes r = refl
 
-predicate-bytes : (r : Record) → take 4 (drop 4 (recordBytes r)) ≡ bytes_of 4 r.predicate
-unfolding recordBytes bytes_of
-predicate-bytes r = refl
+predicate_bytes : (r : Record) → take 4 (drop 4 (record_bytes r)) ≡ bytes_of 4 r.predicate
+unfolding record_bytes bytes_of
+predicate_bytes r = refl
 
-count-byte : (r : Record) → get_or (recordBytes r) 8 0 ≡ length r.values
-unfolding recordBytes bytes_of
-count-byte r = refl
+count_byte : (r : Record) → get_or (record_bytes r) 8 0 ≡ length r.values
+unfolding record_bytes bytes_of
+count_byte r = refl
 
-flag-byte : (r : Record) → get_or (recordBytes r) 9 0 ≡ flagByte r.last
-unfolding recordBytes bytes_of
-flag-byte r = refl
+flag_byte_law : (r : Record) → get_or (record_bytes r) 9 0 ≡ flag_byte r.last
+unfolding record_bytes bytes_of
+flag_byte_law r = refl
 
-value-bytes : (r : Record) → drop 12 (recordBytes r) ≡ filled 12 (joined (map (bytes_of 4) r.values)) ++ []
-unfolding recordBytes bytes_of
-value-bytes r = sym (append-nil (filled 12 (joined (map (bytes_of 4) r.values))))
+value_bytes : (r : Record) → drop 12 (record_bytes r) ≡ filled 12 (joined (map (bytes_of 4) r.values)) ++ []
+unfolding record_bytes bytes_of
+value_bytes r = sym (append-nil (filled 12 (joined (map (bytes_of 4) r.values))))
 
-values-say : (r : Record) → RightRecord r → take (length r.values) (map number_of (parts 4 3 (drop 12 (recordBytes r)))) ≡ r.values
-values-say r h =
+values_say : (r : Record) → RightRecord r → take (length r.values) (map number_of (parts 4 3 (drop 12 (record_bytes r)))) ≡ r.values
+values_say r h =
     rw (
-      map-take (length r.values) (parts 4 3 (drop 12 (recordBytes r))),
-      value-bytes r,
-      parts-joined 4 (bytes_of 4) (length-bytes 4) 3 12 r.values [] h.few (length-joined 4 3 (bytes_of 4) (length-bytes 4) r.values h.few),
+      map_take (length r.values) (parts 4 3 (drop 12 (record_bytes r))),
+      value_bytes r,
+      parts-joined 4 (bytes_of 4) (length_bytes 4) 3 12 r.values [] h.few (length-joined 4 3 (bytes_of 4) (length_bytes 4) r.values h.few),
     )
-    (values-back r.values h.values)
+    (values_back r.values h.values)
 
-pub right-says : (r : Record) → RightRecord r → Says r
-unfolding recordOf
-right-says r h =
+pub right_says : (r : Record) → RightRecord r → Says r
+unfolding record_of
+right_says r h =
     rw (
-      stamp-bytes r,
-      predicate-bytes r,
-      count-byte r,
-      flag-byte r,
+      stamp_bytes r,
+      predicate_bytes r,
+      count_byte r,
+      flag_byte_law r,
       four_bytes r.stamp h.stamp,
       four_bytes r.predicate h.predicate,
-      values-say r h,
-      flag-back r.last,
+      values_say r h,
+      flag_back r.last,
     )
 
 -- a block that can stand on a card is read back from its bytes
-records-back : (rs : List Record) → Every Says rs → map recordOf (map recordBytes rs) ≡ rs
-records-back [] h = refl
-records-back (r ∷ rs) h = rw (records-back rs h.1) (ap (λ (s : Record). s ∷ rs) h.0)
+records_back : (rs : List Record) → Every Says rs → map record_of (map record_bytes rs) ≡ rs
+records_back [] h = refl
+records_back (r ∷ rs) h = rw (records_back rs h.1) (ap (λ (s : Record). s ∷ rs) h.0)
 
-pub parts-back : (b : Block) → length b.records ≤ 21
-    → take (get_or (blockBytes b) 1 0) (parts 24 21 (drop 6 (blockBytes b))) ≡ map recordBytes b.records
-unfolding blockBytes body filled bytes_of
-parts-back b few =
-    parts-joined 24 recordBytes length-record 21 504 b.records (Bytes.check (body b)) few (length-joined 24 21 recordBytes length-record b.records few)
+pub parts_back : (b : Block) → length b.records ≤ 21
+    → take (get_or (block_bytes b) 1 0) (parts 24 21 (drop 6 (block_bytes b))) ≡ map record_bytes b.records
+unfolding block_bytes body filled bytes_of
+parts_back b few =
+    parts-joined 24 record_bytes length_record 21 504 b.records (Bytes.check (body b)) few (length-joined 24 21 record_bytes length_record b.records few)
 
-number-bytes : (b : Block) → take 4 (drop 2 (blockBytes b)) ≡ bytes_of 4 b.number
-unfolding blockBytes body filled bytes_of
-number-bytes b = refl
+number_bytes : (b : Block) → take 4 (drop 2 (block_bytes b)) ≡ bytes_of 4 b.number
+unfolding block_bytes body filled bytes_of
+number_bytes b = refl
 
-pub block_back : (b : Block) → Holds b → block_of (blockBytes b) ≡ b
+pub block_back : (b : Block) → Holds b → block_of (block_bytes b) ≡ b
 unfolding block_of
-block_back b h = rw (number-bytes b, h.number, parts-back b h.few, records-back b.records h.records)
+block_back b h = rw (number_bytes b, h.number, parts_back b h.few, records_back b.records h.records)
 
-take-block : (b : Block) → take 510 (blockBytes b) ≡ body b
-unfolding blockBytes
-take-block b = take_at (body b) (Bytes.check (body b)) 510 (length-body b)
+take_block : (b : Block) → take 510 (block_bytes b) ≡ body b
+unfolding block_bytes
+take_block b = take_at (body b) (Bytes.check (body b)) 510 (length_body b)
 
-drop_block : (b : Block) → drop 510 (blockBytes b) ≡ Bytes.check (body b)
-unfolding blockBytes
-drop_block b = drop_at (body b) (Bytes.check (body b)) 510 (length-body b)
+drop_block : (b : Block) → drop 510 (block_bytes b) ≡ Bytes.check (body b)
+unfolding block_bytes
+drop_block b = drop_at (body b) (Bytes.check (body b)) 510 (length_body b)
 
 -- a block that can stand on a card is a good piece
-pub piece-good : (b : Block) → Holds b → piece_of (blockBytes b) ≡ good b
-unfolding piece_of pieceBy
-piece-good b h =
+pub piece_good : (b : Block) → Holds b → piece_of (block_bytes b) ≡ good b
+unfolding piece_of piece_by
+piece_good b h =
     rw (
       block_back b h,
-      eq-eqb (length (blockBytes b)) 512 (length-block b),
-      take-block b,
+      eq-eqb (length (block_bytes b)) 512 (length_block b),
+      take_block b,
       drop_block b,
       same_refl (Bytes.check (body b)),
       same_refl (body b),
@@ -155,36 +155,36 @@ piece-good b h =
 
 -- a good piece is what its block is written as, and that block can stand on a card
 pub record Written (bytes : List ℕ) (b : Block) : Type 0 where
-  pub shown : bytes ≡ blockBytes b
+  pub shown : bytes ≡ block_bytes b
   pub holds : Holds b
 
-says-each : (rs : List Record) → map recordOf (map recordBytes rs) ≡ rs → Every Says rs
-says-each [] e = tt
-says-each (r ∷ rs) e = (cc, says-each rs (cc))
+says_each : (rs : List Record) → map record_of (map record_bytes rs) ≡ rs → Every Says rs
+says_each [] e = tt
+says_each (r ∷ rs) e = (cc, says_each rs (cc))
 
 -- a block that its own bytes say can stand on a card
-fixed-holds : (b : Block) → block_of (blockBytes b) ≡ b → Holds b
+fixed_holds : (b : Block) → block_of (block_bytes b) ≡ b → Holds b
 unfolding block_of
-fixed-holds b e =
-    let ns : number_of (take 4 (drop 2 (blockBytes b))) ≡ b.number = ap (λ (c : Block). c.number) e in
-    let rs : map recordOf (take (get_or (blockBytes b) 1 0) (parts 24 21 (drop 6 (blockBytes b)))) ≡ b.records = ap (λ (c : Block). c.records) e in
+fixed_holds b e =
+    let ns : number_of (take 4 (drop 2 (block_bytes b))) ≡ b.number = ap (λ (c : Block). c.number) e in
+    let rs : map record_of (take (get_or (block_bytes b) 1 0) (parts 24 21 (drop 6 (block_bytes b)))) ≡ b.records = ap (λ (c : Block). c.records) e in
     let few : length b.records ≤ 21 =
     omega (
       arith,
       ap length rs,
-      length-map (take (get_or (blockBytes b) 1 0) (parts 24 21 (drop 6 (blockBytes b)))) recordOf,
-      length-take (get_or (blockBytes b) 1 0) (parts 24 21 (drop 6 (blockBytes b))),
-      length-parts 24 21 (drop 6 (blockBytes b)),
+      length-map (take (get_or (block_bytes b) 1 0) (parts 24 21 (drop 6 (block_bytes b)))) record_of,
+      length-take (get_or (block_bytes b) 1 0) (parts 24 21 (drop 6 (block_bytes b))),
+      length_parts 24 21 (drop 6 (block_bytes b)),
     ) in
-    record { number = rw (number-bytes b) at ns; few = few; records = says-each b.records (rw (parts-back b few) at rs) }
+    record { number = rw (number_bytes b) at ns; few = few; records = says_each b.records (rw (parts_back b few) at rs) }
 
-pub good-written : (bytes : List ℕ) (b : Block) → piece_of bytes ≡ good b → Written bytes b
-unfolding piece_of pieceBy blockBytes
-good-written bytes b e =
+pub good_written : (bytes : List ℕ) (b : Block) → piece_of bytes ≡ good b → Written bytes b
+unfolding piece_of piece_by block_bytes
+good_written bytes b e =
     go (eqb (length bytes) 512) (same (Bytes.check (take 510 bytes)) (drop 510 bytes)) refl (same (body (block_of bytes)) (take 510 bytes)) refl e
   where
     go : (p q : Bool) → same (Bytes.check (take 510 bytes)) (drop 510 bytes) ≡ q → (s : Bool) → same (body (block_of bytes)) (take 510 bytes) ≡ s
-        → pieceBy p q s (block_of bytes) ≡ good b → Written bytes b
+        → piece_by p q s (block_of bytes) ≡ good b → Written bytes b
     go false q f s g h = absurd (let z : ◌≡◌ {A = ℕ} 0 1 = cc in omega arith)
     go true false f s g h = absurd (let z : ◌≡◌ {A = ℕ} 0 1 = cc in omega arith)
     go true true f false g h = absurd (let z : ◌≡◌ {A = ℕ} 0 1 = cc in omega arith)
@@ -193,5 +193,5 @@ good-written bytes b e =
         let first : body b ≡ take 510 bytes = sym (ap body block) ∙ same_true (body (block_of bytes)) (take 510 bytes) g in
         let second : Bytes.check (body b) ≡ drop 510 bytes =
         ap Bytes.check first ∙ same_true (Bytes.check (take 510 bytes)) (drop 510 bytes) f in
-        let shown : bytes ≡ blockBytes b = sym (take-append-drop 510 bytes) ∙ rw (second, first) in
-        record { shown = shown; holds = fixed-holds b (sym (ap block_of shown) ∙ block) }
+        let shown : bytes ≡ block_bytes b = sym (take-append-drop 510 bytes) ∙ rw (second, first) in
+        record { shown = shown; holds = fixed_holds b (sym (ap block_of shown) ∙ block) }

@@ -13,30 +13,30 @@ use Rattle.cards.specs.Bytes.{bytes_of, number_of, filled, parts, joined, same, 
 use Rattle.cards.proofs.Tests.{clash, and_left, and_right, and_both}
 
 -- lengths
-pub length-filled : (size : ℕ) (bs : List ℕ) → length (filled size bs) ≡ size
+pub length_filled : (size : ℕ) (bs : List ℕ) → length (filled size bs) ≡ size
 unfolding filled
-length-filled zero bs = refl
-length-filled (suc size) [] = ap suc (length-filled size [])
-length-filled (suc size) (b ∷ bs) = ap suc (length-filled size bs)
+length_filled zero bs = refl
+length_filled (suc size) [] = ap suc (length_filled size [])
+length_filled (suc size) (b ∷ bs) = ap suc (length_filled size bs)
 
-pub length-bytes : (size n : ℕ) → length (bytes_of size n) ≡ size
+pub length_bytes : (size n : ℕ) → length (bytes_of size n) ≡ size
 unfolding bytes_of
-length-bytes zero n = refl
-length-bytes (suc size) n = ap suc (length-bytes size (n / 256))
+length_bytes zero n = refl
+length_bytes (suc size) n = ap suc (length_bytes size (n / 256))
 
-pub length-sums : (a b : ℕ) (bs : List ℕ) → length (sums a b bs) ≡ 2
+pub length_sums : (a b : ℕ) (bs : List ℕ) → length (sums a b bs) ≡ 2
 unfolding sums
-length-sums a b [] = refl
-length-sums a b (x ∷ xs) = length-sums _ _ xs
+length_sums a b [] = refl
+length_sums a b (x ∷ xs) = length_sums _ _ xs
 
-pub length-check : (bs : List ℕ) → length (check bs) ≡ 2
+pub length_check : (bs : List ℕ) → length (check bs) ≡ 2
 unfolding check
-length-check bs = length-sums 0 0 bs
+length_check bs = length_sums 0 0 bs
 
-pub length-parts : (size count : ℕ) (bs : List ℕ) → length (parts size count bs) ≡ count
+pub length_parts : (size count : ℕ) (bs : List ℕ) → length (parts size count bs) ≡ count
 unfolding parts
-length-parts size zero bs = refl
-length-parts size (suc count) bs = ap suc (length-parts size count (drop size bs))
+length_parts size zero bs = refl
+length_parts size (suc count) bs = ap suc (length_parts size count (drop size bs))
 
 -- four bytes hold a number below 2^32
 pub four_bytes : (n : ℕ) → n < 4294967296 → number_of (bytes_of 4 n) ≡ n
@@ -44,13 +44,13 @@ unfolding number_of bytes_of
 four_bytes n h = omega arith
 
 -- bytes that fit are filled up after their end
-pub filled-append : (room : ℕ) (xs ys : List ℕ) → length xs ≤ room → filled room (xs ++ ys) ≡ xs ++ filled (room - length xs) ys
+pub filled_append : (room : ℕ) (xs ys : List ℕ) → length xs ≤ room → filled room (xs ++ ys) ≡ xs ++ filled (room - length xs) ys
 unfolding filled
-filled-append room [] ys h = let z : room - 0 ≡ room = omega arith in rw z
-filled-append zero (x ∷ xs) ys h = absurd (omega arith)
-filled-append (suc room) (x ∷ xs) ys h =
+filled_append room [] ys h = let z : room - 0 ≡ room = omega arith in rw z
+filled_append zero (x ∷ xs) ys h = absurd (omega arith)
+filled_append (suc room) (x ∷ xs) ys h =
     let z : suc room - suc (length xs) ≡ room - length xs = omega arith in
-    rw z (ap (λ (l : List ℕ). x ∷ l) (filled-append room xs ys (omega arith)))
+    rw z (ap (λ (l : List ℕ). x ∷ l) (filled_append room xs ys (omega arith)))
 
 -- the same numbers are one list
 pub same_true : (xs ys : List ℕ) → same xs ys ≡ true → xs ≡ ys
@@ -78,7 +78,7 @@ parts-joined size shown long zero room (x ∷ xs) rest few fits = absurd (omega 
 parts-joined size shown long (suc count) room (x ∷ xs) rest few fits =
     let fit : length (shown x) + length (joined (map shown xs)) ≤ room = omega (arith, length-append (shown x) (joined (map shown xs))) in
     rw (
-      filled-append room (shown x) (joined (map shown xs)) (omega arith),
+      filled_append room (shown x) (joined (map shown xs)) (omega arith),
       append_assoc (shown x) (filled (room - length (shown x)) (joined (map shown xs))) rest,
       take_at (shown x) (filled (room - length (shown x)) (joined (map shown xs)) ++ rest) size (long x),
       drop_at (shown x) (filled (room - length (shown x)) (joined (map shown xs)) ++ rest) size (long x),
@@ -86,10 +86,10 @@ parts-joined size shown long (suc count) room (x ∷ xs) rest few fits =
     (ap (λ (l : List (List ℕ)). shown x ∷ l) (parts-joined size shown long count (room - length (shown x)) xs rest (omega arith) (omega arith)))
 
 -- the number of four bytes at a place
-pub number-four : (s : List ℕ) (at : ℕ) → at + 4 ≤ length s
+pub number_four : (s : List ℕ) (at : ℕ) → at + 4 ≤ length s
     → number_of (take 4 (drop at s)) ≡ get_or s at 0 + 256 * get_or s (at + 1) 0 + 65536 * get_or s (at + 2) 0 + 16777216 * get_or s (at + 3) 0
 unfolding number_of
-number-four s at h =
+number_four s at h =
     rw (
       add-one,
       add-two,

@@ -6,24 +6,24 @@ use mathlib.Core.List.{List, [], ◌∷◌, ◌++◌}
 use lib.ListN.{set, length}
 use Rattle.cards.specs.Bytes.{bytes_of, number_of, filled, parts, joined, same, sums}
 use Rattle.cards.specs.Bytes
-use Rattle.cards.specs.Moments.{Record, Moment, Fact, flagged, whole, open_of, past_first, longer, ended, stamped, together, allTogether, unbroken, fact_of, momentOf}
-use Rattle.cards.specs.Blocks.{flagByte, recordBytes, recordOf, Block, body, blockBytes, block_of, shape, number, pieceBy, piece_of, cut, pieces}
+use Rattle.cards.specs.Moments.{Record, Moment, Fact, flagged, whole, open_of, past_first, longer, ended, stamped, together, all_together, unbroken, fact_of, moment_of}
+use Rattle.cards.specs.Blocks.{flag_byte, record_bytes, record_of, Block, body, block_bytes, block_of, shape, number, piece_by, piece_of, cut, pieces}
 use Rattle.cards.specs.Blocks
-use Rattle.cards.specs.Reading.{start, runsOn, line, after, fateBy, fate, fates, lastPlace, some, openAtGap, faultFrom, blocks, ahead, stretches, momentsOf, Outcome, taken, refused, read_by, readPieces, read}
-use Rattle.cards.specs.Mending.{kept, going, fromFirst, toLast, mendFrom, mendedBlocks, Listed, kept_less, gone, cardBytes, mended, listing, listed, list}
-use Rattle.cards.specs.Writing.{recordFor, recordsFor, recordsOf, fill, written, write}
+use Rattle.cards.specs.Reading.{start, runs_on, line, after, fate_by, fate, fates, last_place, some, open_at_gap, fault_from, blocks, ahead, stretches, moments_of, Outcome, taken, refused, read_by, read_pieces, read}
+use Rattle.cards.specs.Mending.{kept, going, from_first, to_last, mend_from, mended_blocks, Listed, kept_less, gone, card_bytes, mended, listing, listed, list}
+use Rattle.cards.specs.Writing.{record_for, records_for, records_of, fill, written, write}
 
 -- what the cases compute with: the bytes of blocks, what is read from bytes, and what mending makes of them
 unfoldable pub card : List Block → List ℕ
-unfolding cardBytes joined blockBytes body Bytes.check sums filled bytes_of recordBytes flagByte
-card bs = cardBytes bs
+unfolding card_bytes joined block_bytes body Bytes.check sums filled bytes_of record_bytes flag_byte
+card bs = card_bytes bs
 
 unfoldable pub reading : List ℕ → Outcome
-unfolding card read readPieces pieces cut piece_of pieceBy same block_of recordOf parts number_of blocks faultFrom fate fateBy line runsOn after start some openAtGap lastPlace unbroken allTogether together stamped ended longer open_of flagged stretches ahead momentsOf momentOf fact_of read_by
+unfolding card read read_pieces pieces cut piece_of piece_by same block_of record_of parts number_of blocks fault_from fate fate_by line runs_on after start some open_at_gap last_place unbroken all_together together stamped ended longer open_of flagged stretches ahead moments_of moment_of fact_of read_by
 reading bytes = read bytes
 
 unfoldable mending : List ℕ → List ℕ
-unfolding reading mended mendedBlocks mendFrom kept fates going toLast fromFirst whole past_first
+unfolding reading mended mended_blocks mend_from kept fates going to_last from_first whole past_first
 mending bytes = mended bytes
 
 unfoldable lines_of : List ℕ → List Listed
@@ -31,7 +31,7 @@ unfolding mending list listed listing
 lines_of bytes = list bytes
 
 unfoldable writing : List Moment → List ℕ
-unfolding card write written fill recordsOf recordsFor recordFor
+unfolding card write written fill records_of records_for record_for
 writing ms = write ms
 
 -- records of predicate 1 with one value
@@ -67,41 +67,41 @@ above : reading (card (block 7 (ends 5 ∷ []) ∷ [])) ≡ taken ([] ∷ (momen
 unfolding reading card block runs ends moment copies
 above = refl
 
-above-mended : mending (card (block 7 (ends 5 ∷ ends 6 ∷ []) ∷ [])) ≡ card (block 7 (ends 6 ∷ []) ∷ [])
+above_mended : mending (card (block 7 (ends 5 ∷ ends 6 ∷ []) ∷ [])) ≡ card (block 7 (ends 6 ∷ []) ∷ [])
 unfolding mending card block runs ends
-above-mended = refl
+above_mended = refl
 
 -- a moment open at a gap, and at the end, is bad in the block with its last record
-open-at-gap : reading (card (block 0 (ends 5 ∷ runs 6 ∷ []) ∷ block 1 [] ∷ block 3 [] ∷ [])) ≡ refused 0 shape
+open_at_gap_law : reading (card (block 0 (ends 5 ∷ runs 6 ∷ []) ∷ block 1 [] ∷ block 3 [] ∷ [])) ≡ refused 0 shape
 unfolding reading card block runs ends
-open-at-gap = refl
+open_at_gap_law = refl
 
-open-at-end : reading (card (block 0 (ends 5 ∷ []) ∷ block 1 (runs 6 ∷ []) ∷ block 2 [] ∷ [])) ≡ refused 1 shape
+open_at_end : reading (card (block 0 (ends 5 ∷ []) ∷ block 1 (runs 6 ∷ []) ∷ block 2 [] ∷ [])) ≡ refused 1 shape
 unfolding reading card block runs ends
-open-at-end = refl
+open_at_end = refl
 
-open-mended : mending (card (block 0 (ends 5 ∷ runs 6 ∷ []) ∷ block 3 (runs 7 ∷ ends 7 ∷ ends 8 ∷ []) ∷ block 4 (runs 9 ∷ []) ∷ []))
+open_mended : mending (card (block 0 (ends 5 ∷ runs 6 ∷ []) ∷ block 3 (runs 7 ∷ ends 7 ∷ ends 8 ∷ []) ∷ block 4 (runs 9 ∷ []) ∷ []))
     ≡ card (block 0 (ends 5 ∷ []) ∷ block 3 (ends 8 ∷ []) ∷ block 4 [] ∷ [])
 unfolding mending card block runs ends
-open-mended = refl
+open_mended = refl
 
-open-listed : lines_of (card (block 0 (ends 5 ∷ runs 6 ∷ []) ∷ block 3 (runs 7 ∷ ends 7 ∷ ends 8 ∷ []) ∷ block 4 (runs 9 ∷ []) ∷ []))
+open_listed : lines_of (card (block 0 (ends 5 ∷ runs 6 ∷ []) ∷ block 3 (runs 7 ∷ ends 7 ∷ ends 8 ∷ []) ∷ block 4 (runs 9 ∷ []) ∷ []))
     ≡ kept_less 1 ∷ kept_less 2 ∷ kept_less 1 ∷ []
 unfolding lines_of card block runs ends
-open-listed = refl
+open_listed = refl
 
 -- a breach is named where it shows: another stamp, or a ninth record; a number that isn't above; a short last piece
-other-stamp : reading (card (block 0 (runs 5 ∷ []) ∷ block 1 (ends 6 ∷ []) ∷ [])) ≡ refused 1 shape
+other_stamp : reading (card (block 0 (runs 5 ∷ []) ∷ block 1 (ends 6 ∷ []) ∷ [])) ≡ refused 1 shape
 unfolding reading card block runs ends
-other-stamp = refl
+other_stamp = refl
 
-not-above : reading (card (block 0 (ends 5 ∷ []) ∷ block 0 (ends 6 ∷ []) ∷ [])) ≡ refused 1 number
+not_above : reading (card (block 0 (ends 5 ∷ []) ∷ block 0 (ends 6 ∷ []) ∷ [])) ≡ refused 1 number
 unfolding reading card block runs ends
-not-above = refl
+not_above = refl
 
-short-piece : lines_of (card (block 0 (ends 5 ∷ []) ∷ []) ++ (75 ∷ [])) ≡ kept_less 0 ∷ gone shape ∷ []
+short_piece : lines_of (card (block 0 (ends 5 ∷ []) ∷ []) ++ (75 ∷ [])) ≡ kept_less 0 ∷ gone shape ∷ []
 unfolding lines_of card block runs ends
-short-piece = refl
+short_piece = refl
 
 -- a changed byte is a bad check
 changed : reading (set (card (block 0 (ends 5 ∷ []) ∷ [])) 300 1) ≡ refused 0 Blocks.check
@@ -114,13 +114,13 @@ unfolding reading card block runs ends moment copies
 unseen = refl
 
 -- mending twice is not mending once
-mended-once : mending (card (block 2 (ends 5 ∷ ends 6 ∷ []) ∷ [])) ≡ card (block 2 (ends 6 ∷ []) ∷ [])
+mended_once : mending (card (block 2 (ends 5 ∷ ends 6 ∷ []) ∷ [])) ≡ card (block 2 (ends 6 ∷ []) ∷ [])
 unfolding mending card block runs ends
-mended-once = refl
+mended_once = refl
 
-mended-twice : mending (mending (card (block 2 (ends 5 ∷ ends 6 ∷ []) ∷ []))) ≡ card (block 2 [] ∷ [])
+mended_twice : mending (mending (card (block 2 (ends 5 ∷ ends 6 ∷ []) ∷ []))) ≡ card (block 2 [] ∷ [])
 unfolding mending card block runs ends
-mended-twice = refl
+mended_twice = refl
 
 -- 22 records take two blocks, and a moment runs on from one into the other
 unfoldable many : List Moment
@@ -130,9 +130,9 @@ many_read : reading (writing many) ≡ taken (many ∷ [])
 unfolding reading writing many moment copies
 many_read = refl
 
-many-bytes : length (writing many) ≡ 1024
+many_bytes : length (writing many) ≡ 1024
 unfolding writing many moment copies
-many-bytes = refl
+many_bytes = refl
 
 -- no moment, no block
 nothing_written : writing [] ≡ []
@@ -165,20 +165,20 @@ around : mending (card (block 0 (runs 5 ∷ []) ∷ []) ++ (set (card (block 1 (
 unfolding mending card block runs ends
 around = refl
 
-around-listed : lines_of (card (block 0 (runs 5 ∷ []) ∷ []) ++ (set (card (block 1 (ends 5 ∷ []) ∷ [])) 300 1 ++ card (block 1 (ends 5 ∷ []) ∷ [])))
+around_listed : lines_of (card (block 0 (runs 5 ∷ []) ∷ []) ++ (set (card (block 1 (ends 5 ∷ []) ∷ [])) 300 1 ++ card (block 1 (ends 5 ∷ []) ∷ [])))
     ≡ kept_less 0 ∷ gone Blocks.check ∷ kept_less 0 ∷ []
 unfolding lines_of card block runs ends
-around-listed = refl
+around_listed = refl
 
 -- the bad block is named, not the moment open before it: a gap is made by a good block
-bad-named : reading (card (block 0 (runs 5 ∷ []) ∷ []) ++ set (card (block 4 (ends 5 ∷ []) ∷ [])) 300 1) ≡ refused 1 Blocks.check
+bad_named : reading (card (block 0 (runs 5 ∷ []) ∷ []) ++ set (card (block 4 (ends 5 ∷ []) ∷ [])) 300 1) ≡ refused 1 Blocks.check
 unfolding reading card block runs ends
-bad-named = refl
+bad_named = refl
 
 -- a block whose number isn't above is judged from an empty start, so here for its number
-judged-alone : reading (card (block 3 (runs 5 ∷ []) ∷ block 3 (ends 6 ∷ []) ∷ [])) ≡ refused 1 number
+judged_alone : reading (card (block 3 (runs 5 ∷ []) ∷ block 3 (ends 6 ∷ []) ∷ [])) ≡ refused 1 number
 unfolding reading card block runs ends
-judged-alone = refl
+judged_alone = refl
 
 -- records that go after a gap still count for a breach in the next block
 counted : lines_of (card (block 2 (runs 6 ∷ []) ∷ block 3 (ends 7 ∷ ends 8 ∷ []) ∷ [])) ≡ kept_less 1 ∷ gone shape ∷ []
@@ -186,9 +186,9 @@ unfolding lines_of card block runs ends
 counted = refl
 
 -- the last number is good, and nothing comes above it
-last-number : lines_of (card (block 4294967295 (ends 5 ∷ []) ∷ block 0 (ends 6 ∷ []) ∷ [])) ≡ kept_less 1 ∷ gone number ∷ []
+last_number : lines_of (card (block 4294967295 (ends 5 ∷ []) ∷ block 0 (ends 6 ∷ []) ∷ [])) ≡ kept_less 1 ∷ gone number ∷ []
 unfolding lines_of card block runs ends
-last-number = refl
+last_number = refl
 
 -- 512 zero bytes have a right check, and a bad shape
 zeros : reading (filled 512 []) ≡ refused 0 shape
@@ -196,11 +196,11 @@ unfolding reading
 zeros = refl
 
 -- a readable card with a gap is left alone too where nothing stands after the gap
-nothing-after : mending (card (block 0 (ends 5 ∷ []) ∷ block 2 [] ∷ [])) ≡ card (block 0 (ends 5 ∷ []) ∷ block 2 [] ∷ [])
+nothing_after : mending (card (block 0 (ends 5 ∷ []) ∷ block 2 [] ∷ [])) ≡ card (block 0 (ends 5 ∷ []) ∷ block 2 [] ∷ [])
 unfolding mending card block runs ends
-nothing-after = refl
+nothing_after = refl
 
 -- the reader can't tell a moment's end after a gap from a moment: only mending lets it go
-tail-taken : reading (card (block 0 (ends 5 ∷ []) ∷ block 2 (ends 6 ∷ []) ∷ [])) ≡ taken ((moment 5 1 ∷ []) ∷ (moment 6 1 ∷ []) ∷ [])
+tail_taken : reading (card (block 0 (ends 5 ∷ []) ∷ block 2 (ends 6 ∷ []) ∷ [])) ≡ taken ((moment 5 1 ∷ []) ∷ (moment 6 1 ∷ []) ∷ [])
 unfolding reading card block runs ends moment copies
-tail-taken = refl
+tail_taken = refl

@@ -7,12 +7,12 @@ pub record Open : Type 0 where
   pub count : ℕ
   pub stamp : ℕ
 
-unfoldable pub stampOf : List Record → ℕ
-stampOf [] = 0
-stampOf (r ∷ rs) = r.stamp
+unfoldable pub stamp_of : List Record → ℕ
+stamp_of [] = 0
+stamp_of (r ∷ rs) = r.stamp
 
-unfoldable pub openOf : List Record → Open
-openOf rs = record { count = length rs; stamp = stampOf rs }
+unfoldable pub opening_of : List Record → Open
+opening_of rs = record { count = length rs; stamp = stamp_of rs }
 
 -- nothing is open
 unfoldable pub closed : Open
@@ -32,14 +32,14 @@ unfoldable pub next : Open → Record → Open
 next o r = elim r.last [ true ↦ closed | false ↦ more o.count o.stamp r.stamp ]
 
 -- what is open after records
-unfoldable pub openAfter : Open → List Record → Open
-openAfter o [] = o
-openAfter o (r ∷ rs) = openAfter (next o r) rs
+unfoldable pub open_after : Open → List Record → Open
+open_after o [] = o
+open_after o (r ∷ rs) = open_after (next o r) rs
 
 -- each record can belong
-unfoldable pub allBelong : Open → List Record → Bool
-allBelong o [] = true
-allBelong o (r ∷ rs) = belongs o r && allBelong (next o r) rs
+unfoldable pub all_belong : Open → List Record → Bool
+all_belong o [] = true
+all_belong o (r ∷ rs) = belongs o r && all_belong (next o r) rs
 
 -- what runs on into a block
 unfoldable pub into : Bool → Open → Open

@@ -2,8 +2,8 @@
 use Rattle.std.specs.Prelude.{ℕ, suc, ◌-◌, Bool, true, false, ◌&&◌, ◌||◌, List, [], ◌∷◌, ◌++◌, map, length}
 use Rattle.cards.specs.Bytes.{joined}
 use Rattle.cards.specs.Moments.{Record, flagged, whole, past_first}
-use Rattle.cards.specs.Blocks.{Block, Reason, Piece, pieces, blockBytes}
-use Rattle.cards.specs.Reading.{runsOn, Fate, stays, goes, fates, start}
+use Rattle.cards.specs.Blocks.{Block, Reason, Piece, pieces, block_bytes}
+use Rattle.cards.specs.Reading.{runs_on, Fate, stays, goes, fates, start}
 
 -- the blocks that stay
 unfoldable pub kept : List Fate → List Block
@@ -14,38 +14,38 @@ kept (goes why ∷ fs) = kept fs
 -- the records of the blocks that run on from the next number, without a gap
 unfoldable pub going : ℕ → List Block → List Record
 going next [] = []
-going next (b ∷ bs) = elim (runsOn next b) [ true ↦ b.records ++ going (suc b.number) bs | false ↦ [] ]
+going next (b ∷ bs) = elim (runs_on next b) [ true ↦ b.records ++ going (suc b.number) bs | false ↦ [] ]
 
 -- "after a gap, records up to and including the first flagged one go": unless they went already, or there was no gap
-unfoldable pub fromFirst : Bool → List Record → List Record
-fromFirst true rs = rs
-fromFirst false rs = past_first rs
+unfoldable pub from_first : Bool → List Record → List Record
+from_first true rs = rs
+from_first false rs = past_first rs
 
 -- "before a gap, and at the end, records after the last flagged one go": unless a flagged one comes later in the stretch
-unfoldable pub toLast : Bool → List Record → List Record
-toLast true rs = rs
-toLast false rs = whole rs
+unfoldable pub to_last : Bool → List Record → List Record
+to_last true rs = rs
+to_last false rs = whole rs
 
 -- kept blocks with the records that stay in them; `begun` says that the stretch so far came after no gap, or had a flagged record
-unfoldable pub mendFrom : Bool → ℕ → List Block → List Block
-mendFrom begun next [] = []
-mendFrom begun next (b ∷ bs) =
+unfoldable pub mend_from : Bool → ℕ → List Block → List Block
+mend_from begun next [] = []
+mend_from begun next (b ∷ bs) =
     record {
       number = b.number;
-      records = toLast (flagged (going (suc b.number) bs)) (fromFirst (begun && runsOn next b) b.records);
+      records = to_last (flagged (going (suc b.number) bs)) (from_first (begun && runs_on next b) b.records);
     }
-    ∷ mendFrom ((begun && runsOn next b) || flagged b.records) (suc b.number) bs
+    ∷ mend_from ((begun && runs_on next b) || flagged b.records) (suc b.number) bs
 
 -- the blocks of the mended card
-unfoldable pub mendedBlocks : List Piece → List Block
-mendedBlocks ps = mendFrom true 0 (kept (fates start ps))
+unfoldable pub mended_blocks : List Piece → List Block
+mended_blocks ps = mend_from true 0 (kept (fates start ps))
 
 -- the bytes of blocks, "the check is made new"
-unfoldable pub cardBytes : List Block → List ℕ
-cardBytes bs = joined (map blockBytes bs)
+unfoldable pub card_bytes : List Block → List ℕ
+card_bytes bs = joined (map block_bytes bs)
 
 unfoldable pub mended : List ℕ → List ℕ
-mended bytes = cardBytes (mendedBlocks (pieces bytes))
+mended bytes = card_bytes (mended_blocks (pieces bytes))
 
 -- a line of the list: "kept, check, shape or number, with the count of records dropped from it (0 if the block went)"
 pub data Listed : Type 0 where
@@ -59,7 +59,7 @@ listing (stays b ∷ fs) [] = []
 listing (stays b ∷ fs) (m ∷ ms) = kept_less (length b.records - length m.records) ∷ listing fs ms
 
 unfoldable pub listed : List Piece → List Listed
-listed ps = listing (fates start ps) (mendedBlocks ps)
+listed ps = listing (fates start ps) (mended_blocks ps)
 
 unfoldable pub list : List ℕ → List Listed
 list bytes = listed (pieces bytes)

@@ -3,7 +3,7 @@ use Rattle.std.specs.Prelude.{ℕ, zero, suc, ◌≤◌, ◌<◌, Bool, true, fa
 use Rattle.cards.specs.Bytes.{joined}
 use Rattle.cards.specs.Moments.{Record, Fact, Moment}
 use Rattle.cards.specs.Blocks.{Block}
-use Rattle.cards.specs.Mending.{cardBytes}
+use Rattle.cards.specs.Mending.{card_bytes}
 
 -- P holds of each element
 abbrev pub Every {ℓ} : {A : Type ℓ} → (A → Type 0) → List A → Type 0
@@ -28,17 +28,17 @@ pub record RightMoment (m : Moment) : Type 0 where
   pub few : length m.facts ≤ 8
 
 -- the record of a fact
-unfoldable pub recordFor : ℕ → Fact → Bool → Record
-recordFor stamp f last = record { stamp = stamp; predicate = f.predicate; values = f.values; last = last }
+unfoldable pub record_for : ℕ → Fact → Bool → Record
+record_for stamp f last = record { stamp = stamp; predicate = f.predicate; values = f.values; last = last }
 
 -- the records of facts, the last one flagged
-unfoldable pub recordsFor : ℕ → List Fact → List Record
-recordsFor stamp [] = []
-recordsFor stamp (f ∷ []) = recordFor stamp f true ∷ []
-recordsFor stamp (f ∷ g ∷ fs) = recordFor stamp f false ∷ recordsFor stamp (g ∷ fs)
+unfoldable pub records_for : ℕ → List Fact → List Record
+records_for stamp [] = []
+records_for stamp (f ∷ []) = record_for stamp f true ∷ []
+records_for stamp (f ∷ g ∷ fs) = record_for stamp f false ∷ records_for stamp (g ∷ fs)
 
-unfoldable pub recordsOf : Moment → List Record
-recordsOf m = recordsFor m.stamp m.facts
+unfoldable pub records_of : Moment → List Record
+records_of m = records_for m.stamp m.facts
 
 -- blocks from number n on, each filled with 21 records before the next; there are at most `turns` of them
 unfoldable pub fill : ℕ → ℕ → List Record → List Block
@@ -48,7 +48,7 @@ fill (suc turns) n (r ∷ rs) = record { number = n; records = take 21 (r ∷ rs
 
 -- the blocks of a card that moments are written on: numbers from 0
 unfoldable pub written : List Moment → List Block
-written ms = fill (length (joined (map recordsOf ms))) 0 (joined (map recordsOf ms))
+written ms = fill (length (joined (map records_of ms))) 0 (joined (map records_of ms))
 
 unfoldable pub write : List Moment → List ℕ
-write ms = cardBytes (written ms)
+write ms = card_bytes (written ms)

@@ -10,48 +10,48 @@ use lib.Dec.{eqb, ltb}
 use lib.ListN.{length, get_or, set, length-set}
 use lib.Seq.{get_or-set_same, get_or-set_other}
 use borrow.Author.Tests.{ne_eqb, lt-ltb, le-ltb}
-use Rattle.trees.proofs.Tests.{bool, false-true}
+use Rattle.trees.proofs.Tests.{bool, false_true}
 use Rattle.text.specs.Words.{same}
 use Rattle.text.specs.Unfold.{listed, number_in}
 use Rattle.text.proofs.NameLaws.{number_at, same_refl}
 use Rattle.text.proofs.ClassLaws.{same_true}
 use Rattle.census.specs.Folds.{Event, uses, binds, opens, closes}
-use Rattle.census.specs.Tables.{nameCode}
-use Rattle.census.specs.Scopes.{lowered, bindingAt, bindIn, closeIn, looseIn, nameEvent, chosen, scopeEvent, Distinct, Lowered, Scoped, After, Enters}
+use Rattle.census.specs.Tables.{name_code}
+use Rattle.census.specs.Scopes.{lowered, binding_at, bind_in, close_in, loose_in, name_event, chosen, scope_event, Distinct, Lowered, Scoped, After, Enters}
 
 -- what the word is, way by way
 module _ (mode word : ℕ) (x : List ℕ) where
-  pub is-binding : word ≡ 0 → mode ≡ 3 → scopeEvent mode word x ≡ binds x ∷ []
-  unfolding scopeEvent chosen nameEvent
-  is-binding e f = rw (e, f)
+  pub is_binding : word ≡ 0 → mode ≡ 3 → scope_event mode word x ≡ binds x ∷ []
+  unfolding scope_event chosen name_event
+  is_binding e f = rw (e, f)
 
-  pub is-use : word ≡ 0 → (mode ≡ 3 → ⊥) → mode ≡ 5 → scopeEvent mode word x ≡ uses x ∷ []
-  unfolding scopeEvent chosen nameEvent
-  is-use e n f = rw (e, f)
+  pub is_use : word ≡ 0 → (mode ≡ 3 → ⊥) → mode ≡ 5 → scope_event mode word x ≡ uses x ∷ []
+  unfolding scope_event chosen name_event
+  is_use e n f = rw (e, f)
 
-  pub is_name : word ≡ 0 → (mode ≡ 3 → ⊥) → (mode ≡ 5 → ⊥) → scopeEvent mode word x ≡ []
-  unfolding scopeEvent chosen nameEvent
-  is_name e n m = rw (e, ne_eqb mode 3 n, ne_eqb mode 5 m, nameEvent)
+  pub is_name : word ≡ 0 → (mode ≡ 3 → ⊥) → (mode ≡ 5 → ⊥) → scope_event mode word x ≡ []
+  unfolding scope_event chosen name_event
+  is_name e n m = rw (e, ne_eqb mode 3 n, ne_eqb mode 5 m, name_event)
 
-  pub is-opening : word ≡ 14 → mode ≡ 0 → scopeEvent mode word x ≡ opens ∷ []
-  unfolding scopeEvent chosen
-  is-opening e f = rw (e, f)
+  pub is_opening : word ≡ 14 → mode ≡ 0 → scope_event mode word x ≡ opens ∷ []
+  unfolding scope_event chosen
+  is_opening e f = rw (e, f)
 
-  pub is_call : word ≡ 14 → (mode ≡ 0 → ⊥) → scopeEvent mode word x ≡ []
-  unfolding scopeEvent chosen
+  pub is_call : word ≡ 14 → (mode ≡ 0 → ⊥) → scope_event mode word x ≡ []
+  unfolding scope_event chosen
   is_call e n = rw (e, ne_eqb mode 0 n, chosen)
 
-  pub is-end : word ≡ 15 → mode ≡ 6 → scopeEvent mode word x ≡ []
-  unfolding scopeEvent chosen
-  is-end e f = rw (e, f)
+  pub is_end : word ≡ 15 → mode ≡ 6 → scope_event mode word x ≡ []
+  unfolding scope_event chosen
+  is_end e f = rw (e, f)
 
-  pub is-closing : word ≡ 15 → (mode ≡ 6 → ⊥) → scopeEvent mode word x ≡ closes ∷ []
-  unfolding scopeEvent chosen
-  is-closing e n = rw (e, ne_eqb mode 6 n, chosen)
+  pub is_closing : word ≡ 15 → (mode ≡ 6 → ⊥) → scope_event mode word x ≡ closes ∷ []
+  unfolding scope_event chosen
+  is_closing e n = rw (e, ne_eqb mode 6 n, chosen)
 
-  pub is-other : (word ≡ 0 → ⊥) → (word ≡ 14 → ⊥) → (word ≡ 15 → ⊥) → scopeEvent mode word x ≡ []
-  unfolding scopeEvent chosen
-  is-other n m o = rw (ne_eqb word 0 n, ne_eqb word 14 m, ne_eqb word 15 o, chosen)
+  pub is_other : (word ≡ 0 → ⊥) → (word ≡ 14 → ⊥) → (word ≡ 15 → ⊥) → scope_event mode word x ≡ []
+  unfolding scope_event chosen
+  is_other n m o = rw (ne_eqb word 0 n, ne_eqb word 14 m, ne_eqb word 15 o, chosen)
 
 module _ (names : List (List ℕ)) (now : List Event) (since : List ℕ) (d : ℕ) where
   pub enters_none : now ≡ [] → Enters names now since since d d false
@@ -61,17 +61,17 @@ module _ (names : List (List ℕ)) (now : List Event) (since : List ℕ) (d : �
     after = λ env s k c. record { env' = env; scoped = c; tells = λ es. rw e };
   }
 
-  pub enters-open : now ≡ opens ∷ [] → Enters names now since since d (d + 1) false
-  unfolding looseIn
-  enters-open e = record {
+  pub enters_open : now ≡ opens ∷ [] → Enters names now since since d (d + 1) false
+  unfolding loose_in
+  enters_open e = record {
     near = omega arith;
     sized = λ s. s;
     after = λ env s k c. record { env' = env; scoped = c; tells = λ es. rw (e, add-one d) };
   }
 
-  pub enters-use : (x : List ℕ) (v : ℕ) → now ≡ uses x ∷ [] → v ≡ number_in names x → v < length names → listed names x ≡ true → Enters names now since since d d (eqb (get_or since v 0) 0)
-  unfolding looseIn
-  enters-use x v e i h l = record {
+  pub enters_use : (x : List ℕ) (v : ℕ) → now ≡ uses x ∷ [] → v ≡ number_in names x → v < length names → listed names x ≡ true → Enters names now since since d d (eqb (get_or since v 0) 0)
+  unfolding loose_in
+  enters_use x v e i h l = record {
     near = omega arith;
     sized = λ s. s;
     after = λ env s k c.
@@ -79,52 +79,52 @@ module _ (names : List (List ℕ)) (now : List Event) (since : List ℕ) (d : �
         record { env' = env; scoped = c; tells = λ es. rw (e, z) };
   }
 
-  pub enters-close : (since' : List ℕ) (outer : ℕ) → now ≡ closes ∷ [] → outer ≡ d - 1 → length names ≤ 4 → Lowered outer since since' → Enters names now since since' d outer false
-  unfolding looseIn
-  enters-close since' outer e o h w = record {
+  pub enters_close : (since' : List ℕ) (outer : ℕ) → now ≡ closes ∷ [] → outer ≡ d - 1 → length names ≤ 4 → Lowered outer since since' → Enters names now since since' d outer false
+  unfolding loose_in
+  enters_close since' outer e o h w = record {
     near = omega arith;
     sized = λ s. (w s).0;
     after = λ env s k c. record {
-      env' = closeIn outer env;
+      env' = close_in outer env;
       scoped = λ v q. (w s).1 v (omega arith) ∙ ap (lowered outer) (c v q);
       tells = λ es. rw (e, o);
     };
   }
 
-  pub enters-bind : (x : List ℕ) (v b : ℕ) → now ≡ binds x ∷ [] → v ≡ number_in names x → v < length names → length names ≤ 4 → listed names x ≡ true
-      → b ≡ bindingAt d true (get_or since v 0) → Enters names now since (set since v b) d d false
-  unfolding looseIn
-  enters-bind x v b e i h f l z = record {
+  pub enters_bind : (x : List ℕ) (v b : ℕ) → now ≡ binds x ∷ [] → v ≡ number_in names x → v < length names → length names ≤ 4 → listed names x ≡ true
+      → b ≡ binding_at d true (get_or since v 0) → Enters names now since (set since v b) d d false
+  unfolding loose_in
+  enters_bind x v b e i h f l z = record {
     near = omega arith;
     sized = λ s. length-set since v b ∙ s;
-    after = λ env s k c. record { env' = bindIn d x env; scoped = λ j q. shown env s k c j q (bool (same x (get_or names j []))); tells = λ es. rw e };
+    after = λ env s k c. record { env' = bind_in d x env; scoped = λ j q. shown env s k c j q (bool (same x (get_or names j []))); tells = λ es. rw e };
   }
     where
       shown : (env : List ℕ → ℕ) → length since ≡ 4 → Distinct names → Scoped names since env → (j : ℕ) → j < length names
-          → (same x (get_or names j []) ≡ true) ⊎ (same x (get_or names j []) ≡ false) → get_or (set since v b) j 0 ≡ bindingAt d (same x (get_or names j [])) (env (get_or names j []))
+          → (same x (get_or names j []) ≡ true) ⊎ (same x (get_or names j []) ≡ false) → get_or (set since v b) j 0 ≡ binding_at d (same x (get_or names j [])) (env (get_or names j []))
       shown env s k c j q (inl u) =
           let y : x ≡ get_or names j [] = same_true x (get_or names j []) u in
           let w : v ≡ j = i ∙ ap (number_in names) y ∙ k j q in
           rw u (ap (λ (o : ℕ). get_or (set since v b) o 0) (sym w) ∙ get_or-set_same since v b 0 (omega arith) ∙ z
-          ∙ ap (bindingAt d true) (ap (λ (o : ℕ). get_or since o 0) w ∙ c j q))
+          ∙ ap (binding_at d true) (ap (λ (o : ℕ). get_or since o 0) w ∙ c j q))
       shown env s k c j q (inr u) =
-          rw u (get_or-set_other since v j b 0 (λ w. false-true u (rw (ap (λ (o : ℕ). get_or names o []) (w ∙ i) ∙ number_at names x l) (same_refl x))) ∙ c j q ∙ unfold bindingAt in refl)
+          rw u (get_or-set_other since v j b 0 (λ w. false_true u (rw (ap (λ (o : ℕ). get_or names o []) (w ∙ i) ∙ number_at names x l) (same_refl x))) ∙ c j q ∙ unfold binding_at in refl)
 
-pub lower-over : (d s : ℕ) → d < s → 0 ≡ lowered d s
+pub lower_over : (d s : ℕ) → d < s → 0 ≡ lowered d s
 unfolding lowered
-lower-over d s h = rw (lt-ltb d s h, lowered)
+lower_over d s h = rw (lt-ltb d s h, lowered)
 
-pub lower-kept : (d s : ℕ) → s ≤ d → s ≡ lowered d s
+pub lower_kept : (d s : ℕ) → s ≤ d → s ≡ lowered d s
 unfolding lowered
-lower-kept d s h = rw (le-ltb d s h, lowered)
+lower_kept d s h = rw (le-ltb d s h, lowered)
 
-pub binds-new : (d s : ℕ) → s ≡ 0 → d ≡ bindingAt d true s
-unfolding bindingAt
-binds-new d s e = rw e
+pub binds_new : (d s : ℕ) → s ≡ 0 → d ≡ binding_at d true s
+unfolding binding_at
+binds_new d s e = rw e
 
-pub binds-old : (d s : ℕ) → (s ≡ 0 → ⊥) → s ≡ bindingAt d true s
-unfolding bindingAt
-binds-old d s n = rw (ne_eqb s 0 n, bindingAt)
+pub binds_old : (d s : ℕ) → (s ≡ 0 → ⊥) → s ≡ binding_at d true s
+unfolding binding_at
+binds_old d s n = rw (ne_eqb s 0 n, binding_at)
 
 -- the four of them
 pub lowers : (d a b c e : ℕ) (since : List ℕ) → a ≡ lowered d (get_or since 0 0) → b ≡ lowered d (get_or (set since 0 a) 1 0)
@@ -144,7 +144,7 @@ lowers d a b c e (p ∷ q ∷ r ∷ t ∷ []) i j k l = λ s. (refl, at i j k l)
     at i j k l (suc (suc (suc (suc v)))) h = absurd (omega arith)
 
 -- such a name is a variable
-pub variable-slot : (mode word : ℕ) → word ≡ 0 → (mode ≡ 3) ⊎ (mode ≡ 5) → nameCode false mode word ≡ true
-unfolding nameCode
-variable-slot mode word e (inl f) = rw (e, f)
-variable-slot mode word e (inr f) = rw (e, f)
+pub variable_slot : (mode word : ℕ) → word ≡ 0 → (mode ≡ 3) ⊎ (mode ≡ 5) → name_code false mode word ≡ true
+unfolding name_code
+variable_slot mode word e (inl f) = rw (e, f)
+variable_slot mode word e (inr f) = rw (e, f)

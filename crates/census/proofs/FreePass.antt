@@ -7,27 +7,27 @@ use mathlib.Core.List.{List, [], ◌∷◌, ◌++◌, map}
 use lib.Dec.{eqb}
 use lib.ListN.{length, take, drop, get_or, replicate}
 use borrow.Author.Tests.{ne_eqb, eqb-true}
-use Rattle.trees.proofs.Tests.{bool, false-true}
+use Rattle.trees.proofs.Tests.{bool, false_true}
 use Rattle.text.specs.Words.{Spelled, Word, name, number, constant, prefix, binary, quantifier, opening, closing, comma, dot, bytes_of}
 use Rattle.text.specs.Grammar.{Reading, RuleText, HasReading}
-use Rattle.text.specs.Unfold.{listed, number_in, variables, variableNames, firstUses}
+use Rattle.text.specs.Unfold.{listed, number_in, variables, variable_names, first_uses}
 use Rattle.text.specs.Scope.{loose}
-use Rattle.text.proofs.NameLaws.{Listed, first-uses-list, listed-right, number_lt}
-use Rattle.spelling.specs.Codes.{code_of, kind_of, nextMode, Next, modeAfter}
-use Rattle.spelling.proofs.KindLaws.{code_lt, next-is, name-kind, opening-kind, closing-kind}
-use Rattle.census.specs.Folds.{Event, call, uses, value, binds, opens, closes, named, argumentsIn, eventOf, events, eventsOf, namesIn}
-use Rattle.census.specs.Tables.{names_at, Table, Within, askedFor, nameCode}
-use Rattle.census.specs.Scopes.{looseIn, nameEvent, chosen, scopeEvent, Distinct, Scoped, After, Enters, Variables, ToldLoose}
-use Rattle.census.proofs.NameLaws.{variables-of, name-step}
-use Rattle.census.proofs.TableLaws.{table-length}
-use Rattle.census.proofs.CallLaws.{distinct-first}
-use Rattle.census.proofs.LooseLaws.{loose-of}
-use Rattle.census.proofs.PassLaws.{Passing, Stepped, pass-begins, pass-over, pass-ends, pass-steps, pass_on, of-all}
+use Rattle.text.proofs.NameLaws.{Listed, first_uses_list, listed_right, number_lt}
+use Rattle.spelling.specs.Codes.{code_of, kind_of, next_mode, Next, mode_after}
+use Rattle.spelling.proofs.KindLaws.{code_lt, next_is, name_kind, opening_kind, closing_kind}
+use Rattle.census.specs.Folds.{Event, call, uses, value, binds, opens, closes, named, arguments_in, event_of, events, events_of, names_in}
+use Rattle.census.specs.Tables.{names_at, Table, Within, asked_for, name_code}
+use Rattle.census.specs.Scopes.{loose_in, name_event, chosen, scope_event, Distinct, Scoped, After, Enters, Variables, ToldLoose}
+use Rattle.census.proofs.NameLaws.{variables_of, name_step}
+use Rattle.census.proofs.TableLaws.{table_length}
+use Rattle.census.proofs.CallLaws.{distinct_first}
+use Rattle.census.proofs.LooseLaws.{loose_of}
+use Rattle.census.proofs.PassLaws.{Passing, Stepped, pass_begins, pass_over, pass_ends, pass_steps, pass_on, of_all}
 
 -- one word more, by number
-named-loose : (m : ℕ) (x : List ℕ) (n d : ℕ) (env : List ℕ → ℕ) (es : List Event) → looseIn d env (named m x n ++ es) ≡ looseIn d env (nameEvent (eqb m 3) (eqb m 5) x ++ es)
-unfolding named nameEvent looseIn
-named-loose m x n d env es = go (eqb m 0) (eqb m 3) (eqb m 5) (apart m)
+named_loose : (m : ℕ) (x : List ℕ) (n d : ℕ) (env : List ℕ → ℕ) (es : List Event) → loose_in d env (named m x n ++ es) ≡ loose_in d env (name_event (eqb m 3) (eqb m 5) x ++ es)
+unfolding named name_event loose_in
+named_loose m x n d env es = go (eqb m 0) (eqb m 3) (eqb m 5) (apart m)
   where
     apart : (m : ℕ) → eqb m 0 ≡ true → (eqb m 3 || eqb m 5) ≡ false
     apart m e =
@@ -35,17 +35,17 @@ named-loose m x n d env es = go (eqb m 0) (eqb m 3) (eqb m 5) (apart m)
         rw z
 
     go : (a b c : Bool) → (a ≡ true → (b || c) ≡ false)
-        → looseIn d env (elim a [ true ↦ call x n ∷ [] | false ↦ elim b [ true ↦ binds x ∷ [] | false ↦ elim c [ true ↦ uses x ∷ [] | false ↦ [] ] ] ] ++ es)
-        ≡ looseIn d env (nameEvent b c x ++ es)
-    go true true c h = absurd (false-true (h refl) refl)
-    go true false true h = absurd (false-true (h refl) refl)
+        → loose_in d env (elim a [ true ↦ call x n ∷ [] | false ↦ elim b [ true ↦ binds x ∷ [] | false ↦ elim c [ true ↦ uses x ∷ [] | false ↦ [] ] ] ] ++ es)
+        ≡ loose_in d env (name_event b c x ++ es)
+    go true true c h = absurd (false_true (h refl) refl)
+    go true false true h = absurd (false_true (h refl) refl)
     go true false false h = refl
     go false true c h = refl
     go false false true h = refl
     go false false false h = refl
 
-unfoldable kindEvent : ℕ → Word → List Event
-kindEvent m w = chosen (eqb (kind_of w) 0) (eqb (kind_of w) 6) (eqb (kind_of w) 7) (eqb m 0) (eqb m 3) (eqb m 5) (eqb m 6) (bytes_of w)
+unfoldable kind_event : ℕ → Word → List Event
+kind_event m w = chosen (eqb (kind_of w) 0) (eqb (kind_of w) 6) (eqb (kind_of w) 7) (eqb m 0) (eqb m 3) (eqb m 5) (eqb m 6) (bytes_of w)
 
 opened : (a b c e : Bool) (x : List ℕ) → elim a [ true ↦ opens ∷ [] | false ↦ [] ] ≡ chosen false true false a b c e x
 unfolding chosen
@@ -57,27 +57,27 @@ unfolding chosen
 shut a b c true x = refl
 shut a b c false x = refl
 
-by_kind : (m : ℕ) (w : Word) (ws : List Word) (d : ℕ) (env : List ℕ → ℕ) (es : List Event) → looseIn d env (eventOf m w ws ++ es) ≡ looseIn d env (kindEvent m w ++ es)
-unfolding eventOf kind_of bytes_of kindEvent chosen looseIn
-by_kind m (name x) ws d env es = named-loose m x (argumentsIn ws) d env es
+by_kind : (m : ℕ) (w : Word) (ws : List Word) (d : ℕ) (env : List ℕ → ℕ) (es : List Event) → loose_in d env (event_of m w ws ++ es) ≡ loose_in d env (kind_event m w ++ es)
+unfolding event_of kind_of bytes_of kind_event chosen loose_in
+by_kind m (name x) ws d env es = named_loose m x (arguments_in ws) d env es
 by_kind m (number ds) ws d env es = refl
 by_kind m (constant b) ws d env es = refl
 by_kind m (prefix o) ws d env es = refl
 by_kind m (binary o) ws d env es = refl
 by_kind m (quantifier q) ws d env es = refl
-by_kind m opening ws d env es = ap (λ (l : List Event). looseIn d env (l ++ es)) (opened (eqb m 0) (eqb m 3) (eqb m 5) (eqb m 6) (40 ∷ []))
-by_kind m closing ws d env es = ap (λ (l : List Event). looseIn d env (l ++ es)) (shut (eqb m 0) (eqb m 3) (eqb m 5) (eqb m 6) (41 ∷ []))
+by_kind m opening ws d env es = ap (λ (l : List Event). loose_in d env (l ++ es)) (opened (eqb m 0) (eqb m 3) (eqb m 5) (eqb m 6) (40 ∷ []))
+by_kind m closing ws d env es = ap (λ (l : List Event). loose_in d env (l ++ es)) (shut (eqb m 0) (eqb m 3) (eqb m 5) (eqb m 6) (41 ∷ []))
 by_kind m comma ws d env es = refl
 by_kind m dot ws d env es = refl
 
-kind-code : (m : ℕ) (w : Word) → scopeEvent m (code_of w) (bytes_of w) ≡ kindEvent m w
-unfolding scopeEvent kindEvent
-kind-code m w = rw (name-kind w, opening-kind w, closing-kind w)
+kind_code : (m : ℕ) (w : Word) → scope_event m (code_of w) (bytes_of w) ≡ kind_event m w
+unfolding scope_event kind_event
+kind_code m w = rw (name_kind w, opening_kind w, closing_kind w)
 
 -- the events left tell it
 pub record Free (d : ℕ) (env : List ℕ → ℕ) (f : Reading) (es : List Event) : Type 0 where
-  pub left : loose [] f ≡ looseIn d env es
-  pub known : Listed (variableNames f) (namesIn false es)
+  pub left : loose [] f ≡ loose_in d env es
+  pub known : Listed (variable_names f) (names_in false es)
 
 pub record Scoping (text starts lengths : List ℕ) (n : ℕ) (since : List ℕ) (depth mode at : ℕ) : Type 0 where
   pub low : mode < 8
@@ -87,18 +87,18 @@ pub record Scoping (text starts lengths : List ℕ) (n : ℕ) (since : List ℕ)
   pub scoped : Scoped (names_at text starts lengths n) since env
   pub pass : Passing (Free depth env) text at mode
 
-all_listed : (f : Reading) → Listed (variableNames f) (namesIn false (eventsOf f))
-unfolding variableNames
-all_listed f = rw (variables-of f) (first-uses-list (variables f))
+all_listed : (f : Reading) → Listed (variable_names f) (names_in false (events_of f))
+unfolding variable_names
+all_listed f = rw (variables_of f) (first_uses_list (variables f))
 
-pub scope-begins : (text starts lengths : List ℕ) (n : ℕ) → HasReading text → Variables text starts lengths n → Scoping text starts lengths n (replicate 4 0) 1 0 0
-scope-begins text starts lengths n h p = record {
+pub scope_begins : (text starts lengths : List ℕ) (n : ℕ) → HasReading text → Variables text starts lengths n → Scoping text starts lengths n (replicate 4 0) 1 0 0
+scope_begins text starts lengths n h p = record {
   low = omega arith;
   near = omega arith;
   sized = refl;
   env = λ y. 0;
   scoped = λ v q. zeros v;
-  pass = pass-begins (Free 1 (λ y. 0)) text h (record { left = loose-of h.reading h.text.fine; known = all_listed h.reading });
+  pass = pass_begins (Free 1 (λ y. 0)) text h (record { left = loose_of h.reading h.text.fine; known = all_listed h.reading });
 }
   where
     zeros : (v : ℕ) → ◌≡◌ {A = ℕ} (get_or (replicate 4 0) v 0) 0
@@ -108,90 +108,90 @@ scope-begins text starts lengths n h p = record {
     zeros (suc (suc (suc zero))) = refl
     zeros (suc (suc (suc (suc v)))) = refl
 
-asked-first : (ns : List (List ℕ)) (y : List ℕ) (xs : List (List ℕ)) → Listed ns (askedFor true y ++ xs) → listed ns y ≡ true
-unfolding askedFor
-asked-first ns y xs h = h.0
+asked_first : (ns : List (List ℕ)) (y : List ℕ) (xs : List (List ℕ)) → Listed ns (asked_for true y ++ xs) → listed ns y ≡ true
+unfolding asked_for
+asked_first ns y xs h = h.0
 
 module _ (text starts lengths : List ℕ) (n : ℕ) (since : List ℕ) (depth mode at : ℕ) (p : Variables text starts lengths n)
     (k : Scoping text starts lengths n since depth mode at) where
   none : Free depth k.env k.pass.reading [] → ToldLoose text false
-  unfolding looseIn
-  none x = of-all text k.pass.reading false (loose []) k.pass.is (sym x.left)
+  unfolding loose_in
+  none x = of_all text k.pass.reading false (loose []) k.pass.is (sym x.left)
 
-  pub scope-over : length text ≤ at → ToldLoose text false
-  scope-over l = none (pass-over (Free depth k.env) text at mode k.pass l)
+  pub scope_over : length text ≤ at → ToldLoose text false
+  scope_over l = none (pass_over (Free depth k.env) text at mode k.pass l)
 
   pub count : length (names_at text starts lengths n) ≡ n
-  count = table-length text starts lengths n p.table.here p.table.there
+  count = table_length text starts lengths n p.table.here p.table.there
 
   module _ (word from past : ℕ) (x : (v : Bool) (ws : List Word) → Spelled v ws (drop at text) → Next text at ws word from past) where
     pub scope_ends : word ≡ 18 → ToldLoose text false
-    scope_ends e = none (pass-ends (Free depth k.env) text at mode k.pass word from past x e)
+    scope_ends e = none (pass_ends (Free depth k.env) text at mode k.pass word from past x e)
 
     module _ (e : word ≡ 18 → ⊥) where
       stepped : Stepped (Free depth k.env) text at mode word from past
-      stepped = pass-steps (Free depth k.env) text at mode k.pass word from past x e
+      stepped = pass_steps (Free depth k.env) text at mode k.pass word from past x e
 
-      pub scope-within : Within text from past
-      scope-within = record { order = omega (arith, stepped.first.long); inside = stepped.first.high }
+      pub scope_within : Within text from past
+      scope_within = record { order = omega (arith, stepped.first.long); inside = stepped.first.high }
 
-      pub scope-grows : at < past
-      scope-grows = omega (arith, stepped.first.low, stepped.first.long)
+      pub scope_grows : at < past
+      scope_grows = omega (arith, stepped.first.low, stepped.first.long)
 
-      pub scope-word : word < 18
-      scope-word = omega (arith, stepped.first.code_is, code_lt stepped.w)
+      pub scope_word : word < 18
+      scope_word = omega (arith, stepped.first.code_is, code_lt stepped.w)
 
-      same_names : (c d : ℕ) (y z : List ℕ) → c ≡ d → y ≡ z → askedFor (nameCode false mode c) y ≡ askedFor (nameCode false mode d) z
+      same_names : (c d : ℕ) (y z : List ℕ) → c ≡ d → y ≡ z → asked_for (name_code false mode c) y ≡ asked_for (name_code false mode d) z
       same_names c d y z u v = rw (u, v)
 
-      all-names : Listed (variableNames stepped.reading) (askedFor (nameCode false mode word) (take (past - from) (drop from text)) ++ namesIn false (events (modeAfter mode stepped.w) stepped.ws))
-      all-names =
+      all_names : Listed (variable_names stepped.reading) (asked_for (name_code false mode word) (take (past - from) (drop from text)) ++ names_in false (events (mode_after mode stepped.w) stepped.ws))
+      all_names =
           rw (
-            name-step false mode stepped.w stepped.ws (events (modeAfter mode stepped.w) stepped.ws),
-            same_names (code_of stepped.w) word (bytes_of stepped.w) (take (past - from) (drop from text)) (sym stepped.first.code_is) (sym stepped.first.bytes-are),
+            name_step false mode stepped.w stepped.ws (events (mode_after mode stepped.w) stepped.ws),
+            same_names (code_of stepped.w) word (bytes_of stepped.w) (take (past - from) (drop from text)) (sym stepped.first.code_is) (sym stepped.first.bytes_are),
           )
           at stepped.left.known
 
-      pub scope-listed : nameCode false mode word ≡ true → listed (names_at text starts lengths n) (take (past - from) (drop from text)) ≡ true
-      scope-listed z = rw (p.names stepped.reading stepped.is) (asked-first (variableNames stepped.reading) (take (past - from) (drop from text)) (namesIn false (events (modeAfter mode stepped.w) stepped.ws)) (rw z at all-names))
+      pub scope_listed : name_code false mode word ≡ true → listed (names_at text starts lengths n) (take (past - from) (drop from text)) ≡ true
+      scope_listed z = rw (p.names stepped.reading stepped.is) (asked_first (variable_names stepped.reading) (take (past - from) (drop from text)) (names_in false (events (mode_after mode stepped.w) stepped.ws)) (rw z at all_names))
 
-      pub scope-number : nameCode false mode word ≡ true → number_in (names_at text starts lengths n) (take (past - from) (drop from text)) < n
-      scope-number z = omega (arith, number_lt (names_at text starts lengths n) (take (past - from) (drop from text)) (scope-listed z), count)
+      pub scope_number : name_code false mode word ≡ true → number_in (names_at text starts lengths n) (take (past - from) (drop from text)) < n
+      scope_number z = omega (arith, number_lt (names_at text starts lengths n) (take (past - from) (drop from text)) (scope_listed z), count)
 
       module _ (since' : List ℕ) (depth' : ℕ) (r : Bool)
-          (t : Enters (names_at text starts lengths n) (scopeEvent mode word (take (past - from) (drop from text))) since since' depth depth' r) where
+          (t : Enters (names_at text starts lengths n) (scope_event mode word (take (past - from) (drop from text))) since since' depth depth' r) where
         different : Distinct (names_at text starts lengths n)
-        different = rw (p.names stepped.reading stepped.is) (unfold variableNames in distinct-first (variables stepped.reading))
+        different = rw (p.names stepped.reading stepped.is) (unfold variable_names in distinct_first (variables stepped.reading))
 
-        after : After (names_at text starts lengths n) (scopeEvent mode word (take (past - from) (drop from text))) since' depth depth' r k.env
+        after : After (names_at text starts lengths n) (scope_event mode word (take (past - from) (drop from text))) since' depth depth' r k.env
         after = t.after k.env k.sized different k.scoped
 
-        same-event : (c d : ℕ) (y z : List ℕ) → c ≡ d → y ≡ z → scopeEvent mode c y ≡ scopeEvent mode d z
-        same-event c d y z u v = rw (u, v)
+        same_event : (c d : ℕ) (y z : List ℕ) → c ≡ d → y ≡ z → scope_event mode c y ≡ scope_event mode d z
+        same_event c d y z u v = rw (u, v)
 
-        told : loose [] stepped.reading ≡ (r || looseIn depth' after.env' (events (modeAfter mode stepped.w) stepped.ws))
+        told : loose [] stepped.reading ≡ (r || loose_in depth' after.env' (events (mode_after mode stepped.w) stepped.ws))
         told =
             stepped.left.left
-            ∙ by_kind mode stepped.w stepped.ws depth k.env (events (modeAfter mode stepped.w) stepped.ws)
-            ∙ ap (λ (l : List Event). looseIn depth k.env (l ++ events (modeAfter mode stepped.w) stepped.ws))
-            (sym (kind-code mode stepped.w) ∙ same-event (code_of stepped.w) word (bytes_of stepped.w) (take (past - from) (drop from text)) (sym stepped.first.code_is) (sym stepped.first.bytes-are))
-            ∙ after.tells (events (modeAfter mode stepped.w) stepped.ws)
+            ∙ by_kind mode stepped.w stepped.ws depth k.env (events (mode_after mode stepped.w) stepped.ws)
+            ∙ ap (λ (l : List Event). loose_in depth k.env (l ++ events (mode_after mode stepped.w) stepped.ws))
+            (sym (kind_code mode stepped.w) ∙ same_event (code_of stepped.w) word (bytes_of stepped.w) (take (past - from) (drop from text)) (sym stepped.first.code_is) (sym stepped.first.bytes_are))
+            ∙ after.tells (events (mode_after mode stepped.w) stepped.ws)
 
-        pub scope-loose : r ≡ true → ToldLoose text true
-        scope-loose z = of-all text stepped.reading true (loose []) stepped.is (sym (told ∙ ap (λ (q : Bool). q || looseIn depth' after.env' (events (modeAfter mode stepped.w) stepped.ws)) z))
+        pub scope_loose : r ≡ true → ToldLoose text true
+        scope_loose z = of_all text stepped.reading true (loose []) stepped.is (sym (told ∙ ap (λ (q : Bool). q || loose_in depth' after.env' (events (mode_after mode stepped.w) stepped.ws)) z))
 
-        pub scope-more : (mode' : ℕ) → r ≡ false → (mode' ≡ nextMode mode word) × (mode' < 8) → Scoping text starts lengths n since' depth' mode' past
-        scope-more mode' z q =
-            let o : mode' ≡ modeAfter mode stepped.w = q.0 ∙ ap (nextMode mode) stepped.first.code_is ∙ next-is mode stepped.w in
+        pub scope_more : (mode' : ℕ) → r ≡ false → (mode' ≡ next_mode mode word) × (mode' < 8) → Scoping text starts lengths n since' depth' mode' past
+        scope_more mode' z q =
+            let o : mode' ≡ mode_after mode stepped.w = q.0 ∙ ap (next_mode mode) stepped.first.code_is ∙ next_is mode stepped.w in
             record {
               low = q.1;
-              near = omega (arith, t.near, k.near, scope-grows);
+              near = omega (arith, t.near, k.near, scope_grows);
               sized = t.sized k.sized;
               env = after.env';
               scoped = after.scoped;
               pass = pass_on (Free depth k.env) (Free depth' after.env') text at mode word from past mode' stepped o
                   (record {
-                    left = told ∙ ap (λ (q : Bool). q || looseIn depth' after.env' (events (modeAfter mode stepped.w) stepped.ws)) z;
-                    known = listed-right (variableNames stepped.reading) (askedFor (nameCode false mode word) (take (past - from) (drop from text))) (namesIn false (events (modeAfter mode stepped.w) stepped.ws)) all-names;
+                    left = told ∙ ap (λ (q : Bool). q || loose_in depth' after.env' (events (mode_after mode stepped.w) stepped.ws)) z;
+                    known = listed_right (variable_names stepped.reading) (asked_for (name_code false mode word) (take (past - from) (drop from text))) (names_in false (events (mode_after mode stepped.w) stepped.ws)) all_names;
                   });
             }

@@ -9,65 +9,65 @@ use lib.ListN.{length, take, drop}
 use Rattle.text.specs.Words.{Spelled, Word, wordy}
 use Rattle.text.specs.Grammar.{Reading, RuleText, HasReading}
 use Rattle.text.specs.Unfold.{atoms}
-use Rattle.text.specs.Translate.{anyAtom, tooMany}
-use Rattle.spelling.specs.Codes.{code_of, nextMode, Next, Spells, modeAfter}
-use Rattle.spelling.proofs.KindLaws.{code_lt, next-is}
-use Rattle.census.specs.Folds.{Event, Lexed, eventOf, events, eventsOf, manyIn, argumentsIn}
+use Rattle.text.specs.Translate.{any_atom, too_many}
+use Rattle.spelling.specs.Codes.{code_of, next_mode, Next, Spells, mode_after}
+use Rattle.spelling.proofs.KindLaws.{code_lt, next_is}
+use Rattle.census.specs.Folds.{Event, Lexed, event_of, events, events_of, many_in, arguments_in}
 use Rattle.census.specs.Told.{Wide, ToldMany}
-use Rattle.census.proofs.TellLaws.{many-of, many-step}
-use Rattle.census.proofs.PassLaws.{Passing, Stepped, pass-begins, pass-over, pass-ends, pass-steps, pass_on, stepped-lexed, of-all}
+use Rattle.census.proofs.TellLaws.{many_of, many_step}
+use Rattle.census.proofs.PassLaws.{Passing, Stepped, pass_begins, pass_over, pass_ends, pass_steps, pass_on, stepped_lexed, of_all}
 
 -- the events left tell it
 abbrev pub Many : Reading → List Event → Type 0
-Many f es = anyAtom (λ a. tooMany a.terms) (atoms f) ≡ manyIn es
+Many f es = any_atom (λ a. too_many a.terms) (atoms f) ≡ many_in es
 
 pub record Scanning (text : List ℕ) (at mode : ℕ) : Type 0 where
   pub low : mode < 8
   pub pass : Passing Many text at mode
 
-pub many-begins : (text : List ℕ) → HasReading text → Scanning text 0 0
-many-begins text h = record { low = omega arith; pass = pass-begins Many text h (many-of h.reading) }
+pub many_begins : (text : List ℕ) → HasReading text → Scanning text 0 0
+many_begins text h = record { low = omega arith; pass = pass_begins Many text h (many_of h.reading) }
 
-same_name : (a b m : ℕ) (ws : List Word) → a ≡ b → ((eqb m 0 && eqb a 0) && ltb 3 (argumentsIn ws)) ≡ ((eqb m 0 && eqb b 0) && ltb 3 (argumentsIn ws))
+same_name : (a b m : ℕ) (ws : List Word) → a ≡ b → ((eqb m 0 && eqb a 0) && ltb 3 (arguments_in ws)) ≡ ((eqb m 0 && eqb b 0) && ltb 3 (arguments_in ws))
 same_name a b m ws e = rw e
 
 module _ (text : List ℕ) (at mode : ℕ) (s : Scanning text at mode) where
   none : Many s.pass.reading [] → ToldMany text false
-  none x = of-all text s.pass.reading false (λ f. anyAtom (λ a. tooMany a.terms) (atoms f)) s.pass.is (sym (unfold manyIn in x))
+  none x = of_all text s.pass.reading false (λ f. any_atom (λ a. too_many a.terms) (atoms f)) s.pass.is (sym (unfold many_in in x))
 
-  pub many-over : length text ≤ at → ToldMany text false
-  many-over l = none (pass-over Many text at mode s.pass l)
+  pub many_over : length text ≤ at → ToldMany text false
+  many_over l = none (pass_over Many text at mode s.pass l)
 
   module _ (word from past : ℕ) (n : (v : Bool) (ws : List Word) → Spelled v ws (drop at text) → Next text at ws word from past) where
-    pub many-ends : word ≡ 18 → ToldMany text false
-    many-ends e = none (pass-ends Many text at mode s.pass word from past n e)
+    pub many_ends : word ≡ 18 → ToldMany text false
+    many_ends e = none (pass_ends Many text at mode s.pass word from past n e)
 
     module _ (e : word ≡ 18 → ⊥) where
       stepped : Stepped Many text at mode word from past
-      stepped = pass-steps Many text at mode s.pass word from past n e
+      stepped = pass_steps Many text at mode s.pass word from past n e
 
-      pub many-lexed : Lexed text past
-      many-lexed = stepped-lexed Many text at mode word from past stepped
+      pub many_lexed : Lexed text past
+      many_lexed = stepped_lexed Many text at mode word from past stepped
 
-      pub many-grows : at < past
-      many-grows = omega (arith, stepped.first.low, stepped.first.long)
+      pub many_grows : at < past
+      many_grows = omega (arith, stepped.first.low, stepped.first.long)
 
-      pub many-word : word < 18
-      many-word = omega (arith, stepped.first.code_is, code_lt stepped.w)
+      pub many_word : word < 18
+      many_word = omega (arith, stepped.first.code_is, code_lt stepped.w)
 
       told : (r : Bool) → Wide text mode word past r
-          → anyAtom (λ a. tooMany a.terms) (atoms stepped.reading) ≡ (r || manyIn (events (modeAfter mode stepped.w) stepped.ws))
+          → any_atom (λ a. too_many a.terms) (atoms stepped.reading) ≡ (r || many_in (events (mode_after mode stepped.w) stepped.ws))
       told r k =
-          let z : r ≡ ((eqb mode 0 && eqb word 0) && ltb 3 (argumentsIn stepped.ws)) = k stepped.ws (record { after = wordy stepped.w; spelled = stepped.first.rest }) in
-          stepped.left ∙ many-step mode stepped.w stepped.ws (events (modeAfter mode stepped.w) stepped.ws)
-          ∙ ap (λ (b : Bool). b || manyIn (events (modeAfter mode stepped.w) stepped.ws))
+          let z : r ≡ ((eqb mode 0 && eqb word 0) && ltb 3 (arguments_in stepped.ws)) = k stepped.ws (record { after = wordy stepped.w; spelled = stepped.first.rest }) in
+          stepped.left ∙ many_step mode stepped.w stepped.ws (events (mode_after mode stepped.w) stepped.ws)
+          ∙ ap (λ (b : Bool). b || many_in (events (mode_after mode stepped.w) stepped.ws))
           (same_name (code_of stepped.w) word mode stepped.ws (sym stepped.first.code_is) ∙ sym z)
 
-      pub many-found : (r : Bool) → Wide text mode word past r → r ≡ true → ToldMany text true
-      many-found r k z =
-          of-all text stepped.reading true (λ f. anyAtom (λ a. tooMany a.terms) (atoms f)) stepped.is (sym (told r k ∙ rw z))
+      pub many_found : (r : Bool) → Wide text mode word past r → r ≡ true → ToldMany text true
+      many_found r k z =
+          of_all text stepped.reading true (λ f. any_atom (λ a. too_many a.terms) (atoms f)) stepped.is (sym (told r k ∙ rw z))
 
-      pub many_more : (r : Bool) (mode' : ℕ) → Wide text mode word past r → r ≡ false → (mode' ≡ nextMode mode word) × (mode' < 8) → Scanning text past mode'
+      pub many_more : (r : Bool) (mode' : ℕ) → Wide text mode word past r → r ≡ false → (mode' ≡ next_mode mode word) × (mode' < 8) → Scanning text past mode'
       many_more r mode' k z q =
-          let m : mode' ≡ modeAfter mode stepped.w = q.0 ∙ ap (nextMode mode) stepped.first.code_is ∙ next-is mode stepped.w in
+          let m : mode' ≡ mode_after mode stepped.w = q.0 ∙ ap (next_mode mode) stepped.first.code_is ∙ next_is mode stepped.w in
           record { low = q.1; pass = pass_on Many Many text at mode word from past mode' stepped m ((told r k ∙ rw z)) }

@@ -9,20 +9,20 @@ use lib.Seq.{drop-length}
 use Rattle.text.specs.Words.{Word, wordy, Spelled}
 use Rattle.text.specs.Grammar.{Reading, words, RuleText, HasReading}
 use Rattle.text.proofs.RuleTexts.{unique}
-use Rattle.spelling.specs.Codes.{code_of, modeAfter, Spells, First, Next}
+use Rattle.spelling.specs.Codes.{code_of, mode_after, Spells, First, Next}
 use Rattle.spelling.proofs.KindLaws.{code_lt}
 use Rattle.spelling.proofs.NextLaws.{no_words}
-use Rattle.census.specs.Folds.{Event, eventOf, events, eventsOf, Lexed}
-use Rattle.census.proofs.EventLaws.{all-events}
+use Rattle.census.specs.Folds.{Event, event_of, events, events_of, Lexed}
+use Rattle.census.proofs.EventLaws.{all_events}
 
 -- the words from the place on, with the mode at which they come, and what their events are to tell of the reading
 pub record Passing (X : Reading → List Event → Type 0) (text : List ℕ) (at mode : ℕ) : Type 0 where
   pub inside : at ≤ length text
   pub reading : Reading
   pub is : RuleText text reading
-  pub left-words : List Word
-  pub spells : Spells left-words (drop at text)
-  pub left : X reading (events mode left-words)
+  pub left_words : List Word
+  pub spells : Spells left_words (drop at text)
+  pub left : X reading (events mode left_words)
 
 -- the first of them, and the rest
 pub record Stepped (X : Reading → List Event → Type 0) (text : List ℕ) (at mode word from past : ℕ) : Type 0 where
@@ -31,7 +31,7 @@ pub record Stepped (X : Reading → List Event → Type 0) (text : List ℕ) (at
   pub w : Word
   pub ws : List Word
   pub first : First text at w ws word from past
-  pub left : X reading (eventOf mode w ws ++ events (modeAfter mode w) ws)
+  pub left : X reading (event_of mode w ws ++ events (mode_after mode w) ws)
 
 -- where the text spells no more words
 pub nothing_left : (text : List ℕ) (at : ℕ) (ws : List Word) → Spells ws (drop at text) → at ≤ length text → length text ≤ at → ws ≡ []
@@ -40,62 +40,62 @@ nothing_left text at ws s i l =
     no_words s.spelled (rw e (drop-length text))
 
 module _ (X : Reading → List Event → Type 0) (text : List ℕ) where
-  pub pass-begins : (h : HasReading text) → X h.reading (eventsOf h.reading) → Passing X text 0 0
-  pass-begins h x = record {
+  pub pass_begins : (h : HasReading text) → X h.reading (events_of h.reading) → Passing X text 0 0
+  pass_begins h x = record {
     inside = omega arith;
     reading = h.reading;
     is = h.text;
-    left-words = words h.reading;
+    left_words = words h.reading;
     spells = record { after = false; spelled = h.text.spelled };
-    left = rw (all-events h.reading) x;
+    left = rw (all_events h.reading) x;
   }
 
   module _ (at mode : ℕ) (p : Passing X text at mode) where
-    none-tells : p.left-words ≡ [] → X p.reading []
+    none_tells : p.left_words ≡ [] → X p.reading []
     unfolding events
-    none-tells e = rw e at p.left
+    none_tells e = rw e at p.left
 
     -- the text is at its end
-    pub pass-over : length text ≤ at → X p.reading []
-    pass-over l = none-tells (nothing_left text at p.left-words p.spells p.inside l)
+    pub pass_over : length text ≤ at → X p.reading []
+    pass_over l = none_tells (nothing_left text at p.left_words p.spells p.inside l)
 
     module _ (word from past : ℕ) (n : (v : Bool) (ws : List Word) → Spelled v ws (drop at text) → Next text at ws word from past) where
-      next : Next text at p.left-words word from past
-      next = n p.spells.after p.left-words p.spells.spelled
+      next : Next text at p.left_words word from past
+      next = n p.spells.after p.left_words p.spells.spelled
 
       no_more : (ws : List Word) → Next text at ws word from past → word ≡ 18 → ws ≡ []
       no_more [] k e = refl
       no_more (w ∷ ws) k e = absurd (omega (arith, k.code_is, code_lt w))
 
       -- no word is left
-      pub pass-ends : word ≡ 18 → X p.reading []
-      pass-ends e = none-tells (no_more p.left-words next e)
+      pub pass_ends : word ≡ 18 → X p.reading []
+      pass_ends e = none_tells (no_more p.left_words next e)
 
-      by : (ws : List Word) → p.left-words ≡ ws → Next text at ws word from past → (word ≡ 18 → ⊥) → Stepped X text at mode word from past
+      by : (ws : List Word) → p.left_words ≡ ws → Next text at ws word from past → (word ≡ 18 → ⊥) → Stepped X text at mode word from past
       unfolding events
       by [] z k e = absurd (e k)
       by (w ∷ ws) z k e = record { reading = p.reading; is = p.is; w = w; ws = ws; first = k; left = rw z at p.left }
 
       -- a word comes
-      pub pass-steps : (word ≡ 18 → ⊥) → Stepped X text at mode word from past
-      pass-steps e = by p.left-words refl next e
+      pub pass_steps : (word ≡ 18 → ⊥) → Stepped X text at mode word from past
+      pass_steps e = by p.left_words refl next e
 
 -- and the pass goes on
-pub pass_on : (X Y : Reading → List Event → Type 0) (text : List ℕ) (at mode word from past mode' : ℕ) (s : Stepped X text at mode word from past) → mode' ≡ modeAfter mode s.w
-    → Y s.reading (events (modeAfter mode s.w) s.ws) → Passing Y text past mode'
+pub pass_on : (X Y : Reading → List Event → Type 0) (text : List ℕ) (at mode word from past mode' : ℕ) (s : Stepped X text at mode word from past) → mode' ≡ mode_after mode s.w
+    → Y s.reading (events (mode_after mode s.w) s.ws) → Passing Y text past mode'
 pass_on X Y text at mode word from past mode' s e y = record {
   inside = s.first.high;
   reading = s.reading;
   is = s.is;
-  left-words = s.ws;
+  left_words = s.ws;
   spells = record { after = wordy s.w; spelled = s.first.rest };
   left = rw e y;
 }
 
 -- what is left after the word spells words
-pub stepped-lexed : (X : Reading → List Event → Type 0) (text : List ℕ) (at mode word from past : ℕ) → Stepped X text at mode word from past → Lexed text past
-stepped-lexed X text at mode word from past s = record { inside = s.first.high; words = s.ws; spells = record { after = wordy s.w; spelled = s.first.rest } }
+pub stepped_lexed : (X : Reading → List Event → Type 0) (text : List ℕ) (at mode word from past : ℕ) → Stepped X text at mode word from past → Lexed text past
+stepped_lexed X text at mode word from past s = record { inside = s.first.high; words = s.ws; spells = record { after = wordy s.w; spelled = s.first.rest } }
 
 -- what is told of one reading is told of all
-pub of-all : {A : Type 0} (text : List ℕ) (f : Reading) (r : A) (T : Reading → A) → RuleText text f → r ≡ T f → (g : Reading) → RuleText text g → r ≡ T g
-of-all text f r T h e g k = e ∙ ap T (unique text f g h k)
+pub of_all : {A : Type 0} (text : List ℕ) (f : Reading) (r : A) (T : Reading → A) → RuleText text f → r ≡ T f → (g : Reading) → RuleText text g → r ≡ T g
+of_all text f r T h e g k = e ∙ ap T (unique text f g h k)

@@ -2,8 +2,8 @@
 use Rattle.std.specs.Prelude.{ℕ, suc, ◌+◌, ◌-◌, ◌≤◌, ◌<◌, ◌≡◌, Bool, true, false, not, ◌&&◌, ◌||◌, List, [], ◌∷◌, ◌++◌, eqb, ltb, length, take, drop}
 use Rattle.text.specs.Words.{Word, name, number, constant, prefix, binary, quantifier, opening, closing, comma, dot, bytes_of}
 use Rattle.text.specs.Grammar.{Term, variable, digits, Reading, truth, atom, under, joined, quantified, grouped}
-use Rattle.text.specs.Unfold.{valueAfter, listed}
-use Rattle.spelling.specs.Codes.{kind_of, modeAfter, Spells}
+use Rattle.text.specs.Unfold.{value_after, listed}
+use Rattle.spelling.specs.Codes.{kind_of, mode_after, Spells}
 
 -- the text spells words from the place on
 pub record Lexed (text : List ℕ) (at : ℕ) : Type 0 where
@@ -12,16 +12,16 @@ pub record Lexed (text : List ℕ) (at : ℕ) : Type 0 where
   pub spells : Spells words (drop at text)
 
 -- commas up to the next `)`, and the arguments after a name
-unfoldable pub commaOf : Word → ℕ
-commaOf w = elim (eqb (kind_of w) 8) [ true ↦ 1 | false ↦ 0 ]
+unfoldable pub comma_of : Word → ℕ
+comma_of w = elim (eqb (kind_of w) 8) [ true ↦ 1 | false ↦ 0 ]
 
-unfoldable pub commasIn : List Word → ℕ
-commasIn [] = 0
-commasIn (w ∷ ws) = elim (eqb (kind_of w) 7) [ true ↦ 0 | false ↦ commaOf w + commasIn ws ]
+unfoldable pub commas_in : List Word → ℕ
+commas_in [] = 0
+commas_in (w ∷ ws) = elim (eqb (kind_of w) 7) [ true ↦ 0 | false ↦ comma_of w + commas_in ws ]
 
-unfoldable pub argumentsIn : List Word → ℕ
-argumentsIn [] = 0
-argumentsIn (w ∷ ws) = elim (eqb (kind_of w) 6) [ true ↦ commasIn ws + 1 | false ↦ 0 ]
+unfoldable pub arguments_in : List Word → ℕ
+arguments_in [] = 0
+arguments_in (w ∷ ws) = elim (eqb (kind_of w) 6) [ true ↦ commas_in ws + 1 | false ↦ 0 ]
 
 -- an atom's name with the count of its arguments; a variable as an argument; a constant; a quantifier's variable; a parenthesis
 pub data Event : Type 0 where
@@ -36,57 +36,57 @@ unfoldable pub named : ℕ → List ℕ → ℕ → List Event
 named m x n = elim (eqb m 0) [ true ↦ call x n ∷ [] | false ↦ elim (eqb m 3) [ true ↦ binds x ∷ [] | false ↦ elim (eqb m 5) [ true ↦ uses x ∷ [] | false ↦ [] ] ] ]
 
 -- the event of a word, if any
-unfoldable pub eventOf : ℕ → Word → List Word → List Event
-eventOf m (name x) ws = named m x (argumentsIn ws)
-eventOf m (number ds) ws = value ds ∷ []
-eventOf m (constant b) ws = []
-eventOf m (prefix o) ws = []
-eventOf m (binary o) ws = []
-eventOf m (quantifier q) ws = []
-eventOf m opening ws = elim (eqb m 0) [ true ↦ opens ∷ [] | false ↦ [] ]
-eventOf m closing ws = elim (eqb m 6) [ true ↦ [] | false ↦ closes ∷ [] ]
-eventOf m comma ws = []
-eventOf m dot ws = []
+unfoldable pub event_of : ℕ → Word → List Word → List Event
+event_of m (name x) ws = named m x (arguments_in ws)
+event_of m (number ds) ws = value ds ∷ []
+event_of m (constant b) ws = []
+event_of m (prefix o) ws = []
+event_of m (binary o) ws = []
+event_of m (quantifier q) ws = []
+event_of m opening ws = elim (eqb m 0) [ true ↦ opens ∷ [] | false ↦ [] ]
+event_of m closing ws = elim (eqb m 6) [ true ↦ [] | false ↦ closes ∷ [] ]
+event_of m comma ws = []
+event_of m dot ws = []
 
 unfoldable pub events : ℕ → List Word → List Event
 events m [] = []
-events m (w ∷ ws) = eventOf m w ws ++ events (modeAfter m w) ws
+events m (w ∷ ws) = event_of m w ws ++ events (mode_after m w) ws
 
 -- the events of a reading
-unfoldable pub termEvents : List Term → List Event
-termEvents [] = []
-termEvents (variable x ∷ gs) = uses x ∷ termEvents gs
-termEvents (digits ds ∷ gs) = value ds ∷ termEvents gs
+unfoldable pub term_events : List Term → List Event
+term_events [] = []
+term_events (variable x ∷ gs) = uses x ∷ term_events gs
+term_events (digits ds ∷ gs) = value ds ∷ term_events gs
 
-unfoldable pub eventsOf : Reading → List Event
-eventsOf (truth b) = []
-eventsOf (atom p gs) = call p (length gs) ∷ termEvents gs
-eventsOf (under o f) = eventsOf f
-eventsOf (joined o f g) = eventsOf f ++ eventsOf g
-eventsOf (quantified q x f) = binds x ∷ eventsOf f
-eventsOf (grouped f) = opens ∷ (eventsOf f ++ (closes ∷ []))
+unfoldable pub events_of : Reading → List Event
+events_of (truth b) = []
+events_of (atom p gs) = call p (length gs) ∷ term_events gs
+events_of (under o f) = events_of f
+events_of (joined o f g) = events_of f ++ events_of g
+events_of (quantified q x f) = binds x ∷ events_of f
+events_of (grouped f) = opens ∷ (events_of f ++ (closes ∷ []))
 
 -- refusals 4 and 5 by events
 unfoldable pub large : List ℕ → Bool
-large ds = ltb 4294967295 (valueAfter 0 ds)
+large ds = ltb 4294967295 (value_after 0 ds)
 
-unfoldable pub largeIn : List Event → Bool
-largeIn [] = false
-largeIn (call p n ∷ es) = largeIn es
-largeIn (uses x ∷ es) = largeIn es
-largeIn (value ds ∷ es) = large ds || largeIn es
-largeIn (binds x ∷ es) = largeIn es
-largeIn (opens ∷ es) = largeIn es
-largeIn (closes ∷ es) = largeIn es
+unfoldable pub large_in : List Event → Bool
+large_in [] = false
+large_in (call p n ∷ es) = large_in es
+large_in (uses x ∷ es) = large_in es
+large_in (value ds ∷ es) = large ds || large_in es
+large_in (binds x ∷ es) = large_in es
+large_in (opens ∷ es) = large_in es
+large_in (closes ∷ es) = large_in es
 
-unfoldable pub manyIn : List Event → Bool
-manyIn [] = false
-manyIn (call p n ∷ es) = ltb 3 n || manyIn es
-manyIn (uses x ∷ es) = manyIn es
-manyIn (value ds ∷ es) = manyIn es
-manyIn (binds x ∷ es) = manyIn es
-manyIn (opens ∷ es) = manyIn es
-manyIn (closes ∷ es) = manyIn es
+unfoldable pub many_in : List Event → Bool
+many_in [] = false
+many_in (call p n ∷ es) = ltb 3 n || many_in es
+many_in (uses x ∷ es) = many_in es
+many_in (value ds ∷ es) = many_in es
+many_in (binds x ∷ es) = many_in es
+many_in (opens ∷ es) = many_in es
+many_in (closes ∷ es) = many_in es
 
 -- the names of predicates, or of variables, in order
 unfoldable pub named_by : Bool → Event → List (List ℕ)
@@ -103,6 +103,6 @@ named_by false (binds x) = x ∷ []
 named_by false opens = []
 named_by false closes = []
 
-unfoldable pub namesIn : Bool → List Event → List (List ℕ)
-namesIn b [] = []
-namesIn b (e ∷ es) = named_by b e ++ namesIn b es
+unfoldable pub names_in : Bool → List Event → List (List ℕ)
+names_in b [] = []
+names_in b (e ∷ es) = named_by b e ++ names_in b es

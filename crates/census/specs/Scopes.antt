@@ -2,7 +2,7 @@
 use Rattle.std.specs.Prelude.{ℕ, suc, ◌+◌, ◌-◌, ◌≤◌, ◌<◌, ◌≡◌, Bool, true, false, not, ◌&&◌, ◌||◌, List, [], ◌∷◌, ◌++◌, eqb, ltb, length, take, drop, get_or}
 use Rattle.text.specs.Words.{same}
 use Rattle.text.specs.Grammar.{Reading, RuleText}
-use Rattle.text.specs.Unfold.{number_in, variableNames}
+use Rattle.text.specs.Unfold.{number_in, variable_names}
 use Rattle.text.specs.Scope.{loose}
 use Rattle.census.specs.Folds.{Event, call, uses, value, binds, opens, closes}
 use Rattle.census.specs.Tables.{Table, names_at}
@@ -12,42 +12,42 @@ unfoldable pub lowered : ℕ → ℕ → ℕ
 lowered d s = elim (ltb d s) [ true ↦ 0 | false ↦ s ]
 
 -- a binding at depth d, unless there is one
-unfoldable pub bindingAt : ℕ → Bool → ℕ → ℕ
-bindingAt d true s = elim (eqb s 0) [ true ↦ d | false ↦ s ]
-bindingAt d false s = s
+unfoldable pub binding_at : ℕ → Bool → ℕ → ℕ
+binding_at d true s = elim (eqb s 0) [ true ↦ d | false ↦ s ]
+binding_at d false s = s
 
-abbrev pub bindIn : ℕ → List ℕ → (List ℕ → ℕ) → List ℕ → ℕ
-bindIn d x env y = bindingAt d (same x y) (env y)
+abbrev pub bind_in : ℕ → List ℕ → (List ℕ → ℕ) → List ℕ → ℕ
+bind_in d x env y = binding_at d (same x y) (env y)
 
-abbrev pub closeIn : ℕ → (List ℕ → ℕ) → List ℕ → ℕ
-closeIn d env y = lowered d (env y)
+abbrev pub close_in : ℕ → (List ℕ → ℕ) → List ℕ → ℕ
+close_in d env y = lowered d (env y)
 
 -- some variable comes that is not bound
-unfoldable pub looseIn : ℕ → (List ℕ → ℕ) → List Event → Bool
-looseIn d env [] = false
-looseIn d env (call p n ∷ es) = looseIn d env es
-looseIn d env (uses x ∷ es) = eqb (env x) 0 || looseIn d env es
-looseIn d env (value ds ∷ es) = looseIn d env es
-looseIn d env (binds x ∷ es) = looseIn d (bindIn d x env) es
-looseIn d env (opens ∷ es) = looseIn (suc d) env es
-looseIn d env (closes ∷ es) = looseIn (d - 1) (closeIn (d - 1) env) es
+unfoldable pub loose_in : ℕ → (List ℕ → ℕ) → List Event → Bool
+loose_in d env [] = false
+loose_in d env (call p n ∷ es) = loose_in d env es
+loose_in d env (uses x ∷ es) = eqb (env x) 0 || loose_in d env es
+loose_in d env (value ds ∷ es) = loose_in d env es
+loose_in d env (binds x ∷ es) = loose_in d (bind_in d x env) es
+loose_in d env (opens ∷ es) = loose_in (suc d) env es
+loose_in d env (closes ∷ es) = loose_in (d - 1) (close_in (d - 1) env) es
 
 -- what a word is: a name, `(`, `)` or another, where an operand, a variable, an argument or `,` must come, or none of these
-unfoldable pub nameEvent : Bool → Bool → List ℕ → List Event
-nameEvent true argument x = binds x ∷ []
-nameEvent false true x = uses x ∷ []
-nameEvent false false x = []
+unfoldable pub name_event : Bool → Bool → List ℕ → List Event
+name_event true argument x = binds x ∷ []
+name_event false true x = uses x ∷ []
+name_event false false x = []
 
 unfoldable pub chosen : Bool → Bool → Bool → Bool → Bool → Bool → Bool → List ℕ → List Event
-chosen true opening closing operand slot argument separator x = nameEvent slot argument x
+chosen true opening closing operand slot argument separator x = name_event slot argument x
 chosen false true closing true slot argument separator x = opens ∷ []
 chosen false true closing false slot argument separator x = []
 chosen false false true operand slot argument true x = []
 chosen false false true operand slot argument false x = closes ∷ []
 chosen false false false operand slot argument separator x = []
 
-unfoldable pub scopeEvent : ℕ → ℕ → List ℕ → List Event
-scopeEvent mode code x = chosen (eqb code 0) (eqb code 14) (eqb code 15) (eqb mode 0) (eqb mode 3) (eqb mode 5) (eqb mode 6) x
+unfoldable pub scope_event : ℕ → ℕ → List ℕ → List Event
+scope_event mode code x = chosen (eqb code 0) (eqb code 14) (eqb code 15) (eqb mode 0) (eqb mode 3) (eqb mode 5) (eqb mode 6) x
 
 -- the names are different
 abbrev pub Distinct : List (List ℕ) → Type 0
@@ -65,7 +65,7 @@ Scoped names since env = (v : ℕ) → v < length names → get_or since v 0 ≡
 pub record After (names : List (List ℕ)) (now : List Event) (since' : List ℕ) (d d' : ℕ) (r : Bool) (env : List ℕ → ℕ) : Type 0 where
   pub env' : List ℕ → ℕ
   pub scoped : Scoped names since' env'
-  pub tells : (es : List Event) → looseIn d env (now ++ es) ≡ (r || looseIn d' env' es)
+  pub tells : (es : List Event) → loose_in d env (now ++ es) ≡ (r || loose_in d' env' es)
 
 pub record Enters (names : List (List ℕ)) (now : List Event) (since since' : List ℕ) (d d' : ℕ) (r : Bool) : Type 0 where
   pub near : d' ≤ d + 1
@@ -76,7 +76,7 @@ pub record Enters (names : List (List ℕ)) (now : List Event) (since since' : L
 pub record Variables (text starts lengths : List ℕ) (n : ℕ) : Type 0 where
   pub few : n ≤ 4
   pub table : Table text starts lengths n
-  pub names : (f : Reading) → RuleText text f → names_at text starts lengths n ≡ variableNames f
+  pub names : (f : Reading) → RuleText text f → names_at text starts lengths n ≡ variable_names f
 
 -- refusal 8
 abbrev pub ToldLoose : List ℕ → Bool → Type 0

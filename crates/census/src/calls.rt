@@ -3,14 +3,14 @@
 ghost use Rattle.std.specs.Prelude.{◌≡◌, ◌≤◌, ◌<◌, ◌-◌, length, take, drop};
 ghost use Rattle.text.specs.Grammar.{HasReading};
 ghost use Rattle.census.specs.Folds.{Lexed};
-ghost use Rattle.census.specs.Told.{commaCode, Commas, Counts, ToldMany, Wide};
+ghost use Rattle.census.specs.Told.{comma_code, Commas, Counts, ToldMany, Wide};
 
 use spelling::modes::next_mode;
 use spelling::words::next_word;
 
 // 1 for a comma.
 fn is_comma(word: u8) -> usize
-    ensures { (result ≡ commaCode word) × (result ≤ 1) }
+    ensures { (result ≡ comma_code word) × (result ≤ 1) }
 {
     if word == 16 {
         return 1;

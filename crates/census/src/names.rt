@@ -2,7 +2,7 @@
 ghost use Rattle.std.specs.Prelude.{◌≡◌, ◌+◌, ◌-◌, ◌≤◌, ◌<◌, length, take, drop};
 ghost use Rattle.text.specs.Grammar.{HasReading};
 ghost use Rattle.text.specs.Unfold.{number_in};
-ghost use Rattle.census.specs.Tables.{Table, names_at, Within, Noted, askedFor, nameCode, ToldNames};
+ghost use Rattle.census.specs.Tables.{Table, names_at, Within, Noted, asked_for, name_code, ToldNames};
 
 use spelling::bytes::same_bytes;
 use spelling::modes::next_mode;
@@ -45,7 +45,7 @@ fn note(
 ) -> usize
     requires table { Table text.now starts.old lengths.old n × Within text.now from past }
     requires text_len_bound { (length text.now ≤ 4096) × (length starts.old ≡ length lengths.old) }
-    ensures { Noted text.now starts.old lengths.old n (askedFor asked (take (past - from) (drop from text.now))) starts.new lengths.new result }
+    ensures { Noted text.now starts.old lengths.old n (asked_for asked (take (past - from) (drop from text.now))) starts.new lengths.new result }
 {
     if !asked {
         return n;
@@ -64,7 +64,7 @@ fn note(
 
 // Whether a word is a predicate (a name where an operand must come), or a variable (a name after a quantifier, or an argument).
 pub fn is_name(predicates: bool, mode: u8, word: u8) -> bool
-    ensures { result ≡ nameCode predicates mode word }
+    ensures { result ≡ name_code predicates mode word }
 {
     if word != 0 {
         return false;

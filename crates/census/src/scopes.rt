@@ -3,8 +3,8 @@
 ghost use Rattle.std.specs.Prelude.{◌≡◌, true, false, ◌+◌, ◌-◌, ◌≤◌, ◌<◌, length, take, drop};
 ghost use Rattle.text.specs.Grammar.{HasReading};
 ghost use Rattle.text.specs.Unfold.{number_in};
-ghost use Rattle.census.specs.Tables.{Table, names_at, Within, nameCode};
-ghost use Rattle.census.specs.Scopes.{lowered, Lowered, bindingAt, scopeEvent, Enters, Variables, ToldLoose};
+ghost use Rattle.census.specs.Tables.{Table, names_at, Within, name_code};
+ghost use Rattle.census.specs.Scopes.{lowered, Lowered, binding_at, scope_event, Enters, Variables, ToldLoose};
 
 use crate::names::find;
 use spelling::modes::next_mode;
@@ -49,7 +49,7 @@ fn less(depth: usize) -> usize
 
 // A binding at the depth, unless there is one.
 fn bind(since: usize, depth: usize) -> usize
-    ensures { result ≡ bindingAt depth true since }
+    ensures { result ≡ binding_at depth true since }
 {
     if since == 0 {
         return depth;
@@ -70,8 +70,8 @@ fn enter(
 ) -> Entered
     requires table { Table text.now starts.now lengths.now n × Within text.now w.from w.past }
     requires n_bound { (n ≤ 4) × (depth < 9223372036854775808) }
-    requires text_bound { nameCode false mode w.word ≡ true → number_in (names_at text.now starts.now lengths.now n) (take (w.past - w.from) (drop w.from text.now)) < n }
-    ensures { Enters (names_at text.now starts.now lengths.now n) (scopeEvent mode w.word (take (w.past - w.from) (drop w.from text.now))) since.old since.new depth result.depth result.loose }
+    requires text_bound { name_code false mode w.word ≡ true → number_in (names_at text.now starts.now lengths.now n) (take (w.past - w.from) (drop w.from text.now)) < n }
+    ensures { Enters (names_at text.now starts.now lengths.now n) (scope_event mode w.word (take (w.past - w.from) (drop w.from text.now))) since.old since.new depth result.depth result.loose }
 {
     let word = w.word;
     if word == 0 {

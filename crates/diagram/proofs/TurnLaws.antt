@@ -8,23 +8,23 @@ use lib.ListN.{length, get_or, take, drop}
 use lib.Seq.{take-suc, drop-cons, take-length, drop-length}
 use Rattle.trees.specs.Bits.{Bits, Function, Same}
 use Rattle.trees.specs.Tree.{Tree, off, eval, Fine, tree_of}
-use Rattle.trees.specs.Table.{addTree, addTrees, at, treesOf}
-use Rattle.trees.proofs.TreeLaws.{fine-off}
-use Rattle.trees.proofs.FunctionLaws.{fine_of, tree-one, tree-same}
-use Rattle.trees.proofs.TableLaws.{adds-goes, goes-length}
+use Rattle.trees.specs.Table.{add_tree, add_trees, at, trees_of}
+use Rattle.trees.proofs.TreeLaws.{fine_off}
+use Rattle.trees.proofs.FunctionLaws.{fine_of, tree_one, tree_same}
+use Rattle.trees.proofs.TableLaws.{adds_goes, goes_length}
 use Rattle.nodes.specs.Nodes.{Grown, Stuck, Front, Rest}
-use Rattle.nodes.proofs.ReadLaws.{grown-ref, grown-count}
+use Rattle.nodes.proofs.ReadLaws.{grown_ref, grown_count}
 use Rattle.making.specs.declared.Place.{Place}
-use Rattle.making.specs.Cubes.{cubeSays, Over, SameShape}
-use Rattle.making.proofs.CubeLaws.{into-says, over-into, over-off, over-shape}
-use Rattle.making.proofs.WalkLaws.{front-trans, rest-trans}
+use Rattle.making.specs.Cubes.{cube_says, Over, SameShape}
+use Rattle.making.proofs.CubeLaws.{into_says, over_into, over_off, over_shape}
+use Rattle.making.proofs.WalkLaws.{front_trans, rest_trans}
 use Rattle.walks.specs.Desks.{Desk, Remembered}
-use Rattle.walks.proofs.DeskLaws.{desk-stays}
+use Rattle.walks.proofs.DeskLaws.{desk_stays}
 use Rattle.diagram.specs.declared.Turn.{Turn}
 use Rattle.diagram.specs.declared.Turn.TheVariants.{Miss, Hit}
-use Rattle.diagram.specs.Steps.{turnSays, turnsSay, turnStages}
+use Rattle.diagram.specs.Steps.{turn_says, turns_say, turn_stages}
 use Rattle.diagram.specs.Works.{TurnOver, Shaped, Reached, Short}
-use Rattle.diagram.proofs.RemovalLaws.{tree-eval}
+use Rattle.diagram.proofs.RemovalLaws.{tree_eval}
 
 or_no : (b : Bool) → (b || false) ≡ b
 or_no true = refl
@@ -35,35 +35,35 @@ or_assoc true b c = refl
 or_assoc false b c = refl
 
 -- one turn more
-turns-snoc : (k : ℕ) (ts : List Turn) (t : Turn) (s : Bits) → turnsSay k (ts ++ t ∷ []) s ≡ (turnsSay k ts s || turnSays k t s)
-unfolding turnsSay
-turns-snoc k [] t s = or_no (turnSays k t s)
-turns-snoc k (u ∷ ts) t s = ap (λ (b : Bool). turnSays k u s || b) (turns-snoc k ts t s) ∙ or_assoc (turnSays k u s) (turnsSay k ts s) (turnSays k t s)
+turns_snoc : (k : ℕ) (ts : List Turn) (t : Turn) (s : Bits) → turns_say k (ts ++ t ∷ []) s ≡ (turns_say k ts s || turn_says k t s)
+unfolding turns_say
+turns_snoc k [] t s = or_no (turn_says k t s)
+turns_snoc k (u ∷ ts) t s = ap (λ (b : Bool). turn_says k u s || b) (turns_snoc k ts t s) ∙ or_assoc (turn_says k u s) (turns_say k ts s) (turn_says k t s)
 
 -- the same of places that are turned round
-shape-sym : {ps qs : List Place} → SameShape ps qs → SameShape qs ps
-shape-sym e = record { each = λ v h. sym (e.each v h) }
+shape_sym : {ps qs : List Place} → SameShape ps qs → SameShape qs ps
+shape_sym e = record { each = λ v h. sym (e.each v h) }
 
 module _ {k : ℕ} {ps : List Place} {d : Tree} (o : Over k ps d) where
   -- a diagram over these variables can take a turn that gives numbers to them
   pub takes : (t : Turn) → Shaped ps t → TurnOver k t d
   takes Miss s = o.fine
-  takes (Hit x y z u) s = over-shape s o
+  takes (Hit x y z u) s = over_shape s o
 
   -- what is said after it
-  after-says : (t : Turn) → Shaped ps t → Same (eval (tree_of (4 * k) (λ s. eval d s || turnSays k t s))) (λ s. eval d s || turnSays k t s)
-  after-says Miss h s =
-      ap (λ (t : Tree). eval t s) (tree-same (4 * k) _ (eval d) (λ x. or_no (eval d x)) ∙ tree-eval (4 * k) d o.fine) ∙ sym (or_no (eval d s))
-  after-says (Hit x y z u) h s = into-says k (x ∷ y ∷ z ∷ u ∷ []) (over-shape h o) s
+  after_says : (t : Turn) → Shaped ps t → Same (eval (tree_of (4 * k) (λ s. eval d s || turn_says k t s))) (λ s. eval d s || turn_says k t s)
+  after_says Miss h s =
+      ap (λ (t : Tree). eval t s) (tree_same (4 * k) _ (eval d) (λ x. or_no (eval d x)) ∙ tree_eval (4 * k) d o.fine) ∙ sym (or_no (eval d s))
+  after_says (Hit x y z u) h s = into_says k (x ∷ y ∷ z ∷ u ∷ []) (over_shape h o) s
 
   -- and it is over these variables again
-  after-over : (t : Turn) → Shaped ps t → Over k ps (tree_of (4 * k) (λ s. eval d s || turnSays k t s))
-  after-over Miss h = rw (tree-same (4 * k) (λ s. eval d s || false) (eval d) (λ x. or_no (eval d x)), tree-eval (4 * k) d o.fine) o
-  after-over (Hit x y z u) h = over-shape (shape-sym h) (over-into k (x ∷ y ∷ z ∷ u ∷ []) (over-shape h o))
+  after_over : (t : Turn) → Shaped ps t → Over k ps (tree_of (4 * k) (λ s. eval d s || turn_says k t s))
+  after_over Miss h = rw (tree_same (4 * k) (λ s. eval d s || false) (eval d) (λ x. or_no (eval d x)), tree_eval (4 * k) d o.fine) o
+  after_over (Hit x y z u) h = over_shape (shape_sym h) (over_into k (x ∷ y ∷ z ∷ u ∷ []) (over_shape h o))
 
 -- a turn that misses adds nothing
-pub miss-tree : (k : ℕ) {d : Tree} → Fine 0 (4 * k) d → tree_of (4 * k) (λ s. eval d s || turnSays k Miss s) ≡ d
-miss-tree k {d} f = tree-same (4 * k) (λ s. eval d s || false) (eval d) (λ x. or_no (eval d x)) ∙ tree-eval (4 * k) d f
+pub miss_tree : (k : ℕ) {d : Tree} → Fine 0 (4 * k) d → tree_of (4 * k) (λ s. eval d s || turn_says k Miss s) ≡ d
+miss_tree k {d} f = tree_same (4 * k) (λ s. eval d s || false) (eval d) (λ x. or_no (eval d x)) ∙ tree_eval (4 * k) d f
 
 -- The first n nodes of ns₀ are where an atom of these turns starts, which all give numbers to the variables of ps: after f turns r leads to its diagram.
 pub record Turning (k : ℕ) (all : List Turn) (ps : List Place) (ns₀ : List ℕ) (n : ℕ) (ns : List ℕ) (m r f : ℕ) (w₀ w : List ℕ) (c slots : ℕ) : Type 0 where
@@ -73,25 +73,25 @@ pub record Turning (k : ℕ) (all : List Turn) (ps : List Place) (ns₀ : List �
   pub rest : Rest (3 * m) ns₀ ns
   pub more : n ≤ m
   pub below : r < m + 2
-  pub is : at (treesOf ns m) r ≡ tree_of (4 * k) (turnsSay k (take f all))
-  pub says : Same (eval (at (treesOf ns m) r)) (turnsSay k (take f all))
-  pub over : Over k ps (at (treesOf ns m) r)
-  pub adds : addTrees (treesOf ns m) (map (tree_of (4 * k)) (turnStages k (take f all) (drop f all))) ≡ addTrees (treesOf ns₀ n) (map (tree_of (4 * k)) (turnStages k [] all))
+  pub is : at (trees_of ns m) r ≡ tree_of (4 * k) (turns_say k (take f all))
+  pub says : Same (eval (at (trees_of ns m) r)) (turns_say k (take f all))
+  pub over : Over k ps (at (trees_of ns m) r)
+  pub adds : add_trees (trees_of ns m) (map (tree_of (4 * k)) (turn_stages k (take f all) (drop f all))) ≡ add_trees (trees_of ns₀ n) (map (tree_of (4 * k)) (turn_stages k [] all))
 
 -- no turn is taken yet
-pub turning-none : {k : ℕ} {ns : List ℕ} {n : ℕ} {w : List ℕ} {c slots : ℕ} (all : List Turn) (ps : List Place) → Desk ns n (4 * k) w c slots
+pub turning_none : {k : ℕ} {ns : List ℕ} {n : ℕ} {w : List ℕ} {c slots : ℕ} (all : List Turn) (ps : List Place) → Desk ns n (4 * k) w c slots
     → Turning k all ps ns n ns n 0 0 w w c slots
-unfolding turnsSay at eval
-turning-none {k} {ns} {n} all ps d = record {
-  kept = desk-stays d;
+unfolding turns_say at eval
+turning_none {k} {ns} {n} all ps d = record {
+  kept = desk_stays d;
   size = refl;
   same = record { eq = λ i l. refl };
   rest = record { eq = λ i l. refl };
   more = omega arith;
   below = omega arith;
-  is = sym (tree-one (4 * k) (λ s. false) (record { only = λ s t h. refl }) off (fine-off 0 (4 * k)) (λ s. refl));
+  is = sym (tree_one (4 * k) (λ s. false) (record { only = λ s t h. refl }) off (fine_off 0 (4 * k)) (λ s. refl));
   says = λ s. refl;
-  over = over-off k ps;
+  over = over_off k ps;
   adds = refl;
 }
 
@@ -102,58 +102,58 @@ module _ {k : ℕ} {all : List Turn} {ps : List Place} {ns₀ : List ℕ} {n : �
   here = get_or all f Miss
 
   abbrev next : Function
-  next s = eval (at (treesOf ns m) r) s || turnSays k here s
+  next s = eval (at (trees_of ns m) r) s || turn_says k here s
 
-  next-says : turnsSay k (take (suc f) all) ≡ next
-  next-says = fun_ext (λ s. rw (take-suc all f Miss inside) (turns-snoc k (take f all) here s ∙ ap (λ (b : Bool). b || turnSays k here s) (sym (v.says s))))
+  next_says : turns_say k (take (suc f) all) ≡ next
+  next_says = fun_ext (λ s. rw (take-suc all f Miss inside) (turns_snoc k (take f all) here s ∙ ap (λ (b : Bool). b || turn_says k here s) (sym (v.says s))))
 
   -- its stages are those that are left
-  left : addTrees (addTree (treesOf ns m) (tree_of (4 * k) next)) (map (tree_of (4 * k)) (turnStages k (take (suc f) all) (drop (suc f) all)))
-      ≡ addTrees (treesOf ns₀ n) (map (tree_of (4 * k)) (turnStages k [] all))
-  unfolding turnStages addTrees
+  left : add_trees (add_tree (trees_of ns m) (tree_of (4 * k) next)) (map (tree_of (4 * k)) (turn_stages k (take (suc f) all) (drop (suc f) all)))
+      ≡ add_trees (trees_of ns₀ n) (map (tree_of (4 * k)) (turn_stages k [] all))
+  unfolding turn_stages add_trees
   left =
-      let e : turnStages k (take f all) (drop f all) ≡ turnsSay k (take (suc f) all) ∷ turnStages k (take (suc f) all) (drop (suc f) all) = rw (drop-cons all f Miss inside, take-suc all f Miss inside) in
-      ap (λ (g : Function). addTrees (addTree (treesOf ns m) (tree_of (4 * k) g)) (map (tree_of (4 * k)) (turnStages k (take (suc f) all) (drop (suc f) all)))) (sym next-says)
-      ∙ ap (λ (gs : List Function). addTrees (treesOf ns m) (map (tree_of (4 * k)) gs)) (sym e) ∙ v.adds
+      let e : turn_stages k (take f all) (drop f all) ≡ turns_say k (take (suc f) all) ∷ turn_stages k (take (suc f) all) (drop (suc f) all) = rw (drop-cons all f Miss inside, take-suc all f Miss inside) in
+      ap (λ (g : Function). add_trees (add_tree (trees_of ns m) (tree_of (4 * k) g)) (map (tree_of (4 * k)) (turn_stages k (take (suc f) all) (drop (suc f) all)))) (sym next_says)
+      ∙ ap (λ (gs : List Function). add_trees (trees_of ns m) (map (tree_of (4 * k)) gs)) (sym e) ∙ v.adds
 
   -- one turn more is taken
-  pub turning-more : Shaped ps here → {ns' : List ℕ} {m' r' : ℕ} {w' : List ℕ} → Grown ns ns' m m' r' (tree_of (4 * k) next) → Remembered w ns' m' (4 * k) w' c slots
+  pub turning_more : Shaped ps here → {ns' : List ℕ} {m' r' : ℕ} {w' : List ℕ} → Grown ns ns' m m' r' (tree_of (4 * k) next) → Remembered w ns' m' (4 * k) w' c slots
       → Turning k all ps ns₀ n ns' m' r' (suc f) w₀ w' c slots
-  turning-more h {ns'} {m'} {r'} g d =
+  turning_more h {ns'} {m'} {r'} g d =
       let more = v.more in
-      let count = grown-count g in
+      let count = grown_count g in
       record {
-        kept = record { desk = d.desk; same = front-trans v.kept.same d.same (omega arith) };
+        kept = record { desk = d.desk; same = front_trans v.kept.same d.same (omega arith) };
         size = g.size ∙ v.size;
-        same = front-trans v.same g.same (omega arith);
-        rest = rest-trans v.rest g.rest (omega arith);
+        same = front_trans v.same g.same (omega arith);
+        rest = rest_trans v.rest g.rest (omega arith);
         more = omega arith;
-        below = grown-ref g;
-        is = g.ref.is ∙ ap (tree_of (4 * k)) (sym next-says);
-        says = λ s. ap (λ (t : Tree). eval t s) g.ref.is ∙ after-says v.over here h s ∙ ap (λ (p : Function). p s) (sym next-says);
-        over = rw g.ref.is (after-over v.over here h);
+        below = grown_ref g;
+        is = g.ref.is ∙ ap (tree_of (4 * k)) (sym next_says);
+        says = λ s. ap (λ (t : Tree). eval t s) g.ref.is ∙ after_says v.over here h s ∙ ap (λ (p : Function). p s) (sym next_says);
+        over = rw g.ref.is (after_over v.over here h);
         adds = rw g.trees left;
       }
 
   -- there is no room for the next diagram
-  pub turning-short : {ns' : List ℕ} → Stuck ns ns' m (tree_of (4 * k) next) → Short (4 * k) ns₀ ns' n (turnStages k [] all)
-  turning-short {ns'} s =
+  pub turning_short : {ns' : List ℕ} → Stuck ns ns' m (tree_of (4 * k) next) → Short (4 * k) ns₀ ns' n (turn_stages k [] all)
+  turning_short {ns'} s =
       let more = v.more in
-      let far = goes-length (adds-goes (map (tree_of (4 * k)) (turnStages k (take (suc f) all) (drop (suc f) all))) (addTree (treesOf ns m) (tree_of (4 * k) next))) in
+      let far = goes_length (adds_goes (map (tree_of (4 * k)) (turn_stages k (take (suc f) all) (drop (suc f) all))) (add_tree (trees_of ns m) (tree_of (4 * k) next))) in
       record {
         over = rw (← left) (omega (arith, s.over, v.size));
         size = s.size ∙ v.size;
-        same = front-trans v.same s.same (omega arith);
+        same = front_trans v.same s.same (omega arith);
       }
 
 -- all turns are taken
-pub turning-all : {k : ℕ} {all : List Turn} {ps : List Place} {ns₀ : List ℕ} {n : ℕ} {ns : List ℕ} {m r f : ℕ} {w₀ w : List ℕ} {c slots : ℕ} → f ≡ length all
-    → Turning k all ps ns₀ n ns m r f w₀ w c slots → Reached (4 * k) ns₀ ns n m r (turnStages k [] all) (turnsSay k all)
-unfolding turnStages addTrees
-turning-all {k} {all} {ns = ns} {m = m} {f = f} e v = record {
+pub turning_all : {k : ℕ} {all : List Turn} {ps : List Place} {ns₀ : List ℕ} {n : ℕ} {ns : List ℕ} {m r f : ℕ} {w₀ w : List ℕ} {c slots : ℕ} → f ≡ length all
+    → Turning k all ps ns₀ n ns m r f w₀ w c slots → Reached (4 * k) ns₀ ns n m r (turn_stages k [] all) (turns_say k all)
+unfolding turn_stages add_trees
+turning_all {k} {all} {ns = ns} {m = m} {f = f} e v = record {
   size = v.size;
-  trees = ap (λ (us : List Turn). addTrees (treesOf ns m) (map (tree_of (4 * k)) (turnStages k (take f all) us))) (sym (ap (λ (x : ℕ). drop x all) e ∙ drop-length all)) ∙ v.adds;
-  ref = record { below = v.below; is = v.is ∙ ap (λ (ts : List Turn). tree_of (4 * k) (turnsSay k ts)) (ap (λ (x : ℕ). take x all) e ∙ take-length all) };
+  trees = ap (λ (us : List Turn). add_trees (trees_of ns m) (map (tree_of (4 * k)) (turn_stages k (take f all) us))) (sym (ap (λ (x : ℕ). drop x all) e ∙ drop-length all)) ∙ v.adds;
+  ref = record { below = v.below; is = v.is ∙ ap (λ (ts : List Turn). tree_of (4 * k) (turns_say k ts)) (ap (λ (x : ℕ). take x all) e ∙ take-length all) };
   same = v.same;
   rest = v.rest;
 }

@@ -3,9 +3,9 @@
 use Rattle.std.specs.Prelude.{ℕ, zero, suc, ◌+◌, ◌*◌, ◌-◌, ◌/◌, ◌≡◌, Bool, true, false, not, ◌&&◌, ◌||◌, List, [], ◌∷◌, ◌++◌, map, eqb, leb, length, get_or, replicate, drop as from}
 use Rattle.trees.specs.Bits.{Function, drop, drops}
 use Rattle.trees.specs.Tree.{Tree, off, eval, tree_of}
-use Rattle.trees.specs.Table.{addTrees, refOf, show, treesOf}
-use Rattle.trees.specs.Kept.{diagrams, wellKept}
-use Rattle.trees.specs.Sizes.{sizesOf, sizesRight}
+use Rattle.trees.specs.Table.{add_trees, ref_of, show, trees_of}
+use Rattle.trees.specs.Kept.{diagrams, well_kept}
+use Rattle.trees.specs.Sizes.{sizes_of, sizes_right}
 use Rattle.diagram.specs.declared.Instruction.{Instruction}
 use Rattle.diagram.specs.declared.Instruction.TheVariants.{Yes, And, Not, Since, Old, Drop}
 use Rattle.diagram.specs.declared.Turn.{Turn}
@@ -14,8 +14,8 @@ use Rattle.diagram.specs.declared.Told.{Told}
 use Rattle.diagram.specs.declared.Told.TheVariants.{Unfit, Bad, Full, Done}
 use Rattle.diagram.specs.declared.Formed.{Formed}
 use Rattle.diagram.specs.declared.Formed.TheVariants as formed
-use Rattle.making.specs.Cubes.{cubeSays}
-use Rattle.keeping.specs.Checks.{freeBy}
+use Rattle.making.specs.Cubes.{cube_says}
+use Rattle.keeping.specs.Checks.{free_by}
 
 -- the function of row a of some diagrams: no where there is no row a
 unfoldable pub says : List Tree → ℕ → Function
@@ -27,69 +27,69 @@ pub data Task : Type 0 where
   does : Instruction → Task
 
 -- the points of one turn, and of some: "An atom holds for a binding if some fact matches."
-abbrev pub turnSays : ℕ → Turn → Function
-turnSays k Miss s = false
-turnSays k (Hit x y z u) s = cubeSays k (x ∷ y ∷ z ∷ u ∷ []) s
+abbrev pub turn_says : ℕ → Turn → Function
+turn_says k Miss s = false
+turn_says k (Hit x y z u) s = cube_says k (x ∷ y ∷ z ∷ u ∷ []) s
 
-unfoldable pub turnsSay : ℕ → List Turn → Function
-turnsSay k [] s = false
-turnsSay k (t ∷ ts) s = turnSays k t s || turnsSay k ts s
+unfoldable pub turns_say : ℕ → List Turn → Function
+turns_say k [] s = false
+turns_say k (t ∷ ts) s = turn_says k t s || turns_say k ts s
 
 -- the new function of row i, by its instruction, from the old functions and those of the rows worked so far
-unfoldable pub instructionSays : ℕ → (ℕ → Function) → (ℕ → Function) → ℕ → Instruction → Function
-instructionSays k old now i Yes s = true
-instructionSays k old now i (And a b) s = now a s && now b s
-instructionSays k old now i (Not a) s = not (now a s)
-instructionSays k old now i (Since l r) s = now r s || (now l s && old i s)
-instructionSays k old now i (Old a) s = old a s
-instructionSays k old now i (Drop v a) s = drops (v * k) k (now a) s
+unfoldable pub instruction_says : ℕ → (ℕ → Function) → (ℕ → Function) → ℕ → Instruction → Function
+instruction_says k old now i Yes s = true
+instruction_says k old now i (And a b) s = now a s && now b s
+instruction_says k old now i (Not a) s = not (now a s)
+instruction_says k old now i (Since l r) s = now r s || (now l s && old i s)
+instruction_says k old now i (Old a) s = old a s
+instruction_says k old now i (Drop v a) s = drops (v * k) k (now a) s
 
 -- and by its task
-unfoldable pub taskSays : ℕ → (ℕ → Function) → (ℕ → Function) → ℕ → Task → Function
-taskSays k old now i (facts ts) = turnsSay k ts
-taskSays k old now i (does x) = instructionSays k old now i x
+unfoldable pub task_says : ℕ → (ℕ → Function) → (ℕ → Function) → ℕ → Task → Function
+task_says k old now i (facts ts) = turns_say k ts
+task_says k old now i (does x) = instruction_says k old now i x
 
 -- an atom's function after each turn, those done standing first
-unfoldable pub turnStages : ℕ → List Turn → List Turn → List Function
-turnStages k done [] = []
-turnStages k done (t ∷ ts) = turnsSay k (done ++ t ∷ []) ∷ turnStages k (done ++ t ∷ []) ts
+unfoldable pub turn_stages : ℕ → List Turn → List Turn → List Function
+turn_stages k done [] = []
+turn_stages k done (t ∷ ts) = turns_say k (done ++ t ∷ []) ∷ turn_stages k (done ++ t ∷ []) ts
 
 -- the functions met when n bits from base on are removed one at a time, from the highest down
-unfoldable pub dropStages : ℕ → ℕ → Function → List Function
-dropStages base zero g = []
-dropStages base (suc n) g = drop (base + n) g ∷ dropStages base n (drop (base + n) g)
+unfoldable pub drop_stages : ℕ → ℕ → Function → List Function
+drop_stages base zero g = []
+drop_stages base (suc n) g = drop (base + n) g ∷ drop_stages base n (drop (base + n) g)
 
 -- the functions met in the work of row i: those of a removal, bit by bit, and else the new function alone
-unfoldable pub stagesOf : ℕ → (ℕ → Function) → (ℕ → Function) → ℕ → Instruction → List Function
-stagesOf k old now i Yes = instructionSays k old now i Yes ∷ []
-stagesOf k old now i (And a b) = instructionSays k old now i (And a b) ∷ []
-stagesOf k old now i (Not a) = instructionSays k old now i (Not a) ∷ []
-stagesOf k old now i (Since l r) = instructionSays k old now i (Since l r) ∷ []
-stagesOf k old now i (Old a) = instructionSays k old now i (Old a) ∷ []
-stagesOf k old now i (Drop v a) = dropStages (v * k) k (now a)
+unfoldable pub stages_of : ℕ → (ℕ → Function) → (ℕ → Function) → ℕ → Instruction → List Function
+stages_of k old now i Yes = instruction_says k old now i Yes ∷ []
+stages_of k old now i (And a b) = instruction_says k old now i (And a b) ∷ []
+stages_of k old now i (Not a) = instruction_says k old now i (Not a) ∷ []
+stages_of k old now i (Since l r) = instruction_says k old now i (Since l r) ∷ []
+stages_of k old now i (Old a) = instruction_says k old now i (Old a) ∷ []
+stages_of k old now i (Drop v a) = drop_stages (v * k) k (now a)
 
 -- and of an atom, "its function after each fact in turn"
-unfoldable pub taskStages : ℕ → (ℕ → Function) → (ℕ → Function) → ℕ → Task → List Function
-taskStages k old now i (facts ts) = turnStages k [] ts
-taskStages k old now i (does x) = stagesOf k old now i x
+unfoldable pub task_stages : ℕ → (ℕ → Function) → (ℕ → Function) → ℕ → Task → List Function
+task_stages k old now i (facts ts) = turn_stages k [] ts
+task_stages k old now i (does x) = stages_of k old now i x
 
 -- the diagrams with that of row i after them
 unfoldable pub with_row : ℕ → List Task → List Tree → ℕ → List Tree → List Tree
-with_row k plan old i now = now ++ tree_of (4 * k) (taskSays k (says old) (says now) i (get_or plan i (does Yes))) ∷ []
+with_row k plan old i now = now ++ tree_of (4 * k) (task_says k (says old) (says now) i (get_or plan i (does Yes))) ∷ []
 
 -- the new diagrams of the first n rows
-unfoldable pub newTrees : ℕ → List Task → List Tree → ℕ → List Tree
-newTrees k plan old zero = []
-newTrees k plan old (suc i) = with_row k plan old i (newTrees k plan old i)
+unfoldable pub new_trees : ℕ → List Task → List Tree → ℕ → List Tree
+new_trees k plan old zero = []
+new_trees k plan old (suc i) = with_row k plan old i (new_trees k plan old i)
 
 -- the functions met in the work of the first n rows
 unfoldable pub stages : ℕ → List Task → List Tree → ℕ → List Function
 stages k plan old zero = []
-stages k plan old (suc i) = stages k plan old i ++ taskStages k (says old) (says (newTrees k plan old i)) i (get_or plan i (does Yes))
+stages k plan old (suc i) = stages k plan old i ++ task_stages k (says old) (says (new_trees k plan old i)) i (get_or plan i (does Yes))
 
 -- the working table: the kept nodes, and then the diagrams of the functions met, in order
-unfoldable pub workTable : ℕ → ℕ → List Task → List ℕ → ℕ → List ℕ → List Tree
-workTable k count plan refs kept ns = addTrees (treesOf ns kept) (map (tree_of (4 * k)) (stages k plan (diagrams ns kept refs count) count))
+unfoldable pub work_table : ℕ → ℕ → List Task → List ℕ → ℕ → List ℕ → List Tree
+work_table k count plan refs kept ns = add_trees (trees_of ns kept) (map (tree_of (4 * k)) (stages k plan (diagrams ns kept refs count) count))
 
 -- the functions that document 01 counts: each row's before the event, each row's after it, those met when bits are removed, and an
 -- atom's after each fact
@@ -121,22 +121,22 @@ cleared C w = replicate (16 * C + 1024) 0 ++ from (16 * C + 1024) w
 unfoldable pub layout : List Tree → ℕ → List Tree → ℕ → List ℕ → List ℕ → Outcome
 layout ds count T room ns w = record {
   told = Done (length T) room;
-  refs = map (refOf T) ds ++ replicate (64 - count) 0;
-  sizes = sizesOf ds;
+  refs = map (ref_of T) ds ++ replicate (64 - count) 0;
+  sizes = sizes_of ds;
   nodes = show T T ++ replicate (length ns - 3 * length T) 0;
   work = cleared (length ns / 3) w;
 }
 
 -- what is left of well kept diagrams: all as it was where the room is over C, and else the new diagrams' layout
-unfoldable pub workOutcome : Bool → ℕ → ℕ → List Task → List ℕ → List ℕ → ℕ → List ℕ → List ℕ → Outcome
-workOutcome false k count plan refs sizes kept ns w = record { told = Full; refs = refs; sizes = sizes; nodes = ns; work = cleared (length ns / 3) w }
-workOutcome true k count plan refs sizes kept ns w =
-    let ds = newTrees k plan (diagrams ns kept refs count) count in
-    layout ds count (addTrees [] ds) (length (workTable k count plan refs kept ns)) ns w
+unfoldable pub work_outcome : Bool → ℕ → ℕ → List Task → List ℕ → List ℕ → ℕ → List ℕ → List ℕ → Outcome
+work_outcome false k count plan refs sizes kept ns w = record { told = Full; refs = refs; sizes = sizes; nodes = ns; work = cleared (length ns / 3) w }
+work_outcome true k count plan refs sizes kept ns w =
+    let ds = new_trees k plan (diagrams ns kept refs count) count in
+    layout ds count (add_trees [] ds) (length (work_table k count plan refs kept ns)) ns w
 
 -- the diagrams are well kept, and the sizes are theirs: "sizes that don't fit the diagrams give 4"
-abbrev pub keptRight : ℕ → ℕ → List ℕ → List ℕ → List ℕ → ℕ → List ℕ → Bool
-keptRight k count allowed refs sizes kept ns = wellKept (freeBy k allowed) (length ns / 3) count refs kept ns && sizesRight sizes (diagrams ns kept refs count)
+abbrev pub kept_right : ℕ → ℕ → List ℕ → List ℕ → List ℕ → ℕ → List ℕ → Bool
+kept_right k count allowed refs sizes kept ns = well_kept (free_by k allowed) (length ns / 3) count refs kept ns && sizes_right sizes (diagrams ns kept refs count)
 
 -- the cases in their order: are the numbers and lengths fit, are the diagrams well kept, their sizes right, and what follows then
 abbrev pub judge : Bool → Bool → List ℕ → List ℕ → List ℕ → List ℕ → Outcome → Outcome
@@ -145,10 +145,10 @@ judge true false refs sizes ns w then = record { told = Bad; refs = refs; sizes 
 judge true true refs sizes ns w then = then
 
 -- what a step gives back and leaves
-unfoldable pub stepOutcome : ℕ → ℕ → List Task → List ℕ → List ℕ → List ℕ → ℕ → List ℕ → List ℕ → Outcome
-stepOutcome k count plan allowed refs sizes kept ns w =
-    judge (fits k count (length ns) (length w)) (keptRight k count allowed refs sizes kept ns) refs sizes ns w
-    (workOutcome (leb (length (workTable k count plan refs kept ns)) (length ns / 3)) k count plan refs sizes kept ns w)
+unfoldable pub step_outcome : ℕ → ℕ → List Task → List ℕ → List ℕ → List ℕ → ℕ → List ℕ → List ℕ → Outcome
+step_outcome k count plan allowed refs sizes kept ns w =
+    judge (fits k count (length ns) (length w)) (kept_right k count allowed refs sizes kept ns) refs sizes ns w
+    (work_outcome (leb (length (work_table k count plan refs kept ns)) (length ns / 3)) k count plan refs sizes kept ns w)
 
 -- a step that told this and left these references, sizes and slices had this outcome
 pub record Leaves (o : Outcome) (t : Told) (refs' sizes' ns w : List ℕ) : Type 0 where
@@ -164,14 +164,14 @@ pub record Checked : Type 0 where
   pub work : List ℕ
 
 -- the same cases without the work
-abbrev pub judgeFormed : Bool → Bool → ℕ → List ℕ → Checked
-judgeFormed false good C w = record { gives = formed.Unfit; work = w }
-judgeFormed true false C w = record { gives = formed.Bad; work = cleared C w }
-judgeFormed true true C w = record { gives = formed.Good; work = cleared C w }
+abbrev pub judge_formed : Bool → Bool → ℕ → List ℕ → Checked
+judge_formed false good C w = record { gives = formed.Unfit; work = w }
+judge_formed true false C w = record { gives = formed.Bad; work = cleared C w }
+judge_formed true true C w = record { gives = formed.Good; work = cleared C w }
 
 -- what a check gives back and leaves
-unfoldable pub formedOutcome : ℕ → ℕ → List ℕ → List ℕ → List ℕ → ℕ → List ℕ → List ℕ → Checked
-formedOutcome k count allowed refs sizes kept ns w = judgeFormed (fits k count (length ns) (length w)) (keptRight k count allowed refs sizes kept ns) (length ns / 3) w
+unfoldable pub formed_outcome : ℕ → ℕ → List ℕ → List ℕ → List ℕ → ℕ → List ℕ → List ℕ → Checked
+formed_outcome k count allowed refs sizes kept ns w = judge_formed (fits k count (length ns) (length w)) (kept_right k count allowed refs sizes kept ns) (length ns / 3) w
 
 -- a check that gave this back and left this work slice had this outcome
 pub record Tells (o : Checked) (gives : Formed) (w : List ℕ) : Type 0 where

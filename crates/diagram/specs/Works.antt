@@ -2,7 +2,7 @@
 use Rattle.std.specs.Prelude.{ℕ, ◌+◌, ◌*◌, ◌-◌, ◌/◌, ◌≤◌, ◌<◌, ◌≡◌, Bool, true, false, List, [], ◌∷◌, map, length, get_or, replicate}
 use Rattle.trees.specs.Bits.{Function}
 use Rattle.trees.specs.Tree.{Tree, off, eval, Fine, tree_of}
-use Rattle.trees.specs.Table.{addTrees, at, treesOf}
+use Rattle.trees.specs.Table.{add_trees, at, trees_of}
 use Rattle.making.specs.declared.Place.{Place}
 use Rattle.making.specs.declared.Made.{Made}
 use Rattle.making.specs.declared.Made.TheVariants as made
@@ -12,14 +12,14 @@ use Rattle.diagram.specs.declared.Instruction.{Instruction}
 use Rattle.diagram.specs.declared.Instruction.TheVariants.{Yes, And, Not, Since, Old, Drop}
 use Rattle.diagram.specs.declared.Turn.{Turn}
 use Rattle.diagram.specs.declared.Turn.TheVariants.{Miss, Hit}
-use Rattle.trees.specs.Sizes.{nodeCount}
+use Rattle.trees.specs.Sizes.{node_count}
 use Rattle.visits.specs.Visits.{complement, Refines}
 use Rattle.nodes.specs.Nodes.{Table, Front, Rest, To}
 use Rattle.making.specs.Cubes.{Over, SameShape}
 use Rattle.walks.specs.Walks.{Within}
 use Rattle.walks.specs.Desks.{Desk, Remembered}
-use Rattle.walks.specs.Complements.{mapOf}
-use Rattle.diagram.specs.Steps.{Task, facts, does, taskSays, taskStages, newTrees, stages}
+use Rattle.walks.specs.Complements.{map_of}
+use Rattle.diagram.specs.Steps.{Task, facts, does, task_says, task_stages, new_trees, stages}
 use Rattle.diagram.specs.Counts.{counting, ceiling}
 
 -- the numbers that a step can work with
@@ -47,7 +47,7 @@ pub record Ready (k count : ℕ) (refs : List ℕ) (kept : ℕ) (ns : List ℕ) 
 
 -- the functions that references lead to
 unfoldable pub led : List ℕ → ℕ → List ℕ → ℕ → Function
-led ns n refs a = eval (at (treesOf ns n) (get_or refs a 0))
+led ns n refs a = eval (at (trees_of ns n) (get_or refs a 0))
 
 -- the level of bit 0 of the variable v: past all levels for a v past the four variables
 pub record Base (k v base : ℕ) : Type 0 where
@@ -68,14 +68,14 @@ Shaped ps (Hit x y z u) = SameShape ps (x ∷ y ∷ z ∷ u ∷ [])
 -- the trees of the functions gs were added in order, and r leads to the tree of f
 pub record Reached (levels : ℕ) (ns ns' : List ℕ) (n n' r : ℕ) (gs : List Function) (f : Function) : Type 0 where
   pub size : length ns' ≡ length ns
-  pub trees : treesOf ns' n' ≡ addTrees (treesOf ns n) (map (tree_of levels) gs)
+  pub trees : trees_of ns' n' ≡ add_trees (trees_of ns n) (map (tree_of levels) gs)
   pub ref : To ns' n' r (tree_of levels f)
   pub same : Front (3 * n) ns ns'
   pub rest : Rest (3 * n') ns ns'
 
 -- there is no room for them all
 pub record Short (levels : ℕ) (ns ns' : List ℕ) (n : ℕ) (gs : List Function) : Type 0 where
-  pub over : length ns < 3 * length (addTrees (treesOf ns n) (map (tree_of levels) gs))
+  pub over : length ns < 3 * length (add_trees (trees_of ns n) (map (tree_of levels) gs))
   pub size : length ns' ≡ length ns
   pub same : Front (3 * n) ns ns'
 
@@ -91,13 +91,13 @@ plainly (made.At n r) = At n r 0
 
 -- no complement was walked
 pub record Plain (w w' : List ℕ) (c v : ℕ) : Type 0 where
-  pub map : mapOf c w' ≡ mapOf c w
+  pub map : map_of c w' ≡ map_of c w
   pub none : v ≡ 0
 
 -- the complement of p's diagram was walked
 pub record Walked (levels : ℕ) (ns ns' : List ℕ) (n n' p r : ℕ) (w w' : List ℕ) (c v : ℕ) : Type 0 where
-  pub refines : Refines (complement ns levels (treesOf ns n) (mapOf c w) p) (treesOf ns' n') (mapOf c w') r v
-  pub most : v ≤ 2 * nodeCount (at (treesOf ns n) p) + 1
+  pub refines : Refines (complement ns levels (trees_of ns n) (map_of c w) p) (trees_of ns' n') (map_of c w') r v
+  pub most : v ≤ 2 * node_count (at (trees_of ns n) p) + 1
   pub fits : v ≤ 8193
 
 -- what the work on a row with an instruction leaves of the map, and its visits
@@ -116,20 +116,20 @@ TolledBy levels ns ns' n n' r news w w' c v (does x) = Tolled levels ns ns' n n'
 
 -- the work on row i, whose task is x, left ns' and w' and said m
 abbrev pub RowDone : ℕ → List ℕ → List ℕ → ℕ → List ℕ → List ℕ → ℕ → Task → List ℕ → List ℕ → ℕ → ℕ → Counted → Type 0
-RowDone k ns ns' n olds news i x w w' c slots Full = Short (4 * k) ns ns' n (taskStages k (led ns n olds) (led ns n news) i x)
+RowDone k ns ns' n olds news i x w w' c slots Full = Short (4 * k) ns ns' n (task_stages k (led ns n olds) (led ns n news) i x)
 RowDone k ns ns' n olds news i x w w' c slots (At n' r v) =
-    Reached (4 * k) ns ns' n n' r (taskStages k (led ns n olds) (led ns n news) i x) (taskSays k (led ns n olds) (led ns n news) i x)
+    Reached (4 * k) ns ns' n n' r (task_stages k (led ns n olds) (led ns n news) i x) (task_says k (led ns n olds) (led ns n news) i x)
     × Desk ns' n' (4 * k) w' c slots
     × TolledBy (4 * k) ns ns' n n' r news w w' c v x
 
 -- the references lead to these diagrams, and to no past them
 abbrev pub Are : List ℕ → ℕ → List ℕ → List Tree → Type 0
-Are ns n refs ds = (a : ℕ) → at (treesOf ns n) (get_or refs a 0) ≡ get_or ds a off
+Are ns n refs ds = (a : ℕ) → at (trees_of ns n) (get_or refs a 0) ≡ get_or ds a off
 
 -- before the first row: zeros behind the nodes, and an empty map
 pub record Fresh (ns : List ℕ) (n : ℕ) (w : List ℕ) (c : ℕ) : Type 0 where
   pub behind : (j : ℕ) → 3 * n ≤ j → get_or ns j 0 ≡ 0
-  pub map : mapOf c w ≡ replicate c 0
+  pub map : map_of c w ≡ replicate c 0
 
 -- the visits v of the first i rows are those of the definition, as are the table and the map that they leave
 pub record Tallied (size k : ℕ) (plan : List Task) (old ts : List Tree) (i : ℕ) (us : List Tree) (noted : List ℕ) (v : ℕ) : Type 0 where
@@ -145,13 +145,13 @@ pub record Through (k : ℕ) (plan : List Task) (old : List Tree) (ns₀ : List 
   pub size : length ns ≡ length ns₀
   pub same : Front (3 * kept) ns₀ ns
   pub behind : (j : ℕ) → 3 * n ≤ j → get_or ns j 0 ≡ 0
-  pub trees : treesOf ns n ≡ addTrees (treesOf ns₀ kept) (map (tree_of (4 * k)) (stages k plan old i))
-  pub old-lead : Leads ns n (4 * k) olds
-  pub old-are : Are ns n olds old
-  pub new-lead : Leads ns n (4 * k) news
-  pub new-are : Are ns n news (newTrees k plan old i)
+  pub trees : trees_of ns n ≡ add_trees (trees_of ns₀ kept) (map (tree_of (4 * k)) (stages k plan old i))
+  pub old_lead : Leads ns n (4 * k) olds
+  pub old_are : Are ns n olds old
+  pub new_lead : Leads ns n (4 * k) news
+  pub new_are : Are ns n news (new_trees k plan old i)
   pub none : (a : ℕ) → i ≤ a → get_or news a 0 ≡ 0
-  pub tally : Tallied (length ns₀) k plan old (treesOf ns₀ kept) i (treesOf ns n) (mapOf c w) v
+  pub tally : Tallied (length ns₀) k plan old (trees_of ns₀ kept) i (trees_of ns n) (map_of c w) v
 
 -- what the work on all rows says: no room, or all worked with v visits
 abbrev pub Ran : ℕ → List Task → List Tree → List ℕ → ℕ → List ℕ → List ℕ → ℕ → ℕ → List ℕ → ℕ → Bool → ℕ → List ℕ → ℕ → Type 0

@@ -3,10 +3,10 @@
 ghost use Rattle.std.specs.Prelude.{◌≡◌, ◌*◌, ◌≤◌, length, get_or};
 ghost use Rattle.trees.specs.Bits.{drops};
 ghost use Rattle.trees.specs.Tree.{eval};
-ghost use Rattle.trees.specs.Table.{at, treesOf};
+ghost use Rattle.trees.specs.Table.{at, trees_of};
 ghost use Rattle.walks.specs.Walks.{Within};
 ghost use Rattle.walks.specs.Desks.{Desk};
-ghost use Rattle.diagram.specs.Steps.{dropStages, does};
+ghost use Rattle.diagram.specs.Steps.{drop_stages, does};
 ghost use Rattle.diagram.specs.Works.{Leads, Worked, Base, plainly, RowDone};
 
 use crate::Instruction;
@@ -49,7 +49,7 @@ fn drops_row(
 ) -> Made
     requires k_bound { (k ≤ 10) × Desk nodes.old n (4 * k) work.old c slots }
     requires within { Within nodes.old n (4 * k) (4 * k) p }
-    ensures { Worked (4 * k) nodes.old nodes.new n (dropStages (v * k) k (eval (at (treesOf nodes.old n) p))) (drops (v * k) k (eval (at (treesOf nodes.old n) p))) work.old work.new c slots result }
+    ensures { Worked (4 * k) nodes.old nodes.new n (drop_stages (v * k) k (eval (at (trees_of nodes.old n) p))) (drops (v * k) k (eval (at (trees_of nodes.old n) p))) work.old work.new c slots result }
 {
     let base = first_level(k, v);
     let mut m = n;

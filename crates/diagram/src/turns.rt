@@ -1,9 +1,9 @@
 // What one fact adds to an atom's diagram. Assumes that the first n nodes are a table, whose chains stand in the work slice.
 ghost use Rattle.std.specs.Prelude.{◌+◌, ◌*◌, ◌<◌, ◌≤◌, ◌||◌};
 ghost use Rattle.trees.specs.Tree.{eval, tree_of};
-ghost use Rattle.trees.specs.Table.{at, treesOf};
+ghost use Rattle.trees.specs.Table.{at, trees_of};
 ghost use Rattle.making.specs.Tables.{Added, Shelf, Shelved};
-ghost use Rattle.diagram.specs.Steps.{turnSays};
+ghost use Rattle.diagram.specs.Steps.{turn_says};
 ghost use Rattle.diagram.specs.Works.{TurnOver};
 
 use crate::Turn;
@@ -21,8 +21,8 @@ pub fn take_turn(
     p: u32,
 ) -> Made
     requires shelf { Shelf nodes.old n work.old c }
-    requires k_bound { (4 * k ≤ 64) × (p < n + 2) × TurnOver k turn (at (treesOf nodes.old n) p) }
-    ensures { Added (λ ns j. Shelved work.old ns j work.new c) nodes.old nodes.new n (tree_of (4 * k) (λ s. eval (at (treesOf nodes.old n) p) s || turnSays k turn s)) result }
+    requires k_bound { (4 * k ≤ 64) × (p < n + 2) × TurnOver k turn (at (trees_of nodes.old n) p) }
+    ensures { Added (λ ns j. Shelved work.old ns j work.new c) nodes.old nodes.new n (tree_of (4 * k) (λ s. eval (at (trees_of nodes.old n) p) s || turn_says k turn s)) result }
 {
     match turn {
         Turn::Miss => Made::At(n, p),

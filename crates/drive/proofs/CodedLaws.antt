@@ -15,26 +15,26 @@ coded code bs =
     ∷ binary sinces ∷ binary ands ∷ binary ors ∷ binary implies ∷ quantifier universal ∷ quantifier existential ∷ opening ∷ closing ∷ comma ∷ [])
     code dot
 
-coded-is : (w : Word) → w ≡ coded (code_of w) (bytes_of w)
+coded_is : (w : Word) → w ≡ coded (code_of w) (bytes_of w)
 unfolding coded code_of bytes_of
-coded-is (name bs) = refl
-coded-is (number ds) = refl
-coded-is (constant true) = refl
-coded-is (constant false) = refl
-coded-is (prefix once) = refl
-coded-is (prefix historically) = refl
-coded-is (prefix previously) = refl
-coded-is (prefix negation) = refl
-coded-is (binary sinces) = refl
-coded-is (binary ands) = refl
-coded-is (binary ors) = refl
-coded-is (binary implies) = refl
-coded-is (quantifier universal) = refl
-coded-is (quantifier existential) = refl
-coded-is opening = refl
-coded-is closing = refl
-coded-is comma = refl
-coded-is dot = refl
+coded_is (name bs) = refl
+coded_is (number ds) = refl
+coded_is (constant true) = refl
+coded_is (constant false) = refl
+coded_is (prefix once) = refl
+coded_is (prefix historically) = refl
+coded_is (prefix previously) = refl
+coded_is (prefix negation) = refl
+coded_is (binary sinces) = refl
+coded_is (binary ands) = refl
+coded_is (binary ors) = refl
+coded_is (binary implies) = refl
+coded_is (quantifier universal) = refl
+coded_is (quantifier existential) = refl
+coded_is opening = refl
+coded_is closing = refl
+coded_is comma = refl
+coded_is dot = refl
 
-pub word-is : (w : Word) (code n : ℕ) → code ≡ code_of w → code ≡ n → w ≡ coded n (bytes_of w)
-word-is w code n e z = coded-is w ∙ ap (λ (i : ℕ). coded i (bytes_of w)) (sym e ∙ z)
+pub word_is : (w : Word) (code n : ℕ) → code ≡ code_of w → code ≡ n → w ≡ coded n (bytes_of w)
+word_is w code n e z = coded_is w ∙ ap (λ (i : ℕ). coded i (bytes_of w)) (sym e ∙ z)

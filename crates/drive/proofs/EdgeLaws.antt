@@ -5,13 +5,13 @@ use mathlib.Core.Path.{◌≡◌, refl, sym, ap, ◌∙◌}
 use mathlib.Core.List.{List, [], ◌∷◌}
 use Rattle.text.specs.Words.{Word, binary, closing, Binary}
 use Rattle.text.specs.Grammar.{Reading, atom}
-use Rattle.text.specs.Machine.{Frame, Stage, wants, ended, named, binds, bound, argues, argued, stopped, atEnd, atName, give, reads, result}
+use Rattle.text.specs.Machine.{Frame, Stage, wants, ended, named, binds, bound, argues, argued, stopped, at_end, at_name, give, reads, result}
 use Rattle.text.specs.Unfold.{unfolded}
 use Rattle.text.specs.Parts.{parts}
-use Rattle.text.specs.Held.{Waiting, pushRows, Shut, shutRows, endRows}
+use Rattle.text.specs.Held.{Waiting, push_rows, Shut, shut_rows, end_rows}
 use Rattle.text.proofs.RowedLaws.{Stood}
 use Rattle.text.proofs.HeldLaws.{Ended}
-use Rattle.text.proofs.StackLaws.{Waits, WaitsAt, push-waits, EndedAt, shut-ended, end-rows}
+use Rattle.text.proofs.StackLaws.{Waits, WaitsAt, push_waits, EndedAt, shut_ended, end_rows_law}
 
 module _ (ps vs : List (List ℕ)) where
   -- the frames wait for an operand
@@ -29,35 +29,35 @@ module _ (ps vs : List (List ℕ)) where
   AtEdge (argued p gs ks) s = ⊥
   AtEdge stopped s = ⊥
 
-  pub edge-push : (t : Stage) (o : Binary) (s : Shut) → AtEdge t s → WaitsAt ps vs (give t (binary o)) (pushRows o s.last s.stack)
-  unfolding give atEnd atName
-  edge-push (wants ks) o s e = absurd e
-  edge-push (ended f ks) o s e = push-waits ps vs o f ks s.last s.stack e
-  edge-push (named p ks) o s e = push-waits ps vs o (atom p []) ks s.last s.stack e
-  edge-push (binds q ks) o s e = absurd e
-  edge-push (bound q x ks) o s e = absurd e
-  edge-push (argues p gs ks) o s e = absurd e
-  edge-push (argued p gs ks) o s e = absurd e
-  edge-push stopped o s e = absurd e
+  pub edge_push : (t : Stage) (o : Binary) (s : Shut) → AtEdge t s → WaitsAt ps vs (give t (binary o)) (push_rows o s.last s.stack)
+  unfolding give at_end at_name
+  edge_push (wants ks) o s e = absurd e
+  edge_push (ended f ks) o s e = push_waits ps vs o f ks s.last s.stack e
+  edge_push (named p ks) o s e = push_waits ps vs o (atom p []) ks s.last s.stack e
+  edge_push (binds q ks) o s e = absurd e
+  edge_push (bound q x ks) o s e = absurd e
+  edge_push (argues p gs ks) o s e = absurd e
+  edge_push (argued p gs ks) o s e = absurd e
+  edge_push stopped o s e = absurd e
 
-  pub edge-shut : (t : Stage) (s : Shut) → AtEdge t s → EndedAt ps vs (give t closing) (shutRows s.last s.stack)
-  unfolding give atEnd atName
-  edge-shut (wants ks) s e = absurd e
-  edge-shut (ended f ks) s e = shut-ended ps vs f ks s.last s.stack e
-  edge-shut (named p ks) s e = shut-ended ps vs (atom p []) ks s.last s.stack e
-  edge-shut (binds q ks) s e = absurd e
-  edge-shut (bound q x ks) s e = absurd e
-  edge-shut (argues p gs ks) s e = absurd e
-  edge-shut (argued p gs ks) s e = absurd e
-  edge-shut stopped s e = absurd e
+  pub edge_shut : (t : Stage) (s : Shut) → AtEdge t s → EndedAt ps vs (give t closing) (shut_rows s.last s.stack)
+  unfolding give at_end at_name
+  edge_shut (wants ks) s e = absurd e
+  edge_shut (ended f ks) s e = shut_ended ps vs f ks s.last s.stack e
+  edge_shut (named p ks) s e = shut_ended ps vs (atom p []) ks s.last s.stack e
+  edge_shut (binds q ks) s e = absurd e
+  edge_shut (bound q x ks) s e = absurd e
+  edge_shut (argues p gs ks) s e = absurd e
+  edge_shut (argued p gs ks) s e = absurd e
+  edge_shut stopped s e = absurd e
 
-  pub edge-end : (t : Stage) (s : Shut) (g : Reading) → AtEdge t s → result t ≡ reads g → Stood (parts (unfolded ps vs g)) (unfolded ps vs g) (endRows s.last s.stack)
+  pub edge_end : (t : Stage) (s : Shut) (g : Reading) → AtEdge t s → result t ≡ reads g → Stood (parts (unfolded ps vs g)) (unfolded ps vs g) (end_rows s.last s.stack)
   unfolding result
-  edge-end (wants ks) s g e z = absurd e
-  edge-end (ended f ks) s g e z = end-rows ps vs f ks s.last s.stack g e z
-  edge-end (named p ks) s g e z = end-rows ps vs (atom p []) ks s.last s.stack g e z
-  edge-end (binds q ks) s g e z = absurd e
-  edge-end (bound q x ks) s g e z = absurd e
-  edge-end (argues p gs ks) s g e z = absurd e
-  edge-end (argued p gs ks) s g e z = absurd e
-  edge-end stopped s g e z = absurd e
+  edge_end (wants ks) s g e z = absurd e
+  edge_end (ended f ks) s g e z = end_rows_law ps vs f ks s.last s.stack g e z
+  edge_end (named p ks) s g e z = end_rows_law ps vs (atom p []) ks s.last s.stack g e z
+  edge_end (binds q ks) s g e z = absurd e
+  edge_end (bound q x ks) s g e z = absurd e
+  edge_end (argues p gs ks) s g e z = absurd e
+  edge_end (argued p gs ks) s g e z = absurd e
+  edge_end stopped s g e z = absurd e

@@ -8,57 +8,57 @@ use lib.ListN.{length, take, drop}
 use Rattle.meaning.specs.Rows
 use Rattle.text.specs.Words.{Word, name, number, constant, prefix, binary, quantifier, opening, closing, comma, dot, Prefix, once, historically, previously, negation, sinces, ands, ors, implies, universal, existential, bytes_of}
 use Rattle.text.specs.Unfold.{number_in}
-use Rattle.text.specs.Parts.{nine, pairsOf}
-use Rattle.text.specs.Emit.{Rowed, makeRow, negated}
+use Rattle.text.specs.Parts.{nine, pairs_of}
+use Rattle.text.specs.Emit.{Rowed, make_row, negated}
 use Rattle.text.specs.Held.{Held, mark, applies, quantifies, Shut}
 use Rattle.spelling.specs.Codes.{code_of, Spells}
 use Rattle.rowing.specs.Denoted.{Holds, Denotes, Makes}
-use Rattle.rowing.specs.Framing.{plainNine, Turns, frameKind, frameHeld}
+use Rattle.rowing.specs.Framing.{plain_nine, Turns, frame_kind, frame_held}
 use Rattle.rowing.specs.Stacking.{stack_of, AllFramed, Filled, Waited}
-use Rattle.atomic.specs.Arguments.{argumentsAfter}
-use Rattle.drive.specs.Drives.{slotAfter, stacked, rowed, withTrue, atOperand}
+use Rattle.atomic.specs.Arguments.{arguments_after}
+use Rattle.drive.specs.Drives.{slot_after, stacked, rowed, with_true, at_operand}
 use Rattle.drive.specs.Driving.{SlotAt, Atomic, Keeps, Coming, Moves, Holding, HoldingTrue}
-use Rattle.drive.proofs.CodedLaws.{coded, word-is}
+use Rattle.drive.proofs.CodedLaws.{coded, word_is}
 
 -- the row of true
-true-made : (flat : List ℕ) (count : ℕ) (flat' : List ℕ) (count' row' : ℕ) (rows : List (List ℕ)) → Makes flat count (plainNine 1 0 0) flat' count' row' → Holds flat count rows
-    → Denotes flat' count' row' (makeRow rows (nine Rows.truth))
-unfolding nine pairsOf plainNine
-true-made flat count flat' count' row' rows m h = m.makes rows (nine Rows.truth) h (λ l. refl)
+true_made : (flat : List ℕ) (count : ℕ) (flat' : List ℕ) (count' row' : ℕ) (rows : List (List ℕ)) → Makes flat count (plain_nine 1 0 0) flat' count' row' → Holds flat count rows
+    → Denotes flat' count' row' (make_row rows (nine Rows.truth))
+unfolding nine pairs_of plain_nine
+true_made flat count flat' count' row' rows m h = m.makes rows (nine Rows.truth) h (λ l. refl)
 
 -- a prefix operator has one kind, whatever it holds
-prefix-kind : (o : Prefix) (t : ℕ) → frameKind (applies o 0) ≡ frameKind (applies o t)
-unfolding frameKind
-prefix-kind once t = refl
-prefix-kind historically t = refl
-prefix-kind previously t = refl
-prefix-kind negation t = refl
+prefix_kind : (o : Prefix) (t : ℕ) → frame_kind (applies o 0) ≡ frame_kind (applies o t)
+unfolding frame_kind
+prefix_kind once t = refl
+prefix_kind historically t = refl
+prefix_kind previously t = refl
+prefix_kind negation t = refl
 
-held-row : (o : Prefix) (row t : ℕ) → row < 64 → row ≡ t → row % 64 ≡ frameHeld (applies o t)
-unfolding frameHeld
-held-row o row t l e = omega arith
+held_row : (o : Prefix) (row t : ℕ) → row < 64 → row ≡ t → row % 64 ≡ frame_held (applies o t)
+unfolding frame_held
+held_row o row t l e = omega arith
 
-pub true-held : (kind : ℕ) (frames flat : List ℕ) (count row top : ℕ) (frames' flat' : List ℕ) (count' row' top' : ℕ) → Makes flat count (plainNine 1 0 0) flat' count' row'
+pub true_held : (kind : ℕ) (frames flat : List ℕ) (count row top : ℕ) (frames' flat' : List ℕ) (count' row' top' : ℕ) → Makes flat count (plain_nine 1 0 0) flat' count' row'
     → Waited frames top kind (row' % 64) frames' top' → HoldingTrue kind frames flat count row top frames' flat' count' row' top'
-true-held kind frames flat count row top frames' flat' count' row' top' m w = record {
+true_held kind frames flat count row top frames' flat' count' row' top' m w = record {
   sized = m.sized;
-  framed-sized = w.sized;
+  framed_sized = w.sized;
   most = m.most;
   near = omega (arith, w.higher);
-  moves = λ o e s f. unfold stacked withTrue rowed in (by o e s f (true-made flat count flat' count' row' s.last.rows m f.denotes.holds));
+  moves = λ o e s f. unfold stacked with_true rowed in (by o e s f (true_made flat count flat' count' row' s.last.rows m f.denotes.holds));
 }
   where
-    by : (o : Prefix) → kind ≡ frameKind (applies o 0) → (s : Shut) → Filled frames flat count row top s → Denotes flat' count' row' (makeRow s.last.rows (nine Rows.truth))
-        → Keeps frames' flat' count' row' top' (record { last = makeRow s.last.rows (nine Rows.truth); stack = applies o (makeRow s.last.rows (nine Rows.truth)).row ∷ s.stack })
+    by : (o : Prefix) → kind ≡ frame_kind (applies o 0) → (s : Shut) → Filled frames flat count row top s → Denotes flat' count' row' (make_row s.last.rows (nine Rows.truth))
+        → Keeps frames' flat' count' row' top' (record { last = make_row s.last.rows (nine Rows.truth); stack = applies o (make_row s.last.rows (nine Rows.truth)).row ∷ s.stack })
     by o e s f d = record {
       denotes = d;
       framed = λ l.
-          w.waits (applies o (makeRow s.last.rows (nine Rows.truth)).row) s.stack (e ∙ prefix-kind o (makeRow s.last.rows (nine Rows.truth)).row)
-          (held-row o row' (makeRow s.last.rows (nine Rows.truth)).row d.small (d.here l)) f.framed;
+          w.waits (applies o (make_row s.last.rows (nine Rows.truth)).row) s.stack (e ∙ prefix_kind o (make_row s.last.rows (nine Rows.truth)).row)
+          (held_row o row' (make_row s.last.rows (nine Rows.truth)).row d.small (d.here l)) f.framed;
     }
 
 -- a frame that waits, the rows staying as they are
-held_keeps : (kind held : ℕ) (h : Held) (frames flat : List ℕ) (count row top : ℕ) (frames' : List ℕ) (count' row' top' : ℕ) (s : Shut) → kind ≡ frameKind h → held ≡ frameHeld h
+held_keeps : (kind held : ℕ) (h : Held) (frames flat : List ℕ) (count row top : ℕ) (frames' : List ℕ) (count' row' top' : ℕ) (s : Shut) → kind ≡ frame_kind h → held ≡ frame_held h
     → Holding kind held frames count row top frames' count' row' top' → Filled frames flat count row top s → Keeps frames' flat count' row' top' (stacked h s)
 unfolding stacked
 held_keeps kind held h frames flat count row top frames' count' row' top' s k e o f =
@@ -70,195 +70,195 @@ filled_keeps frames flat count row top s f = record { denotes = f.denotes; frame
 
 module _ (ps vs : List (List ℕ)) (text : List ℕ) (code from past : ℕ) (frames flat : List ℕ) (count row top : ℕ) where
   -- a name
-  name-keeps : (w : Word) (ws : List Word) (flat' : List ℕ) (count' row' : ℕ) (s : Shut) → Coming vs text 0 code from past w ws → code ≡ 0
+  name_keeps : (w : Word) (ws : List Word) (flat' : List ℕ) (count' row' : ℕ) (s : Shut) → Coming vs text 0 code from past w ws → code ≡ 0
       → Atomic ps vs text (take (past - from) (drop from text)) past flat count flat' count' row' → Filled frames flat count row top s
-      → Keeps frames flat' count' row' top (atOperand ps vs (coded 0 (bytes_of w)) ws s)
-  unfolding coded atOperand rowed
-  name-keeps w ws flat' count' row' s c z a f = record {
-    denotes = rw (← c.bytes-are) (a.makes ws c.rest c.small (c.few refl (sym c.code_is ∙ z)) s.last.rows f.denotes.holds);
+      → Keeps frames flat' count' row' top (at_operand ps vs (coded 0 (bytes_of w)) ws s)
+  unfolding coded at_operand rowed
+  name_keeps w ws flat' count' row' s c z a f = record {
+    denotes = rw (← c.bytes_are) (a.makes ws c.rest c.small (c.few refl (sym c.code_is ∙ z)) s.last.rows f.denotes.holds);
     framed = λ l. f.framed;
   }
 
-  pub operand-name : (flat' : List ℕ) (count' row' : ℕ) → code ≡ 0 → Atomic ps vs text (take (past - from) (drop from text)) past flat count flat' count' row'
-      → Moves vs (atOperand ps vs) text 0 code from past frames flat count row top frames flat' count' row' top
-  operand-name flat' count' row' z a = record {
+  pub operand_name : (flat' : List ℕ) (count' row' : ℕ) → code ≡ 0 → Atomic ps vs text (take (past - from) (drop from text)) past flat count flat' count' row'
+      → Moves vs (at_operand ps vs) text 0 code from past frames flat count row top frames flat' count' row' top
+  operand_name flat' count' row' z a = record {
     sized = a.sized;
-    framed-sized = refl;
+    framed_sized = refl;
     most = a.most;
     near = omega arith;
-    moves = λ w ws c s f. rw (word-is w code 0 c.code_is z) (name-keeps w ws flat' count' row' s c z a f);
+    moves = λ w ws c s f. rw (word_is w code 0 c.code_is z) (name_keeps w ws flat' count' row' s c z a f);
   }
 
   -- `true` and `false`
-  true-keeps : (bs : List ℕ) (ws : List Word) (flat' : List ℕ) (count' row' : ℕ) (s : Shut) → Makes flat count (plainNine 1 0 0) flat' count' row' → Filled frames flat count row top s
-      → Keeps frames flat' count' row' top (atOperand ps vs (coded 2 bs) ws s)
-  unfolding coded atOperand withTrue rowed
-  true-keeps bs ws flat' count' row' s m f = record { denotes = true-made flat count flat' count' row' s.last.rows m f.denotes.holds; framed = λ l. f.framed }
+  true_keeps : (bs : List ℕ) (ws : List Word) (flat' : List ℕ) (count' row' : ℕ) (s : Shut) → Makes flat count (plain_nine 1 0 0) flat' count' row' → Filled frames flat count row top s
+      → Keeps frames flat' count' row' top (at_operand ps vs (coded 2 bs) ws s)
+  unfolding coded at_operand with_true rowed
+  true_keeps bs ws flat' count' row' s m f = record { denotes = true_made flat count flat' count' row' s.last.rows m f.denotes.holds; framed = λ l. f.framed }
 
-  pub operand-true : (flat' : List ℕ) (count' row' : ℕ) → code ≡ 2 → Makes flat count (plainNine 1 0 0) flat' count' row'
-      → Moves vs (atOperand ps vs) text 0 code from past frames flat count row top frames flat' count' row' top
-  operand-true flat' count' row' z m = record {
+  pub operand_true : (flat' : List ℕ) (count' row' : ℕ) → code ≡ 2 → Makes flat count (plain_nine 1 0 0) flat' count' row'
+      → Moves vs (at_operand ps vs) text 0 code from past frames flat count row top frames flat' count' row' top
+  operand_true flat' count' row' z m = record {
     sized = m.sized;
-    framed-sized = refl;
+    framed_sized = refl;
     most = m.most;
     near = omega arith;
-    moves = λ w ws c s f. rw (word-is w code 2 c.code_is z) (true-keeps (bytes_of w) ws flat' count' row' s m f);
+    moves = λ w ws c s f. rw (word_is w code 2 c.code_is z) (true_keeps (bytes_of w) ws flat' count' row' s m f);
   }
 
-  false-keeps : (bs : List ℕ) (ws : List Word) (flat₁ : List ℕ) (count₁ row₁ : ℕ) (flat' : List ℕ) (count' row' : ℕ) (s : Shut) → Makes flat count (plainNine 1 0 0) flat₁ count₁ row₁
-      → Turns negated flat₁ count₁ row₁ flat' count' row' → Filled frames flat count row top s → Keeps frames flat' count' row' top (atOperand ps vs (coded 3 bs) ws s)
-  unfolding coded atOperand withTrue rowed
-  false-keeps bs ws flat₁ count₁ row₁ flat' count' row' s m t f = record {
-    denotes = t.turns (makeRow s.last.rows (nine Rows.truth)) (true-made flat count flat₁ count₁ row₁ s.last.rows m f.denotes.holds);
+  false_keeps : (bs : List ℕ) (ws : List Word) (flat₁ : List ℕ) (count₁ row₁ : ℕ) (flat' : List ℕ) (count' row' : ℕ) (s : Shut) → Makes flat count (plain_nine 1 0 0) flat₁ count₁ row₁
+      → Turns negated flat₁ count₁ row₁ flat' count' row' → Filled frames flat count row top s → Keeps frames flat' count' row' top (at_operand ps vs (coded 3 bs) ws s)
+  unfolding coded at_operand with_true rowed
+  false_keeps bs ws flat₁ count₁ row₁ flat' count' row' s m t f = record {
+    denotes = t.turns (make_row s.last.rows (nine Rows.truth)) (true_made flat count flat₁ count₁ row₁ s.last.rows m f.denotes.holds);
     framed = λ l. f.framed;
   }
 
-  pub operand-false : (flat₁ : List ℕ) (count₁ row₁ : ℕ) (flat' : List ℕ) (count' row' : ℕ) → code ≡ 3 → Makes flat count (plainNine 1 0 0) flat₁ count₁ row₁
-      → Turns negated flat₁ count₁ row₁ flat' count' row' → Moves vs (atOperand ps vs) text 0 code from past frames flat count row top frames flat' count' row' top
-  operand-false flat₁ count₁ row₁ flat' count' row' z m t = record {
+  pub operand_false : (flat₁ : List ℕ) (count₁ row₁ : ℕ) (flat' : List ℕ) (count' row' : ℕ) → code ≡ 3 → Makes flat count (plain_nine 1 0 0) flat₁ count₁ row₁
+      → Turns negated flat₁ count₁ row₁ flat' count' row' → Moves vs (at_operand ps vs) text 0 code from past frames flat count row top frames flat' count' row' top
+  operand_false flat₁ count₁ row₁ flat' count' row' z m t = record {
     sized = t.sized ∙ m.sized;
-    framed-sized = refl;
+    framed_sized = refl;
     most = t.most;
     near = omega arith;
-    moves = λ w ws c s f. rw (word-is w code 3 c.code_is z) (false-keeps (bytes_of w) ws flat₁ count₁ row₁ flat' count' row' s m t f);
+    moves = λ w ws c s f. rw (word_is w code 3 c.code_is z) (false_keeps (bytes_of w) ws flat₁ count₁ row₁ flat' count' row' s m t f);
   }
 
-  once-keeps : (bs : List ℕ) (ws : List Word) (frames' flat' : List ℕ) (count' row' top' : ℕ) (s : Shut) → HoldingTrue 1 frames flat count row top frames' flat' count' row' top'
-      → Filled frames flat count row top s → Keeps frames' flat' count' row' top' (atOperand ps vs (coded 4 bs) ws s)
-  unfolding coded atOperand
-  once-keeps bs ws frames' flat' count' row' top' s h f = h.moves once (unfold frameKind in refl) s f
+  once_keeps : (bs : List ℕ) (ws : List Word) (frames' flat' : List ℕ) (count' row' top' : ℕ) (s : Shut) → HoldingTrue 1 frames flat count row top frames' flat' count' row' top'
+      → Filled frames flat count row top s → Keeps frames' flat' count' row' top' (at_operand ps vs (coded 4 bs) ws s)
+  unfolding coded at_operand
+  once_keeps bs ws frames' flat' count' row' top' s h f = h.moves once (unfold frame_kind in refl) s f
 
-  pub operand-once : (frames' flat' : List ℕ) (count' row' top' : ℕ) → code ≡ 4 → HoldingTrue 1 frames flat count row top frames' flat' count' row' top'
-      → Moves vs (atOperand ps vs) text 0 code from past frames flat count row top frames' flat' count' row' top'
-  operand-once frames' flat' count' row' top' z h = record {
+  pub operand_once : (frames' flat' : List ℕ) (count' row' top' : ℕ) → code ≡ 4 → HoldingTrue 1 frames flat count row top frames' flat' count' row' top'
+      → Moves vs (at_operand ps vs) text 0 code from past frames flat count row top frames' flat' count' row' top'
+  operand_once frames' flat' count' row' top' z h = record {
     sized = h.sized;
-    framed-sized = h.framed-sized;
+    framed_sized = h.framed_sized;
     most = h.most;
     near = h.near;
-    moves = λ w ws c s f. rw (word-is w code 4 c.code_is z) (once-keeps (bytes_of w) ws frames' flat' count' row' top' s h f);
+    moves = λ w ws c s f. rw (word_is w code 4 c.code_is z) (once_keeps (bytes_of w) ws frames' flat' count' row' top' s h f);
   }
 
-  historically-keeps : (bs : List ℕ) (ws : List Word) (frames' flat' : List ℕ) (count' row' top' : ℕ) (s : Shut) → HoldingTrue 2 frames flat count row top frames' flat' count' row' top'
-      → Filled frames flat count row top s → Keeps frames' flat' count' row' top' (atOperand ps vs (coded 5 bs) ws s)
-  unfolding coded atOperand
-  historically-keeps bs ws frames' flat' count' row' top' s h f = h.moves historically (unfold frameKind in refl) s f
+  historically_keeps : (bs : List ℕ) (ws : List Word) (frames' flat' : List ℕ) (count' row' top' : ℕ) (s : Shut) → HoldingTrue 2 frames flat count row top frames' flat' count' row' top'
+      → Filled frames flat count row top s → Keeps frames' flat' count' row' top' (at_operand ps vs (coded 5 bs) ws s)
+  unfolding coded at_operand
+  historically_keeps bs ws frames' flat' count' row' top' s h f = h.moves historically (unfold frame_kind in refl) s f
 
-  pub operand-historically : (frames' flat' : List ℕ) (count' row' top' : ℕ) → code ≡ 5 → HoldingTrue 2 frames flat count row top frames' flat' count' row' top'
-      → Moves vs (atOperand ps vs) text 0 code from past frames flat count row top frames' flat' count' row' top'
-  operand-historically frames' flat' count' row' top' z h = record {
+  pub operand_historically : (frames' flat' : List ℕ) (count' row' top' : ℕ) → code ≡ 5 → HoldingTrue 2 frames flat count row top frames' flat' count' row' top'
+      → Moves vs (at_operand ps vs) text 0 code from past frames flat count row top frames' flat' count' row' top'
+  operand_historically frames' flat' count' row' top' z h = record {
     sized = h.sized;
-    framed-sized = h.framed-sized;
+    framed_sized = h.framed_sized;
     most = h.most;
     near = h.near;
-    moves = λ w ws c s f. rw (word-is w code 5 c.code_is z) (historically-keeps (bytes_of w) ws frames' flat' count' row' top' s h f);
+    moves = λ w ws c s f. rw (word_is w code 5 c.code_is z) (historically_keeps (bytes_of w) ws frames' flat' count' row' top' s h f);
   }
 
-  previously-keeps : (bs : List ℕ) (ws : List Word) (frames' : List ℕ) (count' row' top' : ℕ) (s : Shut) → Holding 3 0 frames count row top frames' count' row' top' → Filled frames flat count row top s
-      → Keeps frames' flat count' row' top' (atOperand ps vs (coded 6 bs) ws s)
-  unfolding coded atOperand
-  previously-keeps bs ws frames' count' row' top' s h f =
-      held_keeps 3 0 (applies previously 0) frames flat count row top frames' count' row' top' s (unfold frameKind in refl) (unfold frameHeld in refl) h f
+  previously_keeps : (bs : List ℕ) (ws : List Word) (frames' : List ℕ) (count' row' top' : ℕ) (s : Shut) → Holding 3 0 frames count row top frames' count' row' top' → Filled frames flat count row top s
+      → Keeps frames' flat count' row' top' (at_operand ps vs (coded 6 bs) ws s)
+  unfolding coded at_operand
+  previously_keeps bs ws frames' count' row' top' s h f =
+      held_keeps 3 0 (applies previously 0) frames flat count row top frames' count' row' top' s (unfold frame_kind in refl) (unfold frame_held in refl) h f
 
-  pub operand-previously : (frames' : List ℕ) (count' row' top' : ℕ) → code ≡ 6 → count ≤ 65 → Holding 3 0 frames count row top frames' count' row' top'
-      → Moves vs (atOperand ps vs) text 0 code from past frames flat count row top frames' flat count' row' top'
-  operand-previously frames' count' row' top' z l h = record {
+  pub operand_previously : (frames' : List ℕ) (count' row' top' : ℕ) → code ≡ 6 → count ≤ 65 → Holding 3 0 frames count row top frames' count' row' top'
+      → Moves vs (at_operand ps vs) text 0 code from past frames flat count row top frames' flat count' row' top'
+  operand_previously frames' count' row' top' z l h = record {
     sized = refl;
-    framed-sized = h.waited.sized;
+    framed_sized = h.waited.sized;
     most = omega (arith, h.same_count);
     near = omega (arith, h.waited.higher);
-    moves = λ w ws c s f. rw (word-is w code 6 c.code_is z) (previously-keeps (bytes_of w) ws frames' count' row' top' s h f);
+    moves = λ w ws c s f. rw (word_is w code 6 c.code_is z) (previously_keeps (bytes_of w) ws frames' count' row' top' s h f);
   }
 
-  negation-keeps : (bs : List ℕ) (ws : List Word) (frames' : List ℕ) (count' row' top' : ℕ) (s : Shut) → Holding 4 0 frames count row top frames' count' row' top' → Filled frames flat count row top s
-      → Keeps frames' flat count' row' top' (atOperand ps vs (coded 7 bs) ws s)
-  unfolding coded atOperand
-  negation-keeps bs ws frames' count' row' top' s h f =
-      held_keeps 4 0 (applies negation 0) frames flat count row top frames' count' row' top' s (unfold frameKind in refl) (unfold frameHeld in refl) h f
+  negation_keeps : (bs : List ℕ) (ws : List Word) (frames' : List ℕ) (count' row' top' : ℕ) (s : Shut) → Holding 4 0 frames count row top frames' count' row' top' → Filled frames flat count row top s
+      → Keeps frames' flat count' row' top' (at_operand ps vs (coded 7 bs) ws s)
+  unfolding coded at_operand
+  negation_keeps bs ws frames' count' row' top' s h f =
+      held_keeps 4 0 (applies negation 0) frames flat count row top frames' count' row' top' s (unfold frame_kind in refl) (unfold frame_held in refl) h f
 
-  pub operand-negation : (frames' : List ℕ) (count' row' top' : ℕ) → code ≡ 7 → count ≤ 65 → Holding 4 0 frames count row top frames' count' row' top'
-      → Moves vs (atOperand ps vs) text 0 code from past frames flat count row top frames' flat count' row' top'
-  operand-negation frames' count' row' top' z l h = record {
+  pub operand_negation : (frames' : List ℕ) (count' row' top' : ℕ) → code ≡ 7 → count ≤ 65 → Holding 4 0 frames count row top frames' count' row' top'
+      → Moves vs (at_operand ps vs) text 0 code from past frames flat count row top frames' flat count' row' top'
+  operand_negation frames' count' row' top' z l h = record {
     sized = refl;
-    framed-sized = h.waited.sized;
+    framed_sized = h.waited.sized;
     most = omega (arith, h.same_count);
     near = omega (arith, h.waited.higher);
-    moves = λ w ws c s f. rw (word-is w code 7 c.code_is z) (negation-keeps (bytes_of w) ws frames' count' row' top' s h f);
+    moves = λ w ws c s f. rw (word_is w code 7 c.code_is z) (negation_keeps (bytes_of w) ws frames' count' row' top' s h f);
   }
 
-  group-keeps : (bs : List ℕ) (ws : List Word) (frames' : List ℕ) (count' row' top' : ℕ) (s : Shut) → Holding 0 0 frames count row top frames' count' row' top' → Filled frames flat count row top s
-      → Keeps frames' flat count' row' top' (atOperand ps vs (coded 14 bs) ws s)
-  unfolding coded atOperand
-  group-keeps bs ws frames' count' row' top' s h f =
-      held_keeps 0 0 (mark) frames flat count row top frames' count' row' top' s (unfold frameKind in refl) (unfold frameHeld in refl) h f
+  group_keeps : (bs : List ℕ) (ws : List Word) (frames' : List ℕ) (count' row' top' : ℕ) (s : Shut) → Holding 0 0 frames count row top frames' count' row' top' → Filled frames flat count row top s
+      → Keeps frames' flat count' row' top' (at_operand ps vs (coded 14 bs) ws s)
+  unfolding coded at_operand
+  group_keeps bs ws frames' count' row' top' s h f =
+      held_keeps 0 0 (mark) frames flat count row top frames' count' row' top' s (unfold frame_kind in refl) (unfold frame_held in refl) h f
 
-  pub operand-group : (frames' : List ℕ) (count' row' top' : ℕ) → code ≡ 14 → count ≤ 65 → Holding 0 0 frames count row top frames' count' row' top'
-      → Moves vs (atOperand ps vs) text 0 code from past frames flat count row top frames' flat count' row' top'
-  operand-group frames' count' row' top' z l h = record {
+  pub operand_group : (frames' : List ℕ) (count' row' top' : ℕ) → code ≡ 14 → count ≤ 65 → Holding 0 0 frames count row top frames' count' row' top'
+      → Moves vs (at_operand ps vs) text 0 code from past frames flat count row top frames' flat count' row' top'
+  operand_group frames' count' row' top' z l h = record {
     sized = refl;
-    framed-sized = h.waited.sized;
+    framed_sized = h.waited.sized;
     most = omega (arith, h.same_count);
     near = omega (arith, h.waited.higher);
-    moves = λ w ws c s f. rw (word-is w code 14 c.code_is z) (group-keeps (bytes_of w) ws frames' count' row' top' s h f);
+    moves = λ w ws c s f. rw (word_is w code 14 c.code_is z) (group_keeps (bytes_of w) ws frames' count' row' top' s h f);
   }
 
-  universal-keeps : (bs : List ℕ) (ws : List Word) (v : ℕ) (frames' : List ℕ) (count' row' top' : ℕ) (s : Shut) → v ≡ slotAfter vs ws → Holding 5 v frames count row top frames' count' row' top'
-      → Filled frames flat count row top s → Keeps frames' flat count' row' top' (atOperand ps vs (coded 12 bs) ws s)
-  unfolding coded atOperand
-  universal-keeps bs ws v frames' count' row' top' s e h f =
-      held_keeps 5 v (quantifies universal (slotAfter vs ws)) frames flat count row top frames' count' row' top' s (unfold frameKind in refl) (unfold frameHeld in e) h f
+  universal_keeps : (bs : List ℕ) (ws : List Word) (v : ℕ) (frames' : List ℕ) (count' row' top' : ℕ) (s : Shut) → v ≡ slot_after vs ws → Holding 5 v frames count row top frames' count' row' top'
+      → Filled frames flat count row top s → Keeps frames' flat count' row' top' (at_operand ps vs (coded 12 bs) ws s)
+  unfolding coded at_operand
+  universal_keeps bs ws v frames' count' row' top' s e h f =
+      held_keeps 5 v (quantifies universal (slot_after vs ws)) frames flat count row top frames' count' row' top' s (unfold frame_kind in refl) (unfold frame_held in e) h f
 
-  pub operand-universal : (v : ℕ) (frames' : List ℕ) (count' row' top' : ℕ) → code ≡ 12 → count ≤ 65 → SlotAt vs text past v → Holding 5 v frames count row top frames' count' row' top'
-      → Moves vs (atOperand ps vs) text 0 code from past frames flat count row top frames' flat count' row' top'
-  operand-universal v frames' count' row' top' z l a h = record {
+  pub operand_universal : (v : ℕ) (frames' : List ℕ) (count' row' top' : ℕ) → code ≡ 12 → count ≤ 65 → SlotAt vs text past v → Holding 5 v frames count row top frames' count' row' top'
+      → Moves vs (at_operand ps vs) text 0 code from past frames flat count row top frames' flat count' row' top'
+  operand_universal v frames' count' row' top' z l a h = record {
     sized = refl;
-    framed-sized = h.waited.sized;
+    framed_sized = h.waited.sized;
     most = omega (arith, h.same_count);
     near = omega (arith, h.waited.higher);
-    moves = λ w ws c s f. rw (word-is w code 12 c.code_is z) (universal-keeps (bytes_of w) ws v frames' count' row' top' s (a.slot ws c.rest) h f);
+    moves = λ w ws c s f. rw (word_is w code 12 c.code_is z) (universal_keeps (bytes_of w) ws v frames' count' row' top' s (a.slot ws c.rest) h f);
   }
 
-  existential-keeps : (bs : List ℕ) (ws : List Word) (v : ℕ) (frames' : List ℕ) (count' row' top' : ℕ) (s : Shut) → v ≡ slotAfter vs ws → Holding 6 v frames count row top frames' count' row' top'
-      → Filled frames flat count row top s → Keeps frames' flat count' row' top' (atOperand ps vs (coded 13 bs) ws s)
-  unfolding coded atOperand
-  existential-keeps bs ws v frames' count' row' top' s e h f =
-      held_keeps 6 v (quantifies existential (slotAfter vs ws)) frames flat count row top frames' count' row' top' s (unfold frameKind in refl) (unfold frameHeld in e) h f
+  existential_keeps : (bs : List ℕ) (ws : List Word) (v : ℕ) (frames' : List ℕ) (count' row' top' : ℕ) (s : Shut) → v ≡ slot_after vs ws → Holding 6 v frames count row top frames' count' row' top'
+      → Filled frames flat count row top s → Keeps frames' flat count' row' top' (at_operand ps vs (coded 13 bs) ws s)
+  unfolding coded at_operand
+  existential_keeps bs ws v frames' count' row' top' s e h f =
+      held_keeps 6 v (quantifies existential (slot_after vs ws)) frames flat count row top frames' count' row' top' s (unfold frame_kind in refl) (unfold frame_held in e) h f
 
-  pub operand-existential : (v : ℕ) (frames' : List ℕ) (count' row' top' : ℕ) → code ≡ 13 → count ≤ 65 → SlotAt vs text past v → Holding 6 v frames count row top frames' count' row' top'
-      → Moves vs (atOperand ps vs) text 0 code from past frames flat count row top frames' flat count' row' top'
-  operand-existential v frames' count' row' top' z l a h = record {
+  pub operand_existential : (v : ℕ) (frames' : List ℕ) (count' row' top' : ℕ) → code ≡ 13 → count ≤ 65 → SlotAt vs text past v → Holding 6 v frames count row top frames' count' row' top'
+      → Moves vs (at_operand ps vs) text 0 code from past frames flat count row top frames' flat count' row' top'
+  operand_existential v frames' count' row' top' z l a h = record {
     sized = refl;
-    framed-sized = h.waited.sized;
+    framed_sized = h.waited.sized;
     most = omega (arith, h.same_count);
     near = omega (arith, h.waited.higher);
-    moves = λ w ws c s f. rw (word-is w code 13 c.code_is z) (existential-keeps (bytes_of w) ws v frames' count' row' top' s (a.slot ws c.rest) h f);
+    moves = λ w ws c s f. rw (word_is w code 13 c.code_is z) (existential_keeps (bytes_of w) ws v frames' count' row' top' s (a.slot ws c.rest) h f);
   }
 
   -- no other word stands there
   module _ (n0 : code ≡ 0 → ⊥) (n2 : code ≡ 2 → ⊥) (n3 : code ≡ 3 → ⊥) (n4 : code ≡ 4 → ⊥) (n5 : code ≡ 5 → ⊥) (n6 : code ≡ 6 → ⊥) (n7 : code ≡ 7 → ⊥)
       (n12 : code ≡ 12 → ⊥) (n13 : code ≡ 13 → ⊥) (n14 : code ≡ 14 → ⊥) where
-    other-stays : (w : Word) (ws : List Word) (s : Shut) → code ≡ code_of w → s ≡ atOperand ps vs w ws s
-    unfolding atOperand code_of
-    other-stays (name p) ws s e = absurd (n0 e)
-    other-stays (number ds) ws s e = refl
-    other-stays (constant true) ws s e = absurd (n2 e)
-    other-stays (constant false) ws s e = absurd (n3 e)
-    other-stays (prefix once) ws s e = absurd (n4 e)
-    other-stays (prefix historically) ws s e = absurd (n5 e)
-    other-stays (prefix previously) ws s e = absurd (n6 e)
-    other-stays (prefix negation) ws s e = absurd (n7 e)
-    other-stays (binary o) ws s e = refl
-    other-stays (quantifier universal) ws s e = absurd (n12 e)
-    other-stays (quantifier existential) ws s e = absurd (n13 e)
-    other-stays opening ws s e = absurd (n14 e)
-    other-stays closing ws s e = refl
-    other-stays comma ws s e = refl
-    other-stays dot ws s e = refl
+    other_stays : (w : Word) (ws : List Word) (s : Shut) → code ≡ code_of w → s ≡ at_operand ps vs w ws s
+    unfolding at_operand code_of
+    other_stays (name p) ws s e = absurd (n0 e)
+    other_stays (number ds) ws s e = refl
+    other_stays (constant true) ws s e = absurd (n2 e)
+    other_stays (constant false) ws s e = absurd (n3 e)
+    other_stays (prefix once) ws s e = absurd (n4 e)
+    other_stays (prefix historically) ws s e = absurd (n5 e)
+    other_stays (prefix previously) ws s e = absurd (n6 e)
+    other_stays (prefix negation) ws s e = absurd (n7 e)
+    other_stays (binary o) ws s e = refl
+    other_stays (quantifier universal) ws s e = absurd (n12 e)
+    other_stays (quantifier existential) ws s e = absurd (n13 e)
+    other_stays opening ws s e = absurd (n14 e)
+    other_stays closing ws s e = refl
+    other_stays comma ws s e = refl
+    other_stays dot ws s e = refl
 
-    pub operand-other : count ≤ 65 → Moves vs (atOperand ps vs) text 0 code from past frames flat count row top frames flat count row top
-    operand-other l = record {
+    pub operand_other : count ≤ 65 → Moves vs (at_operand ps vs) text 0 code from past frames flat count row top frames flat count row top
+    operand_other l = record {
       sized = refl;
-      framed-sized = refl;
+      framed_sized = refl;
       most = l;
       near = omega arith;
-      moves = λ w ws c s f. rw (← (other-stays w ws s c.code_is)) (filled_keeps frames flat count row top s f);
+      moves = λ w ws c s f. rw (← (other_stays w ws s c.code_is)) (filled_keeps frames flat count row top s f);
     }

@@ -2,7 +2,7 @@
 ghost use Rattle.std.specs.Prelude.{◌≡◌, ◌+◌, ◌-◌, ◌*◌, ◌≤◌, ◌<◌, length, take, drop};
 ghost use Rattle.census.specs.Folds.{Lexed};
 ghost use Rattle.census.specs.Tables.{Table, names_at, Within};
-ghost use Rattle.drive.specs.Drives.{atOperand};
+ghost use Rattle.drive.specs.Drives.{at_operand};
 ghost use Rattle.drive.specs.Driving.{SlotAt, Atomic, Holding, HoldingTrue, Moves};
 
 use atomic::atom;
@@ -92,7 +92,7 @@ pub fn operand(
     requires table { Table text.now pstarts.now plengths.now pn × Table text.now vstarts.now vlengths.now vn }
     requires within { Within text.now t.from t.past × Lexed text.now t.past }
     requires pn_bound { (pn ≤ 4096) × (vn ≤ 4) × (length rows.old ≡ 576) × (w.count ≤ 65) × (w.top < length frames.old) }
-    ensures { Moves (names_at text.now vstarts.now vlengths.now vn) (atOperand (names_at text.now pstarts.now plengths.now pn) (names_at text.now vstarts.now vlengths.now vn)) text.now 0 t.word t.from t.past frames.old rows.old w.count w.row w.top frames.new rows.new result.count result.row result.top }
+    ensures { Moves (names_at text.now vstarts.now vlengths.now vn) (at_operand (names_at text.now pstarts.now plengths.now pn) (names_at text.now vstarts.now vlengths.now vn)) text.now 0 t.word t.from t.past frames.old rows.old w.count w.row w.top frames.new rows.new result.count result.row result.top }
 {
     let word = t.word;
     if word == 0 {

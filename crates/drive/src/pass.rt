@@ -5,7 +5,7 @@ ghost use Rattle.census.specs.Folds.{Lexed};
 ghost use Rattle.census.specs.Tables.{Table, names_at, Within};
 ghost use Rattle.census.specs.Clashes.{Predicates};
 ghost use Rattle.census.specs.Scopes.{Variables};
-ghost use Rattle.drive.specs.Drives.{atMode};
+ghost use Rattle.drive.specs.Drives.{at_mode};
 ghost use Rattle.drive.specs.Driving.{Moves, Passed, RowsOf};
 
 use crate::operands::operand;
@@ -32,7 +32,7 @@ fn one(
     requires table { Table text.now pstarts.now plengths.now pn × Table text.now vstarts.now vlengths.now vn }
     requires within { Within text.now t.from t.past × Lexed text.now t.past }
     requires pn_bound { (pn ≤ 4096) × (vn ≤ 4) × (length rows.old ≡ 576) × (w.count ≤ 65) × (w.top < length frames.old) }
-    ensures { Moves (names_at text.now vstarts.now vlengths.now vn) (atMode (names_at text.now pstarts.now plengths.now pn) (names_at text.now vstarts.now vlengths.now vn) mode) text.now mode t.word t.from t.past frames.old rows.old w.count w.row w.top frames.new rows.new result.count result.row result.top }
+    ensures { Moves (names_at text.now vstarts.now vlengths.now vn) (at_mode (names_at text.now pstarts.now plengths.now pn) (names_at text.now vstarts.now vlengths.now vn) mode) text.now mode t.word t.from t.past frames.old rows.old w.count w.row w.top frames.new rows.new result.count result.row result.top }
 {
     if mode == 0 {
         return operand(

@@ -9,22 +9,22 @@ use lib.Dec.{eqb, ltb}
 use lib.ListN.{length, take, drop, get_or}
 use lib.Seq.{slice, slice_empty, slice-cons, length-slice, length-take-le, take-length, take-add, take-take, drop_at}
 use borrow.Author.Tests.{ltb-true, ltb-false, lt-ltb, le-ltb, eq-eqb, ne_eqb}
-use Rattle.feed.specs.Feeds.{holding, holdBytes, before, Passed}
+use Rattle.feed.specs.Feeds.{holding, hold_bytes, before, Passed}
 
 -- there are no more bytes before the line end than there are
-pub before-few : (bytes : List ℕ) → before bytes ≤ length bytes
+pub before_few : (bytes : List ℕ) → before bytes ≤ length bytes
 unfolding before
-before-few [] = omega arith
-before-few (b ∷ bs) = go (eqb b 10) refl (before-few bs)
+before_few [] = omega arith
+before_few (b ∷ bs) = go (eqb b 10) refl (before_few bs)
   where
     go : (q : Bool) → eqb b 10 ≡ q → before bs ≤ length bs → before (b ∷ bs) ≤ length (b ∷ bs)
     go true e h = rw e (omega arith)
     go false e h = rw e (omega arith)
 
 -- a line end at place i
-pub end-here : (block : List ℕ) (i n : ℕ) → i < n → n ≤ length block → get_or block i 0 ≡ 10 → before (slice i n block) ≡ 0
+pub end_here : (block : List ℕ) (i n : ℕ) → i < n → n ≤ length block → get_or block i 0 ≡ 10 → before (slice i n block) ≡ 0
 unfolding before
-end-here block i n h k e = ap before (slice-cons i n block 0 h k) ∙ rw (eq-eqb (get_or block i 0) 10 e)
+end_here block i n h k e = ap before (slice-cons i n block 0 h k) ∙ rw (eq-eqb (get_or block i 0) 10 e)
 
 -- another byte at place i
 pub end_later : (block : List ℕ) (i n : ℕ) → i < n → n ≤ length block → (get_or block i 0 ≡ 10 → ⊥) → before (slice i n block) ≡ before (slice (i + 1) n block) + 1
@@ -47,14 +47,14 @@ part_of block from j n h k =
     ∙ drop_at (take from (take n block)) (take j (drop from (take n block))) from front
 
 -- the same bytes, of the whole block
-part-whole : (block : List ℕ) (from j n : ℕ) → from + j ≤ n → n ≤ length block → take j (drop from block) ≡ take j (slice from n block)
-part-whole block from j n h k =
+part_whole : (block : List ℕ) (from j n : ℕ) → from + j ≤ n → n ≤ length block → take j (drop from block) ≡ take j (slice from n block)
+part_whole block from j n h k =
     ap (λ (l : List ℕ). take j (drop from l)) (sym (take-length block))
     ∙ sym (part_of block from j (length block) (omega arith) (omega arith))
     ∙ part_of block from j n h k
 
-le-ne : (a b : ℕ) → a ≤ b → (a ≡ b → ⊥) → a < b
-le-ne a b h e = go (ltb a b) refl
+le_ne : (a b : ℕ) → a ≤ b → (a ≡ b → ⊥) → a < b
+le_ne a b h e = go (ltb a b) refl
   where
     go : (q : Bool) → ltb a b ≡ q → a < b
     go true t = ltb-true a b t
@@ -64,34 +64,34 @@ le-ne a b h e = go (ltb a b) refl
 
 module _ (from n : ℕ) (block : List ℕ) (held : ℕ) (line line' : List ℕ) (r end : ℕ) (some : from < n) (room : n ≤ length block)
     (first : end ≡ from + before (slice from n block)) (last : end ≤ n) (few : r ≤ 101)
-    (are : holding r line' ≡ holdBytes (holding held line) (take (end - from) (drop from block))) where
-  held-are : holding r line' ≡ holdBytes (holding held line) (take (before (slice from n block)) (slice from n block))
-  held-are =
+    (are : holding r line' ≡ hold_bytes (holding held line) (take (end - from) (drop from block))) where
+  held_are : holding r line' ≡ hold_bytes (holding held line) (take (before (slice from n block)) (slice from n block))
+  held_are =
       let part : end - from ≡ before (slice from n block) = omega (arith, first) in
       are
-      ∙ ap (λ (m : ℕ). holdBytes (holding held line) (take m (drop from block))) part
-      ∙ ap (holdBytes (holding held line)) (part-whole block from (before (slice from n block)) n (omega (arith, first, last)) room)
+      ∙ ap (λ (m : ℕ). hold_bytes (holding held line) (take m (drop from block))) part
+      ∙ ap (hold_bytes (holding held line)) (part_whole block from (before (slice from n block)) n (omega (arith, first, last)) room)
 
   -- no line end
-  pub passed-all : end ≡ n → Passed from n block held line (record { held = r; from = n; whole = false }) line'
-  passed-all e =
+  pub passed_all : end ≡ n → Passed from n block held line (record { held = r; from = n; whole = false }) line'
+  passed_all e =
       record {
         whole_is = sym (le-ltb (before (slice from n block)) (length (slice from n block)) (omega (arith, first, e, length-slice from n block room)));
         from_is = refl;
-        held-is = held-are;
+        held_is = held_are;
         few = few;
         on = some;
         inside = omega arith;
       }
 
   -- a line end
-  pub passed-one : (end ≡ n → ⊥) → Passed from n block held line (record { held = r; from = end + 1; whole = true }) line'
-  passed-one e =
-      let inner : end < n = le-ne end n last e in
+  pub passed_one : (end ≡ n → ⊥) → Passed from n block held line (record { held = r; from = end + 1; whole = true }) line'
+  passed_one e =
+      let inner : end < n = le_ne end n last e in
       record {
         whole_is = sym (lt-ltb (before (slice from n block)) (length (slice from n block)) (omega (arith, first, inner, length-slice from n block room)));
         from_is = ap (λ (m : ℕ). m + 1) first;
-        held-is = held-are;
+        held_is = held_are;
         few = few;
         on = omega (arith, first);
         inside = omega (arith, inner);

@@ -12,13 +12,13 @@ abbrev pub holding : ℕ → List ℕ → Held
 holding n line = record { count = n; line = line }
 
 -- one byte more, if there is room for it
-unfoldable pub holdByte : Held → ℕ → Held
-holdByte h b = cond (ltb h.count (length h.line)) (holding (h.count + 1) (set h.line h.count b)) h
+unfoldable pub hold_byte : Held → ℕ → Held
+hold_byte h b = cond (ltb h.count (length h.line)) (holding (h.count + 1) (set h.line h.count b)) h
 
 -- some bytes, one after the other
-unfoldable pub holdBytes : Held → List ℕ → Held
-holdBytes h [] = h
-holdBytes h (b ∷ bs) = holdBytes (holdByte h b) bs
+unfoldable pub hold_bytes : Held → List ℕ → Held
+hold_bytes h [] = h
+hold_bytes h (b ∷ bs) = hold_bytes (hold_byte h b) bs
 
 -- how many bytes stand before the first line end, byte 10: all of them, if there is none
 unfoldable pub before : List ℕ → ℕ
@@ -29,7 +29,7 @@ before (b ∷ bs) = cond (eqb b 10) 0 (before bs + 1)
 pub record Passed (from n : ℕ) (block : List ℕ) (held : ℕ) (line : List ℕ) (p : Piece) (line' : List ℕ) : Type 0 where
   pub whole_is : p.whole ≡ ltb (before (slice from n block)) (length (slice from n block))
   pub from_is : p.from ≡ cond p.whole (from + before (slice from n block) + 1) n
-  pub held-is : holding p.held line' ≡ holdBytes (holding held line) (take (before (slice from n block)) (slice from n block))
+  pub held_is : holding p.held line' ≡ hold_bytes (holding held line) (take (before (slice from n block)) (slice from n block))
   pub few : p.held ≤ 101
   pub on : from < p.from
   pub inside : p.from ≤ n

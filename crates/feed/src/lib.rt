@@ -3,7 +3,7 @@
 ghost use Rattle.std.specs.Prelude.{◌≡◌, ◌+◌, ◌≤◌, ◌<◌, length, take};
 ghost use Rattle.std.proofs.Math.Seq.{slice};
 ghost use Rattle.lines.specs.Format.{Reads};
-ghost use Rattle.feed.specs.Feeds.{holding, holdBytes, before, Passed};
+ghost use Rattle.feed.specs.Feeds.{holding, hold_bytes, before, Passed};
 
 use lines::Line;
 
@@ -35,7 +35,7 @@ fn line_end(block: &[u8], from: usize, n: usize) -> usize
 fn hold(held: usize, bytes: &[u8], line: &mut [u8]) -> usize
     requires { held ≤ length line.old }
     ensures upper_bound { result ≤ length line.old }
-    ensures line_after { holding result line.new ≡ holdBytes (holding held line.old) bytes.now }
+    ensures line_after { holding result line.new ≡ hold_bytes (holding held line.old) bytes.now }
 {
     let mut n = held;
     let mut i = 0;

@@ -8,24 +8,24 @@ use lib.ListN.{length, get_or, length-append, get_or-append}
 use lib.Seq.{get_or-append_seam}
 use Rattle.trees.specs.Bits.{Function}
 use Rattle.trees.specs.Tree.{Tree, off, eval, tree_of}
-use Rattle.trees.specs.Table.{addTrees, at}
-use Rattle.trees.proofs.Tests.{lt-or-ge}
-use Rattle.trees.proofs.TableLaws.{Has, Closed, adds-goes, goes-has, has-adds, closed-nil, closed-adds}
-use Rattle.trees.proofs.ShowLaws.{sound-nil, sound-adds}
-use Rattle.trees.proofs.RoomLaws.{All, all-adds, part-has, table-le}
+use Rattle.trees.specs.Table.{add_trees, at}
+use Rattle.trees.proofs.Tests.{lt_or_ge}
+use Rattle.trees.proofs.TableLaws.{Has, Closed, adds_goes, goes_has, has_adds, closed_nil, closed_adds}
+use Rattle.trees.proofs.ShowLaws.{sound_nil, sound_adds}
+use Rattle.trees.proofs.RoomLaws.{All, all_adds, part_has, table_le}
 use Rattle.meaning.specs.Qtl.{Fact}
 use Rattle.meaning.specs.Rows.{Row, truth}
 use Rattle.meaning.specs.Numbering.{Lists}
-use Rattle.meaning.specs.Step.{saysAt, Shown, removed, atomTurns, counted, roomOf}
+use Rattle.meaning.specs.Step.{says_at, Shown, removed, atom_turns, counted, room_of}
 use Rattle.meaning.proofs.RowsLaws.{RowOk}
 use Rattle.meaning.proofs.AskingLaws.{DistinctL, CoveredBy}
 use Rattle.meaning.proofs.Simulation.{Enough}
 use Rattle.meaning.proofs.StepLaws.{AllFine}
 use Rattle.diagram.specs.declared.Instruction.TheVariants.{Yes}
-use Rattle.diagram.specs.Steps.{Task, does, says, taskSays, taskStages, with_row, newTrees, stages}
+use Rattle.diagram.specs.Steps.{Task, does, says, task_says, task_stages, with_row, new_trees, stages}
 use Rattle.instructions.specs.Plan.{task_of}
-use Rattle.instructions.proofs.InLaws.{In, in-l, in-r, in_split, has_in, all_in, fine-in, in-fine}
-use Rattle.instructions.proofs.MetLaws.{each, each_in, in-each, ownRemovals, removed-each, ownTurns, turns-each, row-met, removals-met, turns-met, new-of}
+use Rattle.instructions.proofs.InLaws.{In, in_l, in_r, in_split, has_in, all_in, fine_in, in_fine}
+use Rattle.instructions.proofs.MetLaws.{each, each_in, in_each, own_removals, removed_each, own_turns, turns_each, row_met, removals_met, turns_met, new_of}
 
 -- every table has no
 has_no : (ts : List Tree) → Has ts off
@@ -36,107 +36,107 @@ module _ (k : ℕ) (pos : 0 < k) (L : Lists) (distinct : DistinctL L) (enough : 
     (planned : (i : ℕ) → i < length rule → get_or plan i (does Yes) ≡ task_of L es (get_or rule i truth)) where
   -- the diagrams of the rows, and what the work of a row meets
   abbrev new : List Tree
-  new = newTrees k plan old (length rule)
+  new = new_trees k plan old (length rule)
 
   abbrev met : ℕ → List Function
-  met i = taskStages k (says old) (says (newTrees k plan old i)) i (get_or plan i (does Yes))
+  met i = task_stages k (says old) (says (new_trees k plan old i)) i (get_or plan i (does Yes))
 
-  new-count : (n : ℕ) → length (newTrees k plan old n) ≡ n
-  unfolding newTrees with_row
-  new-count zero = refl
-  new-count (suc i) = length-append (newTrees k plan old i) _ ∙ (let h = new-count i in omega arith)
+  new_count : (n : ℕ) → length (new_trees k plan old n) ≡ n
+  unfolding new_trees with_row
+  new_count zero = refl
+  new_count (suc i) = length-append (new_trees k plan old i) _ ∙ (let h = new_count i in omega arith)
 
   -- a diagram once worked stays
-  new-keeps : (m i j : ℕ) → j < i → get_or (newTrees k plan old (m + i)) j off ≡ get_or (newTrees k plan old i) j off
-  unfolding newTrees with_row
-  new-keeps zero i j h = ap (λ (n : ℕ). get_or (newTrees k plan old n) j off) (let z : 0 + i ≡ i = omega arith in z)
-  new-keeps (suc m) i j h =
-      ap (λ (n : ℕ). get_or (newTrees k plan old n) j off) (let z : suc m + i ≡ suc (m + i) = omega arith in z)
-      ∙ get_or-append (newTrees k plan old (m + i)) _ off j (let c = new-count (m + i) in omega arith) ∙ new-keeps m i j h
+  new_keeps : (m i j : ℕ) → j < i → get_or (new_trees k plan old (m + i)) j off ≡ get_or (new_trees k plan old i) j off
+  unfolding new_trees with_row
+  new_keeps zero i j h = ap (λ (n : ℕ). get_or (new_trees k plan old n) j off) (let z : 0 + i ≡ i = omega arith in z)
+  new_keeps (suc m) i j h =
+      ap (λ (n : ℕ). get_or (new_trees k plan old n) j off) (let z : suc m + i ≡ suc (m + i) = omega arith in z)
+      ∙ get_or-append (new_trees k plan old (m + i)) _ off j (let c = new_count (m + i) in omega arith) ∙ new_keeps m i j h
 
   -- up to the last row
-  new-stays : (i j : ℕ) → i ≤ length rule → j < i → get_or (newTrees k plan old (length rule)) j off ≡ get_or (newTrees k plan old i) j off
-  new-stays i j l h = ap (λ (n : ℕ). get_or (newTrees k plan old n) j off) (let z : length rule ≡ (length rule - i) + i = omega arith in z) ∙ new-keeps (length rule - i) i j h
+  new_stays : (i j : ℕ) → i ≤ length rule → j < i → get_or (new_trees k plan old (length rule)) j off ≡ get_or (new_trees k plan old i) j off
+  new_stays i j l h = ap (λ (n : ℕ). get_or (new_trees k plan old n) j off) (let z : length rule ≡ (length rule - i) + i = omega arith in z) ∙ new_keeps (length rule - i) i j h
 
-  here : (i : ℕ) → get_or (newTrees k plan old (suc i)) i off ≡ tree_of (4 * k) (taskSays k (says old) (says (newTrees k plan old i)) i (get_or plan i (does Yes)))
-  unfolding newTrees with_row
+  here : (i : ℕ) → get_or (new_trees k plan old (suc i)) i off ≡ tree_of (4 * k) (task_says k (says old) (says (new_trees k plan old i)) i (get_or plan i (does Yes)))
+  unfolding new_trees with_row
   here i =
-      ap (λ (n : ℕ). get_or (newTrees k plan old i ++ tree_of (4 * k) (taskSays k (says old) (says (newTrees k plan old i)) i (get_or plan i (does Yes))) ∷ []) n off) (sym (new-count i))
-      ∙ get_or-append_seam (newTrees k plan old i) _ [] off
+      ap (λ (n : ℕ). get_or (new_trees k plan old i ++ tree_of (4 * k) (task_says k (says old) (says (new_trees k plan old i)) i (get_or plan i (does Yes))) ∷ []) n off) (sym (new_count i))
+      ∙ get_or-append_seam (new_trees k plan old i) _ [] off
 
-  new_is : (i : ℕ) → i < length rule → get_or new i off ≡ tree_of (4 * k) (taskSays k (says old) (says (newTrees k plan old i)) i (get_or plan i (does Yes)))
-  new_is i h = new-stays (suc i) i (omega arith) (omega arith) ∙ here i
+  new_is : (i : ℕ) → i < length rule → get_or new i off ≡ tree_of (4 * k) (task_says k (says old) (says (new_trees k plan old i)) i (get_or plan i (does Yes)))
+  new_is i h = new_stays (suc i) i (omega arith) (omega arith) ∙ here i
 
   -- the rows that a row names are worked before it, and stay
-  now-is : (i : ℕ) → i < length rule → (a : ℕ) → a < i → says (newTrees k plan old i) a ≡ saysAt new a
-  unfolding saysAt says
-  now-is i h a l = ap eval (sym (new-stays i a (omega arith) l))
+  now_is : (i : ℕ) → i < length rule → (a : ℕ) → a < i → says (new_trees k plan old i) a ≡ says_at new a
+  unfolding says_at says
+  now_is i h a l = ap eval (sym (new_stays i a (omega arith) l))
 
   -- each new diagram is met in the work of its row, or is no
-  new-met : (i : ℕ) → i < length rule → In (4 * k) (get_or new i off) (met i) ⊎ (get_or new i off ≡ off)
-  new-met i h = rw (new_is i h, planned i h) (new-of k pos L es (says old) (says (newTrees k plan old i)) i (get_or rule i truth))
+  new_met : (i : ℕ) → i < length rule → In (4 * k) (get_or new i off) (met i) ⊎ (get_or new i off ≡ off)
+  new_met i h = rw (new_is i h, planned i h) (new_of k pos L es (says old) (says (new_trees k plan old i)) i (get_or rule i truth))
 
   -- what is counted beside the rows' functions
   abbrev between : List Function
-  between = removed k new rule ++ atomTurns k L es rule
+  between = removed k new rule ++ atom_turns k L es rule
 
   -- what is met is counted
-  met-counted : AllFine (4 * k) new → (i : ℕ) (t : Tree) → i < length rule → In (4 * k) t (met i) → In (4 * k) t (map eval new ++ between)
-  met-counted w i t h q =
+  met_counted : AllFine (4 * k) new → (i : ℕ) (t : Tree) → i < length rule → In (4 * k) t (met i) → In (4 * k) t (map eval new ++ between)
+  met_counted w i t h q =
       ⊎_elim
-      (λ z. in-l (4 * k) t (map eval new) between
-      (subst (λ (d : Tree). In (4 * k) d (map eval new)) (new_is i h ∙ rw (planned i h) z) (fine-in (4 * k) new w i (let c = new-count (length rule) in omega arith))))
-      (λ z. in-r (4 * k) t (map eval new) between (⊎_elim
-      (λ y. in-l (4 * k) t (removed k new rule) _ (rw (removed-each k new rule) (each_in (4 * k) t (ownRemovals k new) rule i h y)))
-      (λ y. in-r (4 * k) t (removed k new rule) _ (rw (turns-each k L es rule) (each_in (4 * k) t (ownTurns k L es) rule i h y)))
+      (λ z. in_l (4 * k) t (map eval new) between
+      (subst (λ (d : Tree). In (4 * k) d (map eval new)) (new_is i h ∙ rw (planned i h) z) (fine_in (4 * k) new w i (let c = new_count (length rule) in omega arith))))
+      (λ z. in_r (4 * k) t (map eval new) between (⊎_elim
+      (λ y. in_l (4 * k) t (removed k new rule) _ (rw (removed_each k new rule) (each_in (4 * k) t (own_removals k new) rule i h y)))
+      (λ y. in_r (4 * k) t (removed k new rule) _ (rw (turns_each k L es rule) (each_in (4 * k) t (own_turns k L es) rule i h y)))
       z))
-      (row-met k pos L distinct enough es (says old) (says (newTrees k plan old i)) new i (now-is i h) t (get_or rule i truth) (ok i h) (covered i h) (rw (planned i h) at q))
+      (row_met k pos L distinct enough es (says old) (says (new_trees k plan old i)) new i (now_is i h) t (get_or rule i truth) (ok i h) (covered i h) (rw (planned i h) at q))
 
   -- and what is counted between is met
-  between-met : (t : Tree) → In (4 * k) t between → (i : ℕ) × (i < length rule) × In (4 * k) t (met i)
-  between-met t h =
+  between_met : (t : Tree) → In (4 * k) t between → (i : ℕ) × (i < length rule) × In (4 * k) t (met i)
+  between_met t h =
       ⊎_elim
-      (λ z. let x = in-each (4 * k) t (ownRemovals k new) rule (rw (removed-each k new rule) at z) in (
+      (λ z. let x = in_each (4 * k) t (own_removals k new) rule (rw (removed_each k new rule) at z) in (
         x.0,
         x.1,
         rw (planned x.0 x.1)
-            (removals-met k pos L distinct enough es (says old) (says (newTrees k plan old x.0)) new x.0 (now-is x.0 x.1) t (get_or rule x.0 truth) (ok x.0 x.1) x.2),
+            (removals_met k pos L distinct enough es (says old) (says (new_trees k plan old x.0)) new x.0 (now_is x.0 x.1) t (get_or rule x.0 truth) (ok x.0 x.1) x.2),
       ))
-      (λ z. let x = in-each (4 * k) t (ownTurns k L es) rule (rw (turns-each k L es rule) at z) in (
+      (λ z. let x = in_each (4 * k) t (own_turns k L es) rule (rw (turns_each k L es rule) at z) in (
         x.0,
         x.1,
         rw (planned x.0 x.1)
-            (turns-met k pos L distinct enough es (says old) (says (newTrees k plan old x.0)) new x.0 (now-is x.0 x.1) t (get_or rule x.0 truth) (ok x.0 x.1) (covered x.0 x.1) x.2),
+            (turns_met k pos L distinct enough es (says old) (says (new_trees k plan old x.0)) new x.0 (now_is x.0 x.1) t (get_or rule x.0 truth) (ok x.0 x.1) (covered x.0 x.1) x.2),
       ))
-      (in_split (4 * k) t (removed k new rule) (atomTurns k L es rule) h)
+      (in_split (4 * k) t (removed k new rule) (atom_turns k L es rule) h)
 
   -- what is met in all rows
-  met-stages : (n i : ℕ) (t : Tree) → i < n → In (4 * k) t (met i) → In (4 * k) t (stages k plan old n)
+  met_stages : (n i : ℕ) (t : Tree) → i < n → In (4 * k) t (met i) → In (4 * k) t (stages k plan old n)
   unfolding stages
-  met-stages zero i t h q = absurd (omega arith)
-  met-stages (suc n) i t h q =
+  met_stages zero i t h q = absurd (omega arith)
+  met_stages (suc n) i t h q =
       ⊎_elim
-      (λ z. in-l (4 * k) t (stages k plan old n) (met n) (met-stages n i t z q))
-      (λ z. in-r (4 * k) t (stages k plan old n) (met n) (subst (λ (j : ℕ). In (4 * k) t (met j)) (let y : i ≡ n = omega arith in y) q))
-      (lt-or-ge i n)
+      (λ z. in_l (4 * k) t (stages k plan old n) (met n) (met_stages n i t z q))
+      (λ z. in_r (4 * k) t (stages k plan old n) (met n) (subst (λ (j : ℕ). In (4 * k) t (met j)) (let y : i ≡ n = omega arith in y) q))
+      (lt_or_ge i n)
 
-  stages-met : (n : ℕ) (t : Tree) → In (4 * k) t (stages k plan old n) → (i : ℕ) × (i < n) × In (4 * k) t (met i)
+  stages_met : (n : ℕ) (t : Tree) → In (4 * k) t (stages k plan old n) → (i : ℕ) × (i < n) × In (4 * k) t (met i)
   unfolding stages
-  stages-met zero t h = absurd h
-  stages-met (suc n) t h =
+  stages_met zero t h = absurd h
+  stages_met (suc n) t h =
       ⊎_elim
-      (λ z. let x = stages-met n t z in (x.0, (let y = x.1 in omega arith), x.2))
+      (λ z. let x = stages_met n t z in (x.0, (let y = x.1 in omega arith), x.2))
       (λ z. (n, omega arith, z))
       (in_split (4 * k) t (stages k plan old n) (met n) h)
 
   -- the working table has the room of the event
-  pub work-room : (before : Shown) → before.trees ≡ old → AllFine (4 * k) old → AllFine (4 * k) new
-      → length (addTrees (addTrees [] old) (map (tree_of (4 * k)) (stages k plan old (length rule)))) ≡ roomOf k rule before es (record { lists = L; trees = new })
-  unfolding roomOf counted
-  work-room before b wo wn =
+  pub work_room : (before : Shown) → before.trees ≡ old → AllFine (4 * k) old → AllFine (4 * k) new
+      → length (add_trees (add_trees [] old) (map (tree_of (4 * k)) (stages k plan old (length rule)))) ≡ room_of k rule before es (record { lists = L; trees = new })
+  unfolding room_of counted
+  work_room before b wo wn =
       rw b
-      (let p : length A ≤ length B = table-le A B (sound-adds _ (addTrees [] old) (sound-adds old [] sound-nil)) (all_in (4 * k) B closedB fs (addTrees [] old) olds-in works-in) in
-      let q : length B ≤ length A = table-le B A (sound-adds _ [] sound-nil) (all_in (4 * k) A closedA gs [] (λ j h. absurd (omega arith)) counted-in) in
+      (let p : length A ≤ length B = table_le A B (sound_adds _ (add_trees [] old) (sound_adds old [] sound_nil)) (all_in (4 * k) B closed_b fs (add_trees [] old) olds_in works_in) in
+      let q : length B ≤ length A = table_le B A (sound_adds _ [] sound_nil) (all_in (4 * k) A closed_a gs [] (λ j h. absurd (omega arith)) counted_in) in
       omega arith)
     where
       fs : List Function
@@ -146,42 +146,42 @@ module _ (k : ℕ) (pos : 0 < k) (L : Lists) (distinct : DistinctL L) (enough : 
       gs = map eval old ++ (map eval new ++ between)
 
       A : List Tree
-      A = addTrees (addTrees [] old) (map (tree_of (4 * k)) fs)
+      A = add_trees (add_trees [] old) (map (tree_of (4 * k)) fs)
 
       B : List Tree
-      B = addTrees [] (map (tree_of (4 * k)) gs)
+      B = add_trees [] (map (tree_of (4 * k)) gs)
 
-      closedA : Closed A
-      closedA = closed-adds (map (tree_of (4 * k)) fs) (addTrees [] old) (closed-adds old [] closed-nil)
+      closed_a : Closed A
+      closed_a = closed_adds (map (tree_of (4 * k)) fs) (add_trees [] old) (closed_adds old [] closed_nil)
 
-      closedB : Closed B
-      closedB = closed-adds (map (tree_of (4 * k)) gs) [] closed-nil
+      closed_b : Closed B
+      closed_b = closed_adds (map (tree_of (4 * k)) gs) [] closed_nil
 
-      olds-in : All (Has B) (addTrees [] old)
-      olds-in = all-adds (Has B) old [] (λ j h. absurd (omega arith)) λ i l s p.
-          part-has B closedB (get_or old i off) s p (has_in (4 * k) (get_or old i off) gs [] (in-l (4 * k) (get_or old i off) (map eval old) _ (fine-in (4 * k) old wo i l)))
+      olds_in : All (Has B) (add_trees [] old)
+      olds_in = all_adds (Has B) old [] (λ j h. absurd (omega arith)) λ i l s p.
+          part_has B closed_b (get_or old i off) s p (has_in (4 * k) (get_or old i off) gs [] (in_l (4 * k) (get_or old i off) (map eval old) _ (fine_in (4 * k) old wo i l)))
 
-      works-in : (t : Tree) → In (4 * k) t fs → Has B t
-      works-in t h = let x = stages-met (length rule) t h in has_in (4 * k) t gs [] (in-r (4 * k) t (map eval old) _ (met-counted wn x.0 t x.1 x.2))
+      works_in : (t : Tree) → In (4 * k) t fs → Has B t
+      works_in t h = let x = stages_met (length rule) t h in has_in (4 * k) t gs [] (in_r (4 * k) t (map eval old) _ (met_counted wn x.0 t x.1 x.2))
 
       worked : (t : Tree) (i : ℕ) → i < length rule → In (4 * k) t (met i) → Has A t
-      worked t i h q = has_in (4 * k) t fs (addTrees [] old) (met-stages (length rule) i t h q)
+      worked t i h q = has_in (4 * k) t fs (add_trees [] old) (met_stages (length rule) i t h q)
 
-      old-in : (t : Tree) → In (4 * k) t (map eval old) → Has A t
-      old-in t h =
-          let x = in-fine (4 * k) old wo t h in
-          goes-has (adds-goes (map (tree_of (4 * k)) fs) (addTrees [] old)) (subst (Has (addTrees [] old)) x.2 (has-adds old [] x.0 x.1))
+      old_in : (t : Tree) → In (4 * k) t (map eval old) → Has A t
+      old_in t h =
+          let x = in_fine (4 * k) old wo t h in
+          goes_has (adds_goes (map (tree_of (4 * k)) fs) (add_trees [] old)) (subst (Has (add_trees [] old)) x.2 (has_adds old [] x.0 x.1))
 
       new_in : (t : Tree) → In (4 * k) t (map eval new) → Has A t
       new_in t h =
-          let x = in-fine (4 * k) new wn t h in
-          let l : x.0 < length rule = (let y = x.1 in let c = new-count (length rule) in omega arith) in
-          ⊎_elim (λ q. worked t x.0 l (subst (λ (d : Tree). In (4 * k) d (met x.0)) x.2 q)) (λ q. subst (Has A) (sym q ∙ x.2) (has_no A)) (new-met x.0 l)
+          let x = in_fine (4 * k) new wn t h in
+          let l : x.0 < length rule = (let y = x.1 in let c = new_count (length rule) in omega arith) in
+          ⊎_elim (λ q. worked t x.0 l (subst (λ (d : Tree). In (4 * k) d (met x.0)) x.2 q)) (λ q. subst (Has A) (sym q ∙ x.2) (has_no A)) (new_met x.0 l)
 
-      between-has : (t : Tree) → In (4 * k) t between → Has A t
-      between-has t h = let x = between-met t h in worked t x.0 x.1 x.2
+      between_has : (t : Tree) → In (4 * k) t between → Has A t
+      between_has t h = let x = between_met t h in worked t x.0 x.1 x.2
 
-      counted-in : (t : Tree) → In (4 * k) t gs → Has A t
-      counted-in t h =
-          ⊎_elim (old-in t) (λ z. ⊎_elim (new_in t) (between-has t) (in_split (4 * k) t (map eval new) between z))
+      counted_in : (t : Tree) → In (4 * k) t gs → Has A t
+      counted_in t h =
+          ⊎_elim (old_in t) (λ z. ⊎_elim (new_in t) (between_has t) (in_split (4 * k) t (map eval new) between z))
           (in_split (4 * k) t (map eval old) (map eval new ++ between) h)

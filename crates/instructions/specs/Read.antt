@@ -17,45 +17,45 @@ names v (variable w) = eqb w v
 names v (constant c) = false
 
 -- the number that variable v has for the value j of fact f
-abbrev pub numberRead : List ℕ → ℕ → ℕ → ℕ → Number
-numberRead given f v j = record { 0 = get_or given (12 * f + (3 * v + j)) 0 }
+abbrev pub number_read : List ℕ → ℕ → ℕ → ℕ → Number
+number_read given f v j = record { 0 = get_or given (12 * f + (3 * v + j)) 0 }
 
 -- what the bits of variable v are to show: the number at its first place among the arguments, counted from j on, and any number where it has none
-unfoldable pub placeRead : ℕ → ℕ → List Argument → List ℕ → ℕ → Place
-placeRead v j [] given f = Any
-placeRead v j (g ∷ gs) given f = cond (names v g) (Is (numberRead given f v j)) (placeRead v (suc j) gs given f)
+unfoldable pub place_read : ℕ → ℕ → List Argument → List ℕ → ℕ → Place
+place_read v j [] given f = Any
+place_read v j (g ∷ gs) given f = cond (names v g) (Is (number_read given f v j)) (place_read v (suc j) gs given f)
 
 -- what fact f adds to an atom: the points of its four places where it matches, and nothing where it does not
-unfoldable pub turnRead : Bool → List Argument → List ℕ → ℕ → Turn
-turnRead matched gs given f =
-    cond matched (Hit (placeRead 0 0 gs given f) (placeRead 1 0 gs given f) (placeRead 2 0 gs given f) (placeRead 3 0 gs given f)) Miss
+unfoldable pub turn_read : Bool → List Argument → List ℕ → ℕ → Turn
+turn_read matched gs given f =
+    cond matched (Hit (place_read 0 0 gs given f) (place_read 1 0 gs given f) (place_read 2 0 gs given f) (place_read 3 0 gs given f)) Miss
 
 -- and to a row: nothing to one that is no atom
-unfoldable pub rowTurn : Row → Bool → List ℕ → ℕ → Turn
-rowTurn truth matched given f = Miss
-rowTurn (atom p gs) matched given f = turnRead matched gs given f
-rowTurn (both l r) matched given f = Miss
-rowTurn (neg r) matched given f = Miss
-rowTurn (since l r) matched given f = Miss
-rowTurn (previous r) matched given f = Miss
-rowTurn (exists x r) matched given f = Miss
+unfoldable pub row_turn : Row → Bool → List ℕ → ℕ → Turn
+row_turn truth matched given f = Miss
+row_turn (atom p gs) matched given f = turn_read matched gs given f
+row_turn (both l r) matched given f = Miss
+row_turn (neg r) matched given f = Miss
+row_turn (since l r) matched given f = Miss
+row_turn (previous r) matched given f = Miss
+row_turn (exists x r) matched given f = Miss
 
 -- the row is an atom
-unfoldable pub isAtom : Row → Bool
-isAtom truth = false
-isAtom (atom p gs) = true
-isAtom (both l r) = false
-isAtom (neg r) = false
-isAtom (since l r) = false
-isAtom (previous r) = false
-isAtom (exists x r) = false
+unfoldable pub is_atom : Row → Bool
+is_atom truth = false
+is_atom (atom p gs) = true
+is_atom (both l r) = false
+is_atom (neg r) = false
+is_atom (since l r) = false
+is_atom (previous r) = false
+is_atom (exists x r) = false
 
 -- the instruction of a row; that of an atom is never asked for
-unfoldable pub instructionRead : Row → Instruction
-instructionRead truth = Yes
-instructionRead (atom p gs) = Yes
-instructionRead (both l r) = And l r
-instructionRead (neg r) = Not r
-instructionRead (since l r) = Since l r
-instructionRead (previous r) = Old r
-instructionRead (exists x r) = Drop x r
+unfoldable pub instruction_read : Row → Instruction
+instruction_read truth = Yes
+instruction_read (atom p gs) = Yes
+instruction_read (both l r) = And l r
+instruction_read (neg r) = Not r
+instruction_read (since l r) = Since l r
+instruction_read (previous r) = Old r
+instruction_read (exists x r) = Drop x r

@@ -1,7 +1,7 @@
 // What the rows of a rule ask of the diagrams in one event: of an atom what each fact adds to it, of any other row one instruction.
 ghost use Rattle.std.specs.Prelude.{◌≡◌, [], ◌∷◌, ◌<◌, length, take};
-ghost use Rattle.rule.specs.Decoded.{argumentOf, row_of};
-ghost use Rattle.instructions.specs.Read.{names, placeRead, rowTurn, isAtom, instructionRead};
+ghost use Rattle.rule.specs.Decoded.{argument_of, row_of};
+ghost use Rattle.instructions.specs.Read.{names, place_read, row_turn, is_atom, instruction_read};
 
 use diagram::{Instruction, Turn};
 use making::Place;
@@ -10,7 +10,7 @@ use rule::{Argument, Row};
 
 // The argument is the variable `v`.
 fn is_variable(v: u32, a: Argument) -> bool
-    ensures { result ≡ names v (argumentOf a) }
+    ensures { result ≡ names v (argument_of a) }
 {
     match a {
         Argument::Variable(w) => w == v,
@@ -29,7 +29,7 @@ fn place_of(
     f: usize,
 ) -> Place
     requires { (v < 4) × (f < 8) × (length given.now ≡ 96) }
-    ensures { result ≡ placeRead v 0 (take count (argumentOf a ∷ argumentOf b ∷ argumentOf c ∷ [])) given.now f }
+    ensures { result ≡ place_read v 0 (take count (argument_of a ∷ argument_of b ∷ argument_of c ∷ [])) given.now f }
 {
     if count == 0 {
         return Place::Any;
@@ -54,7 +54,7 @@ fn place_of(
 
 // Whether the row is an atom.
 pub fn is_atom(row: Row) -> bool
-    ensures { result ≡ isAtom (row_of row) }
+    ensures { result ≡ is_atom (row_of row) }
 {
     match row {
         Row::True => false,
@@ -70,7 +70,7 @@ pub fn is_atom(row: Row) -> bool
 // What fact `f` adds to the row: `matched` says whether the row is an atom that matches it.
 pub fn turn(row: Row, matched: bool, given: &[u32; 96], f: usize) -> Turn
     requires { (f < 8) × (length given.now ≡ 96) }
-    ensures { result ≡ rowTurn (row_of row) matched given.now f }
+    ensures { result ≡ row_turn (row_of row) matched given.now f }
 {
     match row {
         Row::True => Turn::Miss,
@@ -95,7 +95,7 @@ pub fn turn(row: Row, matched: bool, given: &[u32; 96], f: usize) -> Turn
 
 // The instruction of a row that is no atom. An atom has none; it reads as yes.
 pub fn instruction(row: Row) -> Instruction
-    ensures { result ≡ instructionRead (row_of row) }
+    ensures { result ≡ instruction_read (row_of row) }
 {
     match row {
         Row::True => Instruction::Yes,

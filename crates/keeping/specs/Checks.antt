@@ -2,14 +2,14 @@
 use Rattle.std.specs.Prelude.{ℕ, ◌+◌, ◌*◌, ◌/◌, ◌%◌, ◌^◌, ◌≤◌, ◌<◌, ◌≡◌, Bool, true, false, ◌&&◌, ◌||◌, List, ◌++◌, eqb, ltb, length, get_or}
 use Rattle.std.specs.Int.Bits.{bit_or}
 use Rattle.trees.specs.Tree.{Tree, off, on, node}
-use Rattle.trees.specs.Table.{addTree, at, treesOf}
-use Rattle.trees.specs.Kept.{nodeRight, equalNodes, levels}
+use Rattle.trees.specs.Table.{add_tree, at, trees_of}
+use Rattle.trees.specs.Kept.{node_right, equal_nodes, levels}
 use Rattle.nodes.specs.Nodes.{canonical, Rest}
 use Rattle.nodes.specs.Chains.{Chained}
 
 -- the level l is one of the row i's: its variable l / k is one of four, and allowed to the row
-unfoldable pub freeBy : ℕ → List ℕ → ℕ → ℕ → Bool
-freeBy k allowed i l = ltb (l / k) 4 && eqb (get_or allowed i 0 / 2 ^ (l / k) % 2) 1
+unfoldable pub free_by : ℕ → List ℕ → ℕ → ℕ → Bool
+free_by k allowed i l = ltb (l / k) 4 && eqb (get_or allowed i 0 / 2 ^ (l / k) % 2) 1
 
 -- the references of the first count rows lead to kept nodes or leaves
 abbrev pub Inside : List ℕ → ℕ → ℕ → Type 0
@@ -21,22 +21,22 @@ ZeroFrom i xs = (j : ℕ) → i ≤ j → get_or xs j 0 ≡ 0
 
 -- each of the first n nodes is right by itself, and its level is below the count of levels
 pub record Right (ns : List ℕ) (n levels : ℕ) : Type 0 where
-  pub node : (j : ℕ) → j < n → nodeRight ns j ≡ true
+  pub node : (j : ℕ) → j < n → node_right ns j ≡ true
   pub level : (j : ℕ) → j < n → get_or ns (3 * j) 0 < levels
 
 -- no two of the first n nodes are equal
 abbrev pub Apart : List ℕ → ℕ → Type 0
-Apart ns n = (i j : ℕ) → i < n → j < i → equalNodes ns i j ≡ false
+Apart ns n = (i j : ℕ) → i < n → j < i → equal_nodes ns i j ≡ false
 
 -- the diagram of r, added to the first n nodes, leads to the first n' of them
 pub record InOrder (ns : List ℕ) (kept n r n' : ℕ) : Type 0 where
   pub more : n ≤ n'
   pub fits : n' ≤ kept
-  pub trees : addTree (treesOf ns n) (at (treesOf ns kept) r) ≡ treesOf ns n'
+  pub trees : add_tree (trees_of ns n) (at (trees_of ns kept) r) ≡ trees_of ns n'
 
 -- it leads to a table that the kept nodes don't go on from
 pub record OutOfOrder (ns : List ℕ) (kept n r : ℕ) : Type 0 where
-  pub never : (more : List Tree) → treesOf ns kept ≡ addTree (treesOf ns n) (at (treesOf ns kept) r) ++ more → ⊥
+  pub never : (more : List Tree) → trees_of ns kept ≡ add_tree (trees_of ns n) (at (trees_of ns kept) r) ++ more → ⊥
 
 -- what the walk over a diagram answers: the count of nodes it leads to, or one over kept
 pub record Follows (ns : List ℕ) (kept n r n' : ℕ) : Type 0 where
@@ -46,7 +46,7 @@ pub record Follows (ns : List ℕ) (kept n r n' : ℕ) : Type 0 where
 
 -- the kept nodes are the rows' diagrams, in canonical order
 abbrev pub InRowOrder : List ℕ → ℕ → List ℕ → ℕ → Type 0
-InRowOrder ns kept refs count = canonical ns kept refs count ≡ treesOf ns kept
+InRowOrder ns kept refs count = canonical ns kept refs count ≡ trees_of ns kept
 
 -- whether a tree asks a level of the variable v
 unfoldable pub asked : ℕ → ℕ → Tree → Bool
@@ -55,16 +55,16 @@ asked k v on = false
 asked k v (node l a b) = eqb (l / k) v || (asked k v a || asked k v b)
 
 -- bit v of the number n is set
-unfoldable pub hasBit : ℕ → ℕ → Bool
-hasBit n v = eqb (n / 2 ^ v % 2) 1
+unfoldable pub has_bit : ℕ → ℕ → Bool
+has_bit n v = eqb (n / 2 ^ v % 2) 1
 
 -- at each reference to a leaf or one of the first n nodes stands the set of variables that its diagram asks, a bit a variable
 pub record Marks (ns : List ℕ) (kept k : ℕ) (w : List ℕ) (n : ℕ) : Type 0 where
-  pub is : (r : ℕ) → r < n + 2 → (v : ℕ) → hasBit (get_or w r 0) v ≡ asked k v (at (treesOf ns kept) r)
+  pub is : (r : ℕ) → r < n + 2 → (v : ℕ) → has_bit (get_or w r 0) v ≡ asked k v (at (trees_of ns kept) r)
 
 -- the levels of each row's diagram are the row's
 abbrev pub FreeOnly : List ℕ → ℕ → ℕ → List ℕ → List ℕ → ℕ → Type 0
-FreeOnly ns kept k allowed refs count = (i : ℕ) → i < count → levels (freeBy k allowed i) (at (treesOf ns kept) (get_or refs i 0)) ≡ true
+FreeOnly ns kept k allowed refs count = (i : ℕ) → i < count → levels (free_by k allowed i) (at (trees_of ns kept) (get_or refs i 0)) ≡ true
 
 -- the marks of every row are among those that it is allowed
 abbrev pub RowsAllowed : List ℕ → List ℕ → List ℕ → ℕ → Type 0

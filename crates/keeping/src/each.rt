@@ -1,6 +1,6 @@
 // The passes over single references and single nodes, and the search for equal nodes. Assumes nothing.
 ghost use Rattle.std.specs.Prelude.{◌≡◌, true, ◌+◌, ◌*◌, ◌-◌, ◌/◌, ◌<◌, ◌≤◌, length};
-ghost use Rattle.trees.specs.Kept.{above, nodeRight};
+ghost use Rattle.trees.specs.Kept.{above, node_right};
 ghost use Rattle.nodes.specs.Nodes.{Between, Decides};
 ghost use Rattle.nodes.specs.Chains.{Chained};
 ghost use Rattle.keeping.specs.Checks.{Inside, ZeroFrom, Right, Apart, Sized};
@@ -52,7 +52,7 @@ fn leads_above(nodes: &[u32], level: u32, r: u32) -> bool
 // Whether the node at place j is right by itself.
 fn node_right(nodes: &[u32], j: u32) -> bool
     requires { (3 * j + 2 < length nodes.now) × (length nodes.now ≤ 12288) }
-    ensures { result ≡ nodeRight nodes.now j }
+    ensures { result ≡ node_right nodes.now j }
 {
     let i = 3 * (j as usize);
     let level = nodes[i];

@@ -1,9 +1,9 @@
 // The pass that finds whether each row asks only variables that it is allowed. A set of variables is a number, a bit a variable;
 // one walk over the nodes, children before parents, marks each with the set that its diagram asks. Assumes nothing.
 ghost use Rattle.std.specs.Prelude.{◌≡◌, ℕ, ◌+◌, ◌*◌, ◌/◌, ◌^◌, ◌<◌, ◌≤◌, length, get_or};
-ghost use Rattle.trees.specs.Table.{at, treesOf};
+ghost use Rattle.trees.specs.Table.{at, trees_of};
 ghost use Rattle.nodes.specs.Nodes.{Table, Rest, Rows, Decides};
-ghost use Rattle.keeping.specs.Checks.{hasBit, asked, Marks, RowsAllowed, Right, FreeOnly};
+ghost use Rattle.keeping.specs.Checks.{has_bit, asked, Marks, RowsAllowed, Right, FreeOnly};
 
 // What is marked at a reference.
 fn marked(work: &[u32], r: u32) -> u32
@@ -36,7 +36,7 @@ fn asks(nodes: &[u32], kept: u32, work: &[u32], j: u32, k: u32) -> u32
     requires table { Table nodes.now kept × Right nodes.now kept (4 * k) }
     requires j_lt_kept { (j < kept) × (kept + 2 ≤ length work.now) × (0 < k) × (k ≤ 10) }
     requires marks { Marks nodes.now kept k work.now j }
-    ensures { (v : ℕ) → hasBit result v ≡ asked k v (at (treesOf nodes.now kept) (j + 2)) }
+    ensures { (v : ℕ) → has_bit result v ≡ asked k v (at (trees_of nodes.now kept) (j + 2)) }
 {
     let i = 3 * (j as usize);
     own(nodes[i], k) | (marked(work, nodes[i + 1]) | marked(work, nodes[i + 2]))

@@ -5,8 +5,8 @@ mod order; // canonical order
 mod free; // the rows' variables
 
 ghost use Rattle.std.specs.Prelude.{◌≡◌, ◌*◌, ◌/◌, ◌≤◌, length};
-ghost use Rattle.trees.specs.Kept.{wellKept};
-ghost use Rattle.keeping.specs.Checks.{freeBy, Sized, CheckLeaves};
+ghost use Rattle.trees.specs.Kept.{well_kept};
+ghost use Rattle.keeping.specs.Checks.{free_by, Sized, CheckLeaves};
 
 use crate::each::{all_differ, all_right, inside, rest_zero};
 use crate::free::free_only;
@@ -26,7 +26,7 @@ pub fn check(
 ) -> bool
     requires le_k { (1 ≤ k) × (k ≤ 10) × (count ≤ 64) × (length refs.now ≡ 64) }
     requires sized { Sized nodes.now work.old }
-    ensures value { result ≡ wellKept (freeBy k allowed.now) (length nodes.now / 3) count refs.now kept nodes.now }
+    ensures value { result ≡ well_kept (free_by k allowed.now) (length nodes.now / 3) count refs.now kept nodes.now }
     ensures check_leaves { CheckLeaves nodes.now kept work.old work.new result }
 {
     let c = nodes.len() / 3;

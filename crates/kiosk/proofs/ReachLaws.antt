@@ -3,27 +3,27 @@ use Prim.Native.Nat.{ℕ}
 use mathlib.Core.Path.{◌≡◌, refl, ap, ◌∙◌}
 use mathlib.Core.List.{List, [], ◌∷◌, ◌++◌}
 use lib.ListN.{take, replicate}
-use Rattle.session.specs.Lefts.{openedSession}
+use Rattle.session.specs.Lefts.{opened_session}
 use Rattle.session.specs.declared.Session.{Session}
-use Rattle.kiosk.specs.Desks.{Desk, deskOf, blockDesk, Fills}
-use Rattle.kiosk.specs.Runs.{openedDesk, after, Reached, Answers}
+use Rattle.kiosk.specs.Desks.{Desk, desk_of, block_desk, Fills}
+use Rattle.kiosk.specs.Runs.{opened_desk, after, Reached, Answers}
 
 -- before the first block
-pub reached-first : {s : Session} → s ≡ openedSession
-    → Reached (deskOf s 0 (replicate 101 0) (replicate 585 0) (replicate 1536 0) (replicate 4092 0) (replicate 9216 0))
-unfolding after openedDesk
-reached-first e = record { blocks = []; desk-is = λ i. deskOf (e i) 0 (replicate 101 0) (replicate 585 0) (replicate 1536 0) (replicate 4092 0) (replicate 9216 0) }
+pub reached_first : {s : Session} → s ≡ opened_session
+    → Reached (desk_of s 0 (replicate 101 0) (replicate 585 0) (replicate 1536 0) (replicate 4092 0) (replicate 9216 0))
+unfolding after opened_desk
+reached_first e = record { blocks = []; desk_is = λ i. desk_of (e i) 0 (replicate 101 0) (replicate 585 0) (replicate 1536 0) (replicate 4092 0) (replicate 9216 0) }
 
 -- one block more
-after_more : (d : Desk) (blocks : List (List ℕ)) (block : List ℕ) → blockDesk (after d blocks) block ≡ after d (blocks ++ (block ∷ []))
+after_more : (d : Desk) (blocks : List (List ℕ)) (block : List ℕ) → block_desk (after d blocks) block ≡ after d (blocks ++ (block ∷ []))
 unfolding after
 after_more d [] block = refl
-after_more d (b ∷ bs) block = after_more (blockDesk d b) bs block
+after_more d (b ∷ bs) block = after_more (block_desk d b) bs block
 
-pub reached-more : {d d' : Desk} {block out out' : List ℕ} {n : ℕ} → Reached d → Fills d block out d' out' n → Reached d'
-reached-more {d} {d'} {block} r g =
-    record { blocks = r.blocks ++ (block ∷ []); desk-is = g.desk-is ∙ ap (λ (x : Desk). blockDesk x block) r.desk-is ∙ after_more openedDesk r.blocks block }
+pub reached_more : {d d' : Desk} {block out out' : List ℕ} {n : ℕ} → Reached d → Fills d block out d' out' n → Reached d'
+reached_more {d} {d'} {block} r g =
+    record { blocks = r.blocks ++ (block ∷ []); desk_is = g.desk_is ∙ ap (λ (x : Desk). block_desk x block) r.desk_is ∙ after_more opened_desk r.blocks block }
 
 -- what it puts out
-pub reached-answers : {d d' : Desk} {block out out' : List ℕ} {n : ℕ} → Reached d → Fills d block out d' out' n → Answers (take n out')
-reached-answers {d} {d'} {block} r g = record { desk = d; reached = r; block = block; are = g.put.shown }
+pub reached_answers : {d d' : Desk} {block out out' : List ℕ} {n : ℕ} → Reached d → Fills d block out d' out' n → Answers (take n out')
+reached_answers {d} {d'} {block} r g = record { desk = d; reached = r; block = block; are = g.put.shown }

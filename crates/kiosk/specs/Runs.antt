@@ -1,12 +1,12 @@
 -- A run of the program over an input that comes in blocks: calls of `lines_of`, each on what the call before left. Assumes nothing: these are
 -- definitions.
 use Rattle.std.specs.Prelude.{ℕ, ◌≡◌, true, List, [], ◌∷◌, ◌++◌, take, replicate}
-use Rattle.session.specs.Lefts.{openedSession, is_over}
-use Rattle.kiosk.specs.Desks.{Desk, deskOf, blockDesk, blockPuts, Fills}
+use Rattle.session.specs.Lefts.{opened_session, is_over}
+use Rattle.kiosk.specs.Desks.{Desk, desk_of, block_desk, block_puts, Fills}
 
 -- the desk before the first block: nothing has come, and every table is 0
-unfoldable pub openedDesk : Desk
-openedDesk = deskOf openedSession 0 (replicate 101 0) (replicate 585 0) (replicate 1536 0) (replicate 4092 0) (replicate 9216 0)
+unfoldable pub opened_desk : Desk
+opened_desk = desk_of opened_session 0 (replicate 101 0) (replicate 585 0) (replicate 1536 0) (replicate 4092 0) (replicate 9216 0)
 
 -- the input: its blocks, one behind the other
 unfoldable pub joined : List (List ℕ) → List ℕ
@@ -24,16 +24,16 @@ pub data Runs : Desk → List (List ℕ) → List ℕ → Type 0 where
 -- the desk after some blocks
 unfoldable pub after : Desk → List (List ℕ) → Desk
 after d [] = d
-after d (block ∷ blocks) = after (blockDesk d block) blocks
+after d (block ∷ blocks) = after (block_desk d block) blocks
 
 -- the desk is that after some blocks, from before the first on
 pub record Reached (d : Desk) : Type 0 where
   pub blocks : List (List ℕ)
-  pub desk-is : d ≡ after openedDesk blocks
+  pub desk_is : d ≡ after opened_desk blocks
 
 -- the bytes are what some block puts out at a desk that is reached
 pub record Answers (put : List ℕ) : Type 0 where
   pub desk : Desk
   pub reached : Reached desk
   pub block : List ℕ
-  pub are : put ≡ blockPuts desk block
+  pub are : put ≡ block_puts desk block

@@ -1,7 +1,7 @@
 // A block of the input, judged line by line, with what its lines tell.
 ghost use Rattle.std.specs.Prelude.{◌+◌, max, ◌≤◌, ◌<◌, length, take};
 ghost use Rattle.session.specs.Sessions.{Sound};
-ghost use Rattle.kiosk.specs.Desks.{deskOf, Served, Ended, Fills};
+ghost use Rattle.kiosk.specs.Desks.{desk_of, Served, Ended, Fills};
 ghost use Rattle.kiosk.specs.Blocks.{Serves, Takes};
 
 use session::Session;
@@ -30,7 +30,7 @@ fn serve(
     requires sound { Sound s × (s.ordinal < 18446744073709551615) }
     requires held_bound { (held ≤ 101) × (at + 75 ≤ 76800) × (at ≤ length out.old) }
     ensures serves { Serves s at result }
-    ensures served { Served whole (deskOf s held line.now rows.old nodes.old values.old work.old) out.old at (deskOf result.session result.held line.now rows.new nodes.new values.new work.new) out.new result.at }
+    ensures served { Served whole (desk_of s held line.now rows.old nodes.old values.old work.old) out.old at (desk_of result.session result.held line.now rows.new nodes.new values.new work.new) out.new result.at }
 {
     if !whole {
         return Fed {
@@ -64,7 +64,7 @@ fn rest(
     requires sound { Sound s × (s.ordinal < 18446744073709551615) }
     requires held_bound { held ≤ 101 }
     ensures takes { Takes s 1 result }
-    ensures ended { Ended (deskOf s held line.now rows.old nodes.old values.old work.old) out.old (deskOf result.session result.held line.now rows.new nodes.new values.new work.new) out.new result.at }
+    ensures ended { Ended (desk_of s held line.now rows.old nodes.old values.old work.old) out.old (desk_of result.session result.held line.now rows.new nodes.new values.new work.new) out.new result.at }
 {
     let fed = serve(s, held, 0 < held, line, rows, nodes, values, work, out, 0);
     let after = session::ready(fed.session, rows, nodes, values);
@@ -93,7 +93,7 @@ pub fn lines_of(
     requires sound { Sound s × (s.ordinal + n < 18446744073709551615) }
     requires held_bound { (held ≤ 101) × (n ≤ 1024) }
     ensures takes { Takes s (max n 1) result }
-    ensures fills { Fills (deskOf s held line.old rows.old nodes.old values.old work.old) (take n block.now) out.old (deskOf result.session result.held line.new rows.new nodes.new values.new work.new) out.new result.at }
+    ensures fills { Fills (desk_of s held line.old rows.old nodes.old values.old work.old) (take n block.now) out.old (desk_of result.session result.held line.new rows.new nodes.new values.new work.new) out.new result.at }
 {
     let mut fed = Fed {
         session: s,

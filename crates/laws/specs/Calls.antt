@@ -1,8 +1,8 @@
 -- Calls of the walks that had room enough, one after the other on one table: what the contracts of since_walk, not_walk and
 -- drop_walk (crates/walks) ask and promise, in their words. Assumes nothing: these are definitions.
 use Rattle.std.specs.Prelude.{ℕ, zero, suc, ◌+◌, ◌*◌, ◌≤◌, List}
-use Rattle.trees.specs.Tree.{Tree, notT, sinceT, dropT}
-use Rattle.trees.specs.Table.{at, treesOf}
+use Rattle.trees.specs.Tree.{Tree, not_t, since_t, drop_t}
+use Rattle.trees.specs.Table.{at, trees_of}
 use Rattle.nodes.specs.Nodes.{Table}
 use Rattle.making.specs.Tables.{Added}
 use Rattle.making.specs.declared.Made.TheVariants.{At}
@@ -16,7 +16,7 @@ pub record Held : Type 0 where
 
 -- the diagram that a reference leads to
 abbrev pub tree : Held → ℕ → Tree
-tree x p = at (treesOf x.nodes x.count) p
+tree x p = at (trees_of x.nodes x.count) p
 
 -- well-formed input: p is a reference of the table, and its diagram asks only the last `left` of the levels
 pub record Input (levels : ℕ) (x : Held) (p : ℕ) : Type 0 where
@@ -34,19 +34,19 @@ pub record Call (levels : ℕ) (x : Held) (d : Tree) (y : Held) (r : ℕ) : Type
 
 -- and of p and q: since_walk with no on the right
 abbrev pub AndCall : ℕ → Held → ℕ → ℕ → Held → ℕ → Type 0
-AndCall levels x p q y r = Input levels x p × Input levels x q × Call levels x (sinceT levels (tree x p) (tree x 0) (tree x q)) y r
+AndCall levels x p q y r = Input levels x p × Input levels x q × Call levels x (since_t levels (tree x p) (tree x 0) (tree x q)) y r
 
 -- or of p and q: since_walk with yes on the left
 abbrev pub OrCall : ℕ → Held → ℕ → ℕ → Held → ℕ → Type 0
-OrCall levels x p q y r = Input levels x p × Input levels x q × Call levels x (sinceT levels (tree x 1) (tree x p) (tree x q)) y r
+OrCall levels x p q y r = Input levels x p × Input levels x q × Call levels x (since_t levels (tree x 1) (tree x p) (tree x q)) y r
 
 -- not of p: not_walk, whose promise says of the visits besides
 abbrev pub NotCall : ℕ → Held → ℕ → Held → ℕ → Type 0
-NotCall levels x p y r = Input levels x p × Call levels x (notT levels (tree x p)) y r
+NotCall levels x p y r = Input levels x p × Call levels x (not_t levels (tree x p)) y r
 
 -- p without its bit at the level v: drop_walk
 abbrev pub DropCall : ℕ → ℕ → Held → ℕ → Held → ℕ → Type 0
-DropCall levels v x p y r = Input levels x p × Call levels x (dropT levels v (tree x p)) y r
+DropCall levels v x p y r = Input levels x p × Call levels x (drop_t levels v (tree x p)) y r
 
 -- p without the `bits` bits from the level base on: calls of drop_walk one after the other, from the highest bit down
 pub data DropCalls (levels base : ℕ) : ℕ → Held → ℕ → Held → ℕ → Type 0 where

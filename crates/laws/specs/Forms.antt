@@ -19,11 +19,11 @@ worked levels (negated f) = tree_of levels (λ s. not (eval (worked levels f) s)
 worked levels (without base bits f) = tree_of levels (drops base bits (eval (worked levels f)))
 
 -- what it says
-unfoldable pub formSays : Form → Function
-formSays (row d) s = eval d s
-formSays (and f g) s = formSays f s && formSays g s
-formSays (negated f) s = not (formSays f s)
-formSays (without base bits f) s = drops base bits (formSays f) s
+unfoldable pub form_says : Form → Function
+form_says (row d) s = eval d s
+form_says (and f g) s = form_says f s && form_says g s
+form_says (negated f) s = not (form_says f s)
+form_says (without base bits f) s = drops base bits (form_says f) s
 
 -- its rows that are there have reduced ordered diagrams over the levels
 unfoldable pub Formed : ℕ → Form → Type 0

@@ -11,7 +11,7 @@ use Rattle.lines.specs.declared.Line.{Line}
 use Rattle.lines.specs.declared.Line.TheVariants.{Sizes, Row, Event, Bad}
 use Rattle.lines.proofs.Every.{every_take}
 use Rattle.lines.proofs.Text.{headed, text_head}
-use Rattle.lines.proofs.Run.{run-count, places, nine-places}
+use Rattle.lines.proofs.Run.{run_count, places, nine_places}
 
 -- a line that begins with `e` is no line where one to five numbers do not follow
 none : {line : List ℕ} → LedBy line 101
@@ -30,24 +30,24 @@ none {line} e no-event = record { none = go }
     go Bad w = w.right
 
 -- no line where no run of numbers follows
-pub event-no-run : {line : List ℕ} → LedBy line 101 → NoRun (drop 1 line) → NoLine line
-event-no-run e r = none e (λ ns f some few s. r.none ns f (omega arith) s)
+pub event_no_run : {line : List ℕ} → LedBy line 101 → NoRun (drop 1 line) → NoLine line
+event_no_run e r = none e (λ ns f some few s. r.none ns f (omega arith) s)
 
 -- no line where no predicate follows
-pub event-no-predicate : {line : List ℕ} {count : ℕ} {all : List ℕ} → LedBy line 101 → Run (drop 1 line) count all → count ≡ 0 → NoLine line
-event-no-predicate e r z = none e (λ ns f some few s. omega (arith, run-count r ns f s))
+pub event_no_predicate : {line : List ℕ} {count : ℕ} {all : List ℕ} → LedBy line 101 → Run (drop 1 line) count all → count ≡ 0 → NoLine line
+event_no_predicate e r z = none e (λ ns f some few s. omega (arith, run_count r ns f s))
 
 -- no line where more than four values follow
-pub event-too-many : {line : List ℕ} {count : ℕ} {all : List ℕ} → LedBy line 101 → Run (drop 1 line) count all → 5 < count → NoLine line
-event-too-many e r z = none e (λ ns f some few s. omega (arith, run-count r ns f s))
+pub event_too_many : {line : List ℕ} {count : ℕ} {all : List ℕ} → LedBy line 101 → Run (drop 1 line) count all → 5 < count → NoLine line
+event_too_many e r z = none e (λ ns f some few s. omega (arith, run_count r ns f s))
 
 -- the event of one to five numbers
-pub event-written : {line : List ℕ} (count : ℕ) {all : List ℕ} → LedBy line 101 → Run (drop 1 line) count all
+pub event_written : {line : List ℕ} (count : ℕ) {all : List ℕ} → LedBy line 101 → Run (drop 1 line) count all
     → (count ≡ 0 → ⊥) → count ≤ 5
     → Written line (Event (get_or all 0 0) (count - 1) (get_or all 1 0) (get_or all 2 0) (get_or all 3 0) (get_or all 4 0))
 unfolding text
-event-written zero e r some few = absurd (some refl)
-event-written {line} (suc n) {all} e r some few =
+event_written zero e r some few = absurd (some refl)
+event_written {line} (suc n) {all} e r some few =
     let one : suc n - 1 ≡ n = omega arith in
     rw one
     (record {
@@ -56,7 +56,7 @@ event-written {line} (suc n) {all} e r some few =
     })
   where
     listed : all ≡ places all 0 9
-    listed = nine-places all r.nine
+    listed = nine_places all r.nine
 
     fits : Every Fits (places all 0 9)
     fits = subst (Every Fits) listed r.fit

@@ -9,12 +9,12 @@ use Rattle.lines.specs.Format.{Fits, Every, spaced, text, Right, Written, Reads}
 use Rattle.lines.specs.declared.Line.{Line}
 use Rattle.lines.specs.declared.Line.TheVariants.{Sizes, Row, Event, Bad}
 use Rattle.lines.proofs.Every.{every_take}
-use Rattle.lines.proofs.Numeral.{numeral-every}
+use Rattle.lines.proofs.Numeral.{numeral_every}
 
 -- a number below 10^(k + 1) has at most k + 1 digits
-numeral-length : (n : ℕ) → (k : ℕ) → n < 10 ^ suc k → length (numeral n) ≤ suc k
-numeral-length =
-    numeral-every
+numeral_length : (n : ℕ) → (k : ℕ) → n < 10 ^ suc k → length (numeral n) ≤ suc k
+numeral_length =
+    numeral_every
     (λ n ds. (k : ℕ) → n < 10 ^ suc k → length ds ≤ suc k)
     (λ n h k low. omega arith)
     grows
@@ -25,28 +25,28 @@ numeral-length =
     grows n d ds hn hd ih (suc k) low = omega (arith, length-append ds ((48 + d) ∷ []), ih k (omega arith))
 
 -- a number of the input has at most ten digits
-numeral-short : (n : ℕ) → Fits n → length (numeral n) ≤ 10
-numeral-short n f = numeral-length n 9 (omega arith)
+numeral_short : (n : ℕ) → Fits n → length (numeral n) ≤ 10
+numeral_short n f = numeral_length n 9 (omega arith)
 
 -- each number of a run takes at most eleven bytes
-spaced-short : (ns : List ℕ) → Every Fits ns → length (spaced ns) ≤ 11 * length ns
+spaced_short : (ns : List ℕ) → Every Fits ns → length (spaced ns) ≤ 11 * length ns
 unfolding spaced
-spaced-short [] f = omega arith
-spaced-short (n ∷ ns) f =
-    omega (arith, length-append (numeral n) (spaced ns), numeral-short n f.0, spaced-short ns f.1)
+spaced_short [] f = omega arith
+spaced_short (n ∷ ns) f =
+    omega (arith, length-append (numeral n) (spaced ns), numeral_short n f.0, spaced_short ns f.1)
 
 -- no right line is longer than 100 bytes
-pub text-short : (l : Line) → Right l → length (text l) ≤ 100
+pub text_short : (l : Line) → Right l → length (text l) ≤ 100
 unfolding text
-text-short (Sizes k c) r =
-    omega (arith, length-append (numeral k) (spaced (c ∷ [])), numeral-short k r.0, spaced-short (c ∷ []) (omega arith, tt))
-text-short (Row x1 x2 x3 x4 x5 x6 x7 x8 x9) r = omega (arith, spaced-short (x1 ∷ x2 ∷ x3 ∷ x4 ∷ x5 ∷ x6 ∷ x7 ∷ x8 ∷ x9 ∷ []) r)
-text-short (Event p n x1 x2 x3 x4) r =
+text_short (Sizes k c) r =
+    omega (arith, length-append (numeral k) (spaced (c ∷ [])), numeral_short k r.0, spaced_short (c ∷ []) (omega arith, tt))
+text_short (Row x1 x2 x3 x4 x5 x6 x7 x8 x9) r = omega (arith, spaced_short (x1 ∷ x2 ∷ x3 ∷ x4 ∷ x5 ∷ x6 ∷ x7 ∷ x8 ∷ x9 ∷ []) r)
+text_short (Event p n x1 x2 x3 x4) r =
     let values : List ℕ = x1 ∷ x2 ∷ x3 ∷ x4 ∷ [] in
     let fit : Every Fits (p ∷ take n values) = (r.fit.0, every_take Fits n values r.fit.1) in
-    omega (arith, spaced-short (p ∷ take n values) fit, length-take n values, r.few)
-text-short Bad r = absurd r
+    omega (arith, spaced_short (p ∷ take n values) fit, length-take n values, r.few)
+text_short Bad r = absurd r
 
 -- a line of more than 100 bytes is read as `Bad`
-pub long-line-bad : (bytes : List ℕ) → 100 < length bytes → Reads bytes Bad
-long-line-bad bytes h = record { none = λ l w. omega (arith, text-short l w.right, ap length w.shown) }
+pub long_line_bad : (bytes : List ℕ) → 100 < length bytes → Reads bytes Bad
+long_line_bad bytes h = record { none = λ l w. omega (arith, text_short l w.right, ap length w.shown) }

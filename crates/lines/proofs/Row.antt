@@ -10,7 +10,7 @@ use Rattle.lines.specs.Parts.{LedBy, Run, NoRun}
 use Rattle.lines.specs.declared.Line.{Line}
 use Rattle.lines.specs.declared.Line.TheVariants.{Sizes, Row, Event, Bad}
 use Rattle.lines.proofs.Text.{headed, text_head}
-use Rattle.lines.proofs.Run.{run-count, places, nine-places}
+use Rattle.lines.proofs.Run.{run_count, places, nine_places}
 
 -- a line that begins with `r` is no line where nine numbers do not follow
 none : {line : List ℕ} → LedBy line 114
@@ -26,12 +26,12 @@ none {line} e no_row = record { none = go }
     go Bad w = w.right
 
 -- no line where no run of numbers follows
-pub row-no-run : {line : List ℕ} → LedBy line 114 → NoRun (drop 1 line) → NoLine line
-row-no-run e r = none e (λ ns f l s. r.none ns f (omega arith) s)
+pub row_no_run : {line : List ℕ} → LedBy line 114 → NoRun (drop 1 line) → NoLine line
+row_no_run e r = none e (λ ns f l s. r.none ns f (omega arith) s)
 
 -- no line where other than nine numbers follow
 pub row_count : {line : List ℕ} {count : ℕ} {all : List ℕ} → LedBy line 114 → Run (drop 1 line) count all → (count ≡ 9 → ⊥) → NoLine line
-row_count e r other = none e (λ ns f l s. other (sym (run-count r ns f s) ∙ l))
+row_count e r other = none e (λ ns f l s. other (sym (run_count r ns f s) ∙ l))
 
 -- the row of nine numbers
 pub row_written : {line : List ℕ} {count : ℕ} {all : List ℕ} → LedBy line 114 → Run (drop 1 line) count all → count ≡ 9
@@ -40,9 +40,9 @@ pub row_written : {line : List ℕ} {count : ℕ} {all : List ℕ} → LedBy lin
 unfolding text
 row_written {line} {count} {all} e r full =
     record {
-      right = subst (Every Fits) (nine-places all r.nine) r.fit;
+      right = subst (Every Fits) (nine_places all r.nine) r.fit;
       shown = headed 114 (spaced (places all 0 9)) e (r.shown ∙ ap spaced whole);
     }
   where
     whole : take count all ≡ places all 0 9
-    whole = ap (λ (k : ℕ). take k all) full ∙ take_all 9 all (omega (arith, r.nine)) ∙ nine-places all r.nine
+    whole = ap (λ (k : ℕ). take k all) full ∙ take_all 9 all (omega (arith, r.nine)) ∙ nine_places all r.nine

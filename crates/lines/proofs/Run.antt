@@ -9,26 +9,26 @@ use lib.Seq.{drop-cons}
 use Rattle.lines.specs.Format.{Fits, Every, spaced}
 use Rattle.lines.specs.Parts.{Run, NoRun, Found}
 use Rattle.lines.proofs.Every.{every_take}
-use Rattle.lines.proofs.Spaced.{spaced-same}
+use Rattle.lines.proofs.Spaced.{spaced_same}
 
 -- a run that was found
-pub found-run : {bytes : List ℕ} {count : ℕ} {all : List ℕ} → Run bytes count all → Found bytes true count all
-found-run r = record { run = λ e. r; none = λ e. absurd (let z : ◌≡◌ {A = ℕ} 0 1 = cc in omega arith) }
+pub found_run : {bytes : List ℕ} {count : ℕ} {all : List ℕ} → Run bytes count all → Found bytes true count all
+found_run r = record { run = λ e. r; none = λ e. absurd (let z : ◌≡◌ {A = ℕ} 0 1 = cc in omega arith) }
 
 -- that there is no run was found
 pub found_none : {bytes : List ℕ} {count : ℕ} {all : List ℕ} → NoRun bytes → Found bytes false count all
 found_none r = record { run = λ e. absurd (let z : ◌≡◌ {A = ℕ} 0 1 = cc in omega arith); none = λ e. r }
 
 -- a run that the bytes are is the run that was read
-pub run-same : {bytes : List ℕ} {count : ℕ} {all : List ℕ} → Run bytes count all
+pub run_same : {bytes : List ℕ} {count : ℕ} {all : List ℕ} → Run bytes count all
     → (ns : List ℕ) → Every Fits ns → bytes ≡ spaced ns → take count all ≡ ns
-run-same {bytes} {count} {all} r ns f e =
-    spaced-same (take count all) ns (every_take Fits count all r.fit) f (sym r.shown ∙ e)
+run_same {bytes} {count} {all} r ns f e =
+    spaced_same (take count all) ns (every_take Fits count all r.fit) f (sym r.shown ∙ e)
 
 -- a run that the bytes are has as many numbers as were counted
-pub run-count : {bytes : List ℕ} {count : ℕ} {all : List ℕ} → Run bytes count all
+pub run_count : {bytes : List ℕ} {count : ℕ} {all : List ℕ} → Run bytes count all
     → (ns : List ℕ) → Every Fits ns → bytes ≡ spaced ns → length ns ≡ count
-run-count {bytes} {count} {all} r ns f e = omega (arith, ap length (run-same r ns f e), length-take count all, r.nine, r.few)
+run_count {bytes} {count} {all} r ns f e = omega (arith, ap length (run_same r ns f e), length-take count all, r.nine, r.few)
 
 -- k numbers of the list, from place `at` on
 abbrev pub places : List ℕ → ℕ → ℕ → List ℕ
@@ -41,5 +41,5 @@ listed all at zero e = drop_of_length-le all {i = at} (omega arith)
 listed all at (suc k) e = drop-cons all at 0 (omega arith) ∙ ap (λ (l : List ℕ). get_or all at 0 ∷ l) (listed all (suc at) k (omega arith))
 
 -- a list of nine numbers is its nine places
-pub nine-places : (all : List ℕ) → length all ≡ 9 → all ≡ places all 0 9
-nine-places all e = listed all 0 9 e
+pub nine_places : (all : List ℕ) → length all ≡ 9 → all ≡ places all 0 9
+nine_places all e = listed all 0 9 e

@@ -14,8 +14,8 @@ use Rattle.lines.specs.Numeral.{numeral}
 use Rattle.lines.specs.Format.{Fits, Every, spaced}
 use Rattle.lines.specs.Parts.{Opens, Took, NoNumber, Run, NoRun}
 use Rattle.lines.proofs.Every.{every_set}
-use Rattle.lines.proofs.Opens.{opens-same}
-use Rattle.lines.proofs.Spaced.{Next, spaced-snoc, spaced-next}
+use Rattle.lines.proofs.Opens.{opens_same}
+use Rattle.lines.proofs.Spaced.{Next, spaced_snoc, spaced_next}
 
 -- ns goes on after ms, and its further numbers are the rest
 pub record Further (ms rest ns : List ℕ) : Type 0 where
@@ -35,9 +35,9 @@ pub record Running (line : List ℕ) (at count : ℕ) (all : List ℕ) (i : ℕ)
   pub only : (ns : List ℕ) → Every Fits ns → drop at line ≡ spaced ns → Further (take count all) (drop i line) ns
 
 -- before the first number
-pub running-start : (line : List ℕ) (at : ℕ) → at ≤ length line → Running line at 0 (replicate 9 0) at
+pub running_start : (line : List ℕ) (at : ℕ) → at ≤ length line → Running line at 0 (replicate 9 0) at
 unfolding spaced
-running-start line at h =
+running_start line at h =
     record {
       inside = h;
       few = omega arith;
@@ -69,7 +69,7 @@ running_more {line} {at} {count} {all} {i} {n} {next} r h space free t =
       nine = length-set all count n ∙ r.nine;
       fit = every_set Fits all count n r.fit t.opens.fits;
       zeros = λ k low. get_or-set_other all count k n 0 (omega arith) ∙ r.zeros k (omega arith);
-      shown = rw (grown, spaced-snoc) (r.shown ∙ ap (λ (l : List ℕ). spaced (take count all) ++ l) step);
+      shown = rw (grown, spaced_snoc) (r.shown ∙ ap (λ (l : List ℕ). spaced (take count all) ++ l) step);
       only = λ ns f e. rw grown (further ns (r.only ns f e));
     }
   where
@@ -80,9 +80,9 @@ running_more {line} {at} {count} {all} {i} {n} {next} r h space free t =
 
     further : (ns : List ℕ) → Further (take count all) (drop i line) ns → Further (take count all ++ (n ∷ [])) (drop next line) ns
     further ns u =
-        let x : Next line i u.more = spaced-next u.more h u.fit u.shown in
+        let x : Next line i u.more = spaced_next u.more h u.fit u.shown in
         let same : (n ≡ x.first) × (drop next line ≡ spaced x.others) =
-        opens-same (drop (i + 1) line) n x.first (drop next line) (spaced x.others) t.opens x.opens in
+        opens_same (drop (i + 1) line) n x.first (drop next line) (spaced x.others) t.opens x.opens in
         record {
           more = x.others;
           fit = x.fit;
@@ -91,9 +91,9 @@ running_more {line} {at} {count} {all} {i} {n} {next} r h space free t =
         }
 
 -- at the line's end
-pub running-whole : {line : List ℕ} {at count : ℕ} {all : List ℕ} {i : ℕ} → Running line at count all i
+pub running_whole : {line : List ℕ} {at count : ℕ} {all : List ℕ} {i : ℕ} → Running line at count all i
     → length line ≤ i → Run (drop at line) count all
-running-whole {line} r h =
+running_whole {line} r h =
     record {
       few = r.few;
       nine = r.nine;
@@ -111,18 +111,18 @@ stuck {line} {at} {count} {all} {i} r h no_more = record { none = λ ns f few e.
   where
     go : (ns : List ℕ) → length ns ≤ 9 → Further (take count all) (drop i line) ns → ⊥
     go ns few u =
-        let x : Next line i u.more = spaced-next u.more h u.fit u.shown in
+        let x : Next line i u.more = spaced_next u.more h u.fit u.shown in
         no_more ns x.others x.first (u.whole ∙ ap (λ (l : List ℕ). take count all ++ l) x.whole) few x.space x.opens
 
 -- no run of numbers has another byte where a space is due
-pub running-gap : {line : List ℕ} {at count : ℕ} {all : List ℕ} {i : ℕ} → Running line at count all i → i < length line
+pub running_gap : {line : List ℕ} {at count : ℕ} {all : List ℕ} {i : ℕ} → Running line at count all i → i < length line
     → (get_or line i 0 ≡ 32 → ⊥) → NoRun (drop at line)
-running-gap r h no-space = stuck r h (λ ns others m e few space o. no-space space)
+running_gap r h no_space = stuck r h (λ ns others m e few space o. no_space space)
 
 -- no run of at most nine numbers goes on after nine
-pub running-tenth : {line : List ℕ} {at count : ℕ} {all : List ℕ} {i : ℕ} → Running line at count all i → i < length line
+pub running_tenth : {line : List ℕ} {at count : ℕ} {all : List ℕ} {i : ℕ} → Running line at count all i → i < length line
     → count ≡ 9 → NoRun (drop at line)
-running-tenth r h full =
+running_tenth r h full =
     stuck r h
     (λ ns others m e few space o. omega (arith, few, full, r.nine, simp (length-append, length-take) at (ap length e)))
 

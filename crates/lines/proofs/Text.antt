@@ -10,7 +10,7 @@ use Rattle.lines.specs.Format.{text, spaced, Written, NoLine}
 use Rattle.lines.specs.Parts.{Digit, LedBy}
 use Rattle.lines.specs.declared.Line.{Line}
 use Rattle.lines.specs.declared.Line.TheVariants.{Sizes, Row, Event, Bad}
-use Rattle.lines.proofs.Numeral.{Begins, numeral-begins}
+use Rattle.lines.proofs.Numeral.{Begins, numeral_begins}
 
 -- bytes are their first byte and the rest
 pub headed : {line : List ℕ} (b : ℕ) (rest : List ℕ) → LedBy line b → drop 1 line ≡ rest → line ≡ b ∷ rest
@@ -24,22 +24,22 @@ Head (Event p n x1 x2 x3 x4) b = b ≡ 101
 Head Bad b = ⊥
 
 -- bytes that begin with a digit have it at place 0
-begins-at : (bytes : List ℕ) → Begins bytes → Digit (get_or bytes 0 0)
+begins_at : (bytes : List ℕ) → Begins bytes → Digit (get_or bytes 0 0)
 unfolding Begins
-begins-at [] h = absurd h
-begins-at (b ∷ bytes) h = h
+begins_at [] h = absurd h
+begins_at (b ∷ bytes) h = h
 
 -- the text of a right line begins as its kind says
 pub text_head : (bytes : List ℕ) (l : Line) → Written bytes l → Head l (get_or bytes 0 0)
 unfolding text
-text_head bytes (Sizes k c) w = rw w.shown (begins-at (numeral k ++ spaced (c ∷ [])) (numeral-begins k (spaced (c ∷ []))))
+text_head bytes (Sizes k c) w = rw w.shown (begins_at (numeral k ++ spaced (c ∷ [])) (numeral_begins k (spaced (c ∷ []))))
 text_head bytes (Row x1 x2 x3 x4 x5 x6 x7 x8 x9) w = rw w.shown
 text_head bytes (Event p n x1 x2 x3 x4) w = rw w.shown
 text_head bytes Bad w = w.right
 
 -- no line is empty
-pub empty-none : {line : List ℕ} → length line ≡ 0 → NoLine line
-empty-none {line} e = record { none = λ l w. go l (text_head line l w) }
+pub empty_none : {line : List ℕ} → length line ≡ 0 → NoLine line
+empty_none {line} e = record { none = λ l w. go l (text_head line l w) }
   where
     none : get_or line 0 0 ≡ 0
     none = get_or-eq_default line 0 (omega arith)

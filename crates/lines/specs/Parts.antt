@@ -60,5 +60,5 @@ pub record LedBy (line : List ℕ) (b : ℕ) : Type 0 where
 
 -- the line begins with neither `r` nor `e`
 pub record Unlettered (line : List ℕ) : Type 0 where
-  pub no-r : get_or line 0 0 ≡ 114 → ⊥
-  pub no-e : get_or line 0 0 ≡ 101 → ⊥
+  pub no_r : get_or line 0 0 ≡ 114 → ⊥
+  pub no_e : get_or line 0 0 ≡ 101 → ⊥

@@ -4,8 +4,8 @@ use Rattle.meaning.specs.declared.Event.{Event}
 use Rattle.meaning.specs.declared.Fact.{Fact}
 
 -- the fact that the numbers begin with: a predicate, a count and three values; a number past the last is 0
-unfoldable pub firstFact : List ℕ → Fact
-firstFact xs =
+unfoldable pub first_fact : List ℕ → Fact
+first_fact xs =
     record {
       predicate = get_or xs 0 0;
       count = get_or xs 1 0;
@@ -13,19 +13,19 @@ firstFact xs =
     }
 
 -- the fact at place i
-unfoldable pub factAt : List ℕ → ℕ → Fact
-factAt xs i = firstFact (drop (5 * i) xs)
+unfoldable pub fact_at : List ℕ → ℕ → Fact
+fact_at xs i = first_fact (drop (5 * i) xs)
 
 -- the count of the facts, or 9: "more than 8 facts gives 5", however many they are
 unfoldable pub count_of : List ℕ → ℕ
 count_of xs = min (length xs / 5) 9
 
 -- the event of these facts: its first eight, and their count
-unfoldable pub eventOf : List ℕ → Event
-eventOf xs =
+unfoldable pub event_of : List ℕ → Event
+event_of xs =
     record {
       count = count_of xs;
-      facts = factAt xs 0 ∷ factAt xs 1 ∷ factAt xs 2 ∷ factAt xs 3 ∷ factAt xs 4 ∷ factAt xs 5 ∷ factAt xs 6 ∷ factAt xs 7 ∷ [];
+      facts = fact_at xs 0 ∷ fact_at xs 1 ∷ fact_at xs 2 ∷ fact_at xs 3 ∷ fact_at xs 4 ∷ fact_at xs 5 ∷ fact_at xs 6 ∷ fact_at xs 7 ∷ [];
     }
 
 -- facts as a caller writes them, one after the other. That they are the event's facts is a theorem.

@@ -9,22 +9,22 @@ use Rattle.meaning.specs.declared.Answer.{Answer}
 use Rattle.meaning.specs.declared.Answer.TheVariants.{Started, Verdict, Refused}
 
 -- "The state carries k, the row count, the count of kept nodes, four value counts and 64 references", and "the 64 sizes": 135 numbers, in this order
-unfoldable pub packedState : State → List ℕ
-packedState s = s.k ∷ s.rows ∷ s.kept ∷ (s.counts ++ (s.refs ++ s.sizes))
+unfoldable pub packed_state : State → List ℕ
+packed_state s = s.k ∷ s.rows ∷ s.kept ∷ (s.counts ++ (s.refs ++ s.sizes))
 
 -- the figures of the state that 135 numbers are, its references and its sizes
-unfoldable pub figuresOf : List ℕ → Figures
-figuresOf xs = record { k = get_or xs 0 0; rows = get_or xs 1 0; kept = get_or xs 2 0; counts = take 4 (drop 3 xs) }
+unfoldable pub figures_of : List ℕ → Figures
+figures_of xs = record { k = get_or xs 0 0; rows = get_or xs 1 0; kept = get_or xs 2 0; counts = take 4 (drop 3 xs) }
 
-unfoldable pub referencesOf : List ℕ → List ℕ
-referencesOf xs = take 64 (drop 7 xs)
+unfoldable pub references_of : List ℕ → List ℕ
+references_of xs = take 64 (drop 7 xs)
 
-unfoldable pub sizesIn : List ℕ → List ℕ
-sizesIn xs = take 64 (drop 71 xs)
+unfoldable pub sizes_in : List ℕ → List ℕ
+sizes_in xs = take 64 (drop 71 xs)
 
 -- the state that 135 numbers are
-unfoldable pub unpackedState : List ℕ → State
-unpackedState xs = whole (figuresOf xs) (referencesOf xs) (sizesIn xs)
+unfoldable pub unpacked_state : List ℕ → State
+unpacked_state xs = whole (figures_of xs) (references_of xs) (sizes_in xs)
 
 -- yes is 1 and no is 0
 unfoldable pub bit : Bool → ℕ
@@ -33,19 +33,19 @@ bit false = 0
 
 -- The first 6 numbers of an answer: the refusal's number and place, then 0 and 0; or 0, and of a verdict yes or no, the kept nodes and
 -- the room; and then the visits of the complements and of the sweep.
-unfoldable pub firstSix : Answer → ℕ → ℕ → List ℕ
-firstSix Started complements swept = 0 ∷ 0 ∷ 0 ∷ 0 ∷ complements ∷ swept ∷ []
-firstSix (Verdict y kept room) complements swept = 0 ∷ bit y ∷ kept ∷ room ∷ complements ∷ swept ∷ []
-firstSix (Refused n p) complements swept = n ∷ p ∷ 0 ∷ 0 ∷ complements ∷ swept ∷ []
+unfoldable pub first_six : Answer → ℕ → ℕ → List ℕ
+first_six Started complements swept = 0 ∷ 0 ∷ 0 ∷ 0 ∷ complements ∷ swept ∷ []
+first_six (Verdict y kept room) complements swept = 0 ∷ bit y ∷ kept ∷ room ∷ complements ∷ swept ∷ []
+first_six (Refused n p) complements swept = n ∷ p ∷ 0 ∷ 0 ∷ complements ∷ swept ∷ []
 
 -- An answer is 10 numbers: behind those it has, for each variable, how many values were newly numbered.
-unfoldable pub packedAnswer : Answer → ℕ → ℕ → List ℕ → List ℕ
-packedAnswer a complements swept numbered = firstSix a complements swept ++ numbered
+unfoldable pub packed_answer : Answer → ℕ → ℕ → List ℕ → List ℕ
+packed_answer a complements swept numbered = first_six a complements swept ++ numbered
 
 -- What looking a value up tells is 2 numbers: 0 and the value's number; 1 and 0, where it has none and one is left; 2 and 0, where none
 -- is left; 3 and 0, where there is nothing to look in.
-unfoldable pub packedLookup : Lookup → List ℕ
-packedLookup (Has n) = 0 ∷ n.0 ∷ []
-packedLookup OneLeft = 1 ∷ 0 ∷ []
-packedLookup NoneLeft = 2 ∷ 0 ∷ []
-packedLookup Misfit = 3 ∷ 0 ∷ []
+unfoldable pub packed_lookup : Lookup → List ℕ
+packed_lookup (Has n) = 0 ∷ n.0 ∷ []
+packed_lookup OneLeft = 1 ∷ 0 ∷ []
+packed_lookup NoneLeft = 2 ∷ 0 ∷ []
+packed_lookup Misfit = 3 ∷ 0 ∷ []

@@ -1,6 +1,6 @@
 // How the facts of an event are read from numbers, five for each fact. What is read is in specs/Happening.antt.
 ghost use Rattle.std.specs.Prelude.{◌≡◌, ◌<◌, get_or};
-ghost use Rattle.linked.specs.Happening.{factAt, count_of, eventOf};
+ghost use Rattle.linked.specs.Happening.{fact_at, count_of, event_of};
 
 use meaning::{Event, Fact, Value};
 
@@ -17,7 +17,7 @@ fn number_at(numbers: &[u32], i: usize) -> u32
 // The fact at place `i`.
 fn fact_at(numbers: &[u32], i: usize) -> Fact
     requires { i < 8 }
-    ensures { result ≡ factAt numbers.now i }
+    ensures { result ≡ fact_at numbers.now i }
 {
     let at = 5 * i;
     let first = Value(number_at(numbers, at + 2));
@@ -43,7 +43,7 @@ fn count_of(numbers: &[u32]) -> u32
 
 // The event of these facts.
 pub fn event(numbers: &[u32]) -> Event
-    ensures { result ≡ eventOf numbers.now }
+    ensures { result ≡ event_of numbers.now }
 {
     let facts = [
         fact_at(numbers, 0),

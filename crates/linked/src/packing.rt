@@ -1,7 +1,7 @@
 // How a state, an answer and what looking a value up tells are written as numbers, and a state is read back.
 ghost use Rattle.std.specs.Prelude.{◌≡◌, ◌+◌, ◌≤◌, [], ◌∷◌, ◌++◌, length, take, drop};
 ghost use Rattle.monitor.specs.Said.{whole};
-ghost use Rattle.linked.specs.Packing.{packedState, figuresOf, referencesOf, sizesIn, bit, firstSix, packedAnswer, packedLookup};
+ghost use Rattle.linked.specs.Packing.{packed_state, figures_of, references_of, sizes_in, bit, first_six, packed_answer, packed_lookup};
 
 use meaning::Answer;
 use monitor::Figures;
@@ -20,7 +20,7 @@ fn copy(from: &[u32], to: &mut [u32], at: usize)
 // The figures of the state that 135 numbers are.
 pub fn figures(numbers: &[u32]) -> Figures
     requires { length numbers.now ≡ 135 }
-    ensures { result ≡ figuresOf numbers.now }
+    ensures { result ≡ figures_of numbers.now }
 {
     let mut counts = [0; 4];
     copy(&numbers[3..7], &mut counts, 0);
@@ -35,7 +35,7 @@ pub fn figures(numbers: &[u32]) -> Figures
 // Its references.
 pub fn references(numbers: &[u32]) -> [u32; 64]
     requires { length numbers.now ≡ 135 }
-    ensures { result ≡ referencesOf numbers.now }
+    ensures { result ≡ references_of numbers.now }
 {
     let mut refs = [0; 64];
     copy(&numbers[7..71], &mut refs, 0);
@@ -45,7 +45,7 @@ pub fn references(numbers: &[u32]) -> [u32; 64]
 // Its sizes.
 pub fn sizes(numbers: &[u32]) -> [u32; 64]
     requires { length numbers.now ≡ 135 }
-    ensures { result ≡ sizesIn numbers.now }
+    ensures { result ≡ sizes_in numbers.now }
 {
     let mut sizes = [0; 64];
     copy(&numbers[71..135], &mut sizes, 0);
@@ -55,7 +55,7 @@ pub fn sizes(numbers: &[u32]) -> [u32; 64]
 // Writes a state as 135 numbers: its figures, its references, and then its sizes.
 pub fn pack(figures: Figures, refs: [u32; 64], sizes: [u32; 64], numbers: &mut [u32])
     requires { length numbers.old ≡ 135 }
-    ensures { numbers.new ≡ packedState (whole figures refs sizes) }
+    ensures { numbers.new ≡ packed_state (whole figures refs sizes) }
 {
     numbers[0] = figures.k;
     numbers[1] = figures.rows;
@@ -89,7 +89,7 @@ fn six(numbers: &mut [u32], a: u32, b: u32, c: u32, d: u32, e: u32, f: u32)
 // Writes the first 6 numbers of an answer, the visits of the complements and of the sweep last.
 fn put_six(answer: Answer, complements: u32, swept: u32, numbers: &mut [u32])
     requires { length numbers.old ≡ 6 }
-    ensures { numbers.new ≡ firstSix answer complements swept }
+    ensures { numbers.new ≡ first_six answer complements swept }
 {
     match answer {
         Answer::Started => six(numbers, 0, 0, 0, 0, complements, swept),
@@ -103,7 +103,7 @@ fn put_six(answer: Answer, complements: u32, swept: u32, numbers: &mut [u32])
 // Writes an answer as 10 numbers, the counts of newly numbered values last.
 pub fn put(answer: Answer, complements: u32, swept: u32, numbered: [u32; 4], numbers: &mut [u32])
     requires { length numbers.old ≡ 10 }
-    ensures { numbers.new ≡ packedAnswer answer complements swept numbered }
+    ensures { numbers.new ≡ packed_answer answer complements swept numbered }
 {
     put_six(answer, complements, swept, &mut numbers[0..6]);
     copy(&numbered, numbers, 6);
@@ -121,7 +121,7 @@ fn two(numbers: &mut [u32], a: u32, b: u32)
 // Writes what looking a value up tells as 2 numbers.
 pub fn put_found(found: Lookup, numbers: &mut [u32])
     requires { length numbers.old ≡ 2 }
-    ensures { numbers.new ≡ packedLookup found }
+    ensures { numbers.new ≡ packed_lookup found }
 {
     match found {
         Lookup::Has(n) => two(numbers, 0, n.0),

@@ -1,6 +1,6 @@
 // How an answer is written as numbers.
 ghost use Rattle.std.specs.Prelude.{◌≡◌, ◌+◌, ◌≤◌, ◌++◌, length, take, drop};
-ghost use Rattle.linked_rule.specs.Ruling.{wrappedTold};
+ghost use Rattle.linked_rule.specs.Ruling.{wrapped_told};
 
 use translate::Told;
 
@@ -12,7 +12,7 @@ struct Numbers {
 
 // A refusal's number and place, and three zeros; or two zeros and the counts of rows, predicates and variables. They are all small.
 fn five_of(told: Told) -> Numbers
-    ensures { result.five ≡ wrappedTold told }
+    ensures { result.five ≡ wrapped_told told }
 {
     match told {
         Told::Refused(number, place) => Numbers {
@@ -43,7 +43,7 @@ fn put_numbers(from: &[u32], to: &mut [u32], at: usize)
 // Writes what was told, from the start on.
 pub fn put_told(told: Told, to: &mut [u32])
     requires { 5 ≤ length to.old }
-    ensures { to.new ≡ take 0 to.old ++ wrappedTold told ++ drop (0 + length (wrappedTold told)) to.old }
+    ensures { to.new ≡ take 0 to.old ++ wrapped_told told ++ drop (0 + length (wrapped_told told)) to.old }
 {
     let n = five_of(told);
     let five = n.five;

@@ -5,8 +5,8 @@ use Rattle.trees.specs.Kept.{all_below}
 use Rattle.meaning.specs.Tables.{distinct}
 
 -- one list, in a part of m numbers
-unfoldable pub partRight : ℕ → ℕ → List ℕ → Bool
-partRight m count part = leb count m && (distinct (take count part) && all_below m (λ j. ltb j count || eqb (get_or part j 0) 0))
+unfoldable pub part_right : ℕ → ℕ → List ℕ → Bool
+part_right m count part = leb count m && (distinct (take count part) && all_below m (λ j. ltb j count || eqb (get_or part j 0) 0))
 
 -- the first `room` numbers of the work slice are there, more than a list has values
 pub record Roomy (room : ℕ) (work : List ℕ) : Type 0 where

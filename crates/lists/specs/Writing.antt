@@ -1,14 +1,14 @@
 -- What it is to write an event's fresh values into the value slice. Assumes nothing: these are definitions.
 use Rattle.std.specs.Prelude.{ℕ, zero, suc, ◌+◌, ◌*◌, ◌≤◌, ◌<◌, ◌≡◌, List, length, get_or, set}
-use Rattle.meaning.specs.Tables.{most, list_of, layValues}
+use Rattle.meaning.specs.Tables.{most, list_of, lay_values}
 use Rattle.numbers.specs.declared.Asked.{Asked}
-use Rattle.numbers.specs.Asking.{withCounts}
+use Rattle.numbers.specs.Asking.{with_counts}
 
 -- what `write_fresh` may assume
 pub record Writable (k : ℕ) (before : List ℕ) (a : Asked) (values : List ℕ) : Type 0 where
   pub bits : k ≤ 10
   pub parts : length values ≡ 4 * most k
-  pub laid : layValues k (list_of k (withCounts before) values) ≡ values
+  pub laid : lay_values k (list_of k (with_counts before) values) ≡ values
   pub grown : (v : ℕ) → v < 4 → get_or before v 0 ≤ get_or a.counts v 0
   pub few : (v : ℕ) → v < 4 → get_or a.counts v 0 ≤ get_or before v 0 + 24
   pub room : (v : ℕ) → v < 4 → get_or a.counts v 0 ≤ most k

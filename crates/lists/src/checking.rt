@@ -2,9 +2,9 @@
 ghost use Rattle.std.specs.Prelude.{◌≡◌, ◌++◌, ◌*◌, ◌<◌, ◌≤◌, eqb, length, get_or, take, drop, replicate};
 ghost use Rattle.trees.specs.Kept.{all_below};
 ghost use Rattle.meaning.specs.Tables;
-ghost use Rattle.meaning.specs.Tables.{listRight, distinct};
-ghost use Rattle.numbers.specs.Asking.{withCounts};
-ghost use Rattle.lists.specs.Slots.{partRight, Roomy, Checked, Slots, slot_of, next_of, Searchable, Sought};
+ghost use Rattle.meaning.specs.Tables.{list_right, distinct};
+ghost use Rattle.numbers.specs.Asking.{with_counts};
+ghost use Rattle.lists.specs.Slots.{part_right, Roomy, Checked, Slots, slot_of, next_of, Searchable, Sought};
 
 use numbers::most;
 
@@ -101,7 +101,7 @@ fn all_zero(list: &[u32]) -> bool
 // Whether the list of one variable is right: `count` values in a part of m numbers.
 fn list_right(m: usize, count: usize, part: &[u32], room: usize, work: &mut [u32]) -> bool
     requires { Roomy room work.old × (m ≤ 1023) × (length part.now ≡ m) }
-    ensures { Checked room work.old work.new (partRight m count part.now) result }
+    ensures { Checked room work.old work.new (part_right m count part.now) result }
 {
     if m < count {
         return false;
@@ -115,7 +115,7 @@ fn list_right(m: usize, count: usize, part: &[u32], room: usize, work: &mut [u32
 // Whether the four lists are right.
 fn all_right(m: usize, counts: [u32; 4], values: &[u32], room: usize, work: &mut [u32]) -> bool
     requires { Roomy room work.old × (m ≤ 1023) × (length values.now ≡ 4 * m) }
-    ensures { Checked room work.old work.new (all_below 4 (λ v. partRight m (get_or counts v 0) (take m (drop (v * m) values.now)))) result }
+    ensures { Checked room work.old work.new (all_below 4 (λ v. part_right m (get_or counts v 0) (take m (drop (v * m) values.now)))) result }
 {
     for v in 0..4 {
         let at = v * m;
@@ -133,7 +133,7 @@ fn all_right(m: usize, counts: [u32; 4], values: &[u32], room: usize, work: &mut
 // 1 and 3).
 pub fn lists_right(k: u32, counts: [u32; 4], values: &[u32], room: usize, work: &mut [u32]) -> bool
     requires { (k ≤ 10) × (length values.now ≡ 4 * Tables.most k) × Roomy room work.old }
-    ensures { Checked room work.old work.new (all_below 4 (listRight k (withCounts counts) values.now)) result }
+    ensures { Checked room work.old work.new (all_below 4 (list_right k (with_counts counts) values.now)) result }
 {
     let m = most(k) as usize;
     all_right(m, counts, values, room, work)

@@ -1,9 +1,9 @@
 // How an event's fresh values are written, where no variable is short. What each function promises is in specs/Writing.antt.
 ghost use Rattle.std.specs.Prelude.{◌≡◌, ◌-◌, ◌≤◌, ltb, get_or};
-ghost use Rattle.meaning.specs.Rows.{firstBelow};
+ghost use Rattle.meaning.specs.Rows.{first_below};
 ghost use Rattle.meaning.specs.Tables;
-ghost use Rattle.meaning.specs.Tables.{list_of, layValues};
-ghost use Rattle.numbers.specs.Asking.{withCounts, withFresh, bare};
+ghost use Rattle.meaning.specs.Tables.{list_of, lay_values};
+ghost use Rattle.numbers.specs.Asking.{with_counts, with_fresh, bare};
 ghost use Rattle.lists.specs.Writing.{Writable, WritableAt, written};
 
 use meaning::Value;
@@ -12,7 +12,7 @@ use numbers::{Asked, most};
 // The lowest variable with more values than numbers, or 4.
 pub fn shortest(k: u32, counts: [u32; 4]) -> u32
     requires { k ≤ 10 }
-    ensures { result ≡ firstBelow 4 (λ v. ltb (Tables.most k) (get_or counts v 0)) }
+    ensures { result ≡ first_below 4 (λ v. ltb (Tables.most k) (get_or counts v 0)) }
 {
     // There are 2^k numbers, and the last of them is reserved: as many values as numbers are too many.
     let numbers = most(k) + 1;
@@ -42,7 +42,7 @@ fn write_list(m: usize, b: u32, n: u32, fresh: [Value; 96], values: &mut [u32], 
 // got the fresh values from `ask`. Only a variable that has grown takes time.
 pub fn write_fresh(k: u32, before: [u32; 4], asked: Asked, values: &mut [u32])
     requires { Writable k before asked values.old }
-    ensures { values.new ≡ layValues k (withFresh before asked.counts (bare asked.fresh) (list_of k (withCounts before) values.old)) }
+    ensures { values.new ≡ lay_values k (with_fresh before asked.counts (bare asked.fresh) (list_of k (with_counts before) values.old)) }
 {
     let m = most(k) as usize;
     let after = asked.counts;

@@ -10,93 +10,93 @@ use lib.Dec.{eqb}
 use lib.ListN.{get_or}
 use borrow.Author.Tests.{eq-eqb, ne_eqb}
 use Rattle.trees.specs.Tree.{Tree, off, on, node, eval, mk, tree_of}
-use Rattle.trees.specs.Table.{addTree, at, treesOf}
+use Rattle.trees.specs.Table.{add_tree, at, trees_of}
 use Rattle.trees.proofs.TreeLaws.{side}
-use Rattle.trees.proofs.TableLaws.{Has, Closed, add_goes, add-in, closed-add, goes-has, has-add}
-use Rattle.trees.proofs.ReadLaws.{length-trees, back-closed}
+use Rattle.trees.proofs.TableLaws.{Has, Closed, add_goes, add_in, closed_add, goes_has, has_add}
+use Rattle.trees.proofs.ReadLaws.{length_trees, back_closed}
 use Rattle.nodes.specs.Nodes.{Table, To, Sides, Grown, Stuck}
-use Rattle.nodes.proofs.ReadLaws.{stays, grown-count}
+use Rattle.nodes.proofs.ReadLaws.{stays, grown_count}
 use Rattle.making.specs.declared.Made.{Made}
 use Rattle.making.specs.declared.Place.{Place}
 use Rattle.making.specs.declared.Place.TheVariants.{Any, Is}
 use Rattle.making.specs.Tables.{Added}
-use Rattle.making.specs.Cubes.{cubeSays, Over, alongBits, alongPlace, bitsOver, placeOver}
-use Rattle.making.proofs.WalkLaws.{kept, After, after-trans, low-after, high_after, stuck-first, first_then, stuck-low, stuck-high, joined}
-use Rattle.making.proofs.SideLaws.{leaf-side}
-use Rattle.making.proofs.CubeLaws.{first, second, third, last, later, early, into-tree}
+use Rattle.making.specs.Cubes.{cube_says, Over, along_bits, along_place, bits_over, place_over}
+use Rattle.making.proofs.WalkLaws.{kept, After, after_trans, low_after, high_after, stuck_first, first_then, stuck_low, stuck_high, joined}
+use Rattle.making.proofs.SideLaws.{leaf_side}
+use Rattle.making.proofs.CubeLaws.{first, second, third, last, later, early, into_tree}
 
 -- no bit is left
-along-zero : (base m : ℕ) (t : Tree) (count : ℕ) → count ≡ 0 → alongBits base count m t ≡ t
-unfolding alongBits
-along-zero base m t count e = rw e
+along_zero : (base m : ℕ) (t : Tree) (count : ℕ) → count ≡ 0 → along_bits base count m t ≡ t
+unfolding along_bits
+along_zero base m t count e = rw e
 
 -- a leaf leads to itself
-along-leaf : (count base m : ℕ) (t : Tree) → ((v : ℕ) (x : Bool) → side v x t ≡ t) → alongBits base count m t ≡ t
-unfolding alongBits
-along-leaf zero base m t e = refl
-along-leaf (suc count) base m t e = rw (e base false, e base true, along-leaf count (suc base) (m / 2) t e) (go (eqb (m % 2) 0))
+along_leaf : (count base m : ℕ) (t : Tree) → ((v : ℕ) (x : Bool) → side v x t ≡ t) → along_bits base count m t ≡ t
+unfolding along_bits
+along_leaf zero base m t e = refl
+along_leaf (suc count) base m t e = rw (e base false, e base true, along_leaf count (suc base) (m / 2) t e) (go (eqb (m % 2) 0))
   where
     go : (q : Bool) → cond q t t ≡ t
     go true = refl
     go false = refl
 
 -- the next bit is 0
-along-even : (base m : ℕ) (t : Tree) (count : ℕ) → count ≢ 0 → m % 2 ≡ 0 → alongBits base count m t ≡ alongBits (base + 1) (count - 1) (m / 2) (side base false t)
-unfolding alongBits
-along-even base m t zero h e = absurd (h refl)
-along-even base m t (suc count) h e = let c : suc count - 1 ≡ count = omega arith in rw (eq-eqb (m % 2) 0 e, add-one, c)
+along_even : (base m : ℕ) (t : Tree) (count : ℕ) → count ≢ 0 → m % 2 ≡ 0 → along_bits base count m t ≡ along_bits (base + 1) (count - 1) (m / 2) (side base false t)
+unfolding along_bits
+along_even base m t zero h e = absurd (h refl)
+along_even base m t (suc count) h e = let c : suc count - 1 ≡ count = omega arith in rw (eq-eqb (m % 2) 0 e, add-one, c)
 
 -- the next bit is 1
-along-odd : (base m : ℕ) (t : Tree) (count : ℕ) → count ≢ 0 → m % 2 ≢ 0 → alongBits base count m t ≡ alongBits (base + 1) (count - 1) (m / 2) (side base true t)
-unfolding alongBits
-along-odd base m t zero h e = absurd (h refl)
-along-odd base m t (suc count) h e = let c : suc count - 1 ≡ count = omega arith in rw (ne_eqb (m % 2) 0 e, add-one, c)
+along_odd : (base m : ℕ) (t : Tree) (count : ℕ) → count ≢ 0 → m % 2 ≢ 0 → along_bits base count m t ≡ along_bits (base + 1) (count - 1) (m / 2) (side base true t)
+unfolding along_bits
+along_odd base m t zero h e = absurd (h refl)
+along_odd base m t (suc count) h e = let c : suc count - 1 ≡ count = omega arith in rw (ne_eqb (m % 2) 0 e, add-one, c)
 
 -- where the path leads from the reference p
 module _ {ns : List ℕ} {n : ℕ} (base count m p : ℕ) (h : p < n + 2) where
   -- from a leaf
-  pub follow-leaf : p < 2 → To ns n p (alongBits base count m (at (treesOf ns n) p))
-  follow-leaf k = record { below = h; is = sym (along-leaf count base m (at (treesOf ns n) p) (leaf-side (treesOf ns n) p k)) }
+  pub follow_leaf : p < 2 → To ns n p (along_bits base count m (at (trees_of ns n) p))
+  follow_leaf k = record { below = h; is = sym (along_leaf count base m (at (trees_of ns n) p) (leaf_side (trees_of ns n) p k)) }
 
   -- where no bit is left
-  pub follow-end : count ≡ 0 → To ns n p (alongBits base count m (at (treesOf ns n) p))
-  follow-end e = record { below = h; is = sym (along-zero base m (at (treesOf ns n) p) count e) }
+  pub follow_end : count ≡ 0 → To ns n p (along_bits base count m (at (trees_of ns n) p))
+  follow_end e = record { below = h; is = sym (along_zero base m (at (trees_of ns n) p) count e) }
 
   module _ (some : count ≢ 0) {a b : ℕ} (s : Sides ns n p base a b) {r : ℕ} where
     -- along a bit that is 0
-    pub follow-even : m % 2 ≡ 0 → To ns n r (alongBits (base + 1) (count - 1) (m / 2) (at (treesOf ns n) a)) → To ns n r (alongBits base count m (at (treesOf ns n) p))
-    follow-even e w = record { below = w.below; is = w.is ∙ rw s.low.is (sym (along-even base m (at (treesOf ns n) p) count some e)) }
+    pub follow_even : m % 2 ≡ 0 → To ns n r (along_bits (base + 1) (count - 1) (m / 2) (at (trees_of ns n) a)) → To ns n r (along_bits base count m (at (trees_of ns n) p))
+    follow_even e w = record { below = w.below; is = w.is ∙ rw s.low.is (sym (along_even base m (at (trees_of ns n) p) count some e)) }
 
     -- along a bit that is 1
-    pub follow-odd : m % 2 ≢ 0 → To ns n r (alongBits (base + 1) (count - 1) (m / 2) (at (treesOf ns n) b)) → To ns n r (alongBits base count m (at (treesOf ns n) p))
-    follow-odd e w = record { below = w.below; is = w.is ∙ rw s.high.is (sym (along-odd base m (at (treesOf ns n) p) count some e)) }
+    pub follow_odd : m % 2 ≢ 0 → To ns n r (along_bits (base + 1) (count - 1) (m / 2) (at (trees_of ns n) b)) → To ns n r (along_bits base count m (at (trees_of ns n) p))
+    follow_odd e w = record { below = w.below; is = w.is ∙ rw s.high.is (sym (along_odd base m (at (trees_of ns n) p) count some e)) }
 
 -- no bit is left
-over_zero : (base m : ℕ) (t d : Tree) (count : ℕ) → count ≡ 0 → bitsOver base count m t d ≡ d
-unfolding bitsOver
+over_zero : (base m : ℕ) (t d : Tree) (count : ℕ) → count ≡ 0 → bits_over base count m t d ≡ d
+unfolding bits_over
 over_zero base m t d count e = rw e
 
 -- the next bit is 0
-over-even : (base m : ℕ) (t d : Tree) (count : ℕ) → count ≢ 0 → m % 2 ≡ 0
-    → bitsOver base count m t d ≡ mk base (bitsOver (base + 1) (count - 1) (m / 2) (side base false t) d) (side base true t)
-unfolding bitsOver
-over-even base m t d zero h e = absurd (h refl)
-over-even base m t d (suc count) h e = let c : suc count - 1 ≡ count = omega arith in rw (eq-eqb (m % 2) 0 e, add-one, c)
+over_even : (base m : ℕ) (t d : Tree) (count : ℕ) → count ≢ 0 → m % 2 ≡ 0
+    → bits_over base count m t d ≡ mk base (bits_over (base + 1) (count - 1) (m / 2) (side base false t) d) (side base true t)
+unfolding bits_over
+over_even base m t d zero h e = absurd (h refl)
+over_even base m t d (suc count) h e = let c : suc count - 1 ≡ count = omega arith in rw (eq-eqb (m % 2) 0 e, add-one, c)
 
 -- the next bit is 1
-over-odd : (base m : ℕ) (t d : Tree) (count : ℕ) → count ≢ 0 → m % 2 ≢ 0
-    → bitsOver base count m t d ≡ mk base (side base false t) (bitsOver (base + 1) (count - 1) (m / 2) (side base true t) d)
-unfolding bitsOver
-over-odd base m t d zero h e = absurd (h refl)
-over-odd base m t d (suc count) h e = let c : suc count - 1 ≡ count = omega arith in rw (ne_eqb (m % 2) 0 e, add-one, c)
+over_odd : (base m : ℕ) (t d : Tree) (count : ℕ) → count ≢ 0 → m % 2 ≢ 0
+    → bits_over base count m t d ≡ mk base (side base false t) (bits_over (base + 1) (count - 1) (m / 2) (side base true t) d)
+unfolding bits_over
+over_odd base m t d zero h e = absurd (h refl)
+over_odd base m t d (suc count) h e = let c : suc count - 1 ≡ count = omega arith in rw (ne_eqb (m % 2) 0 e, add-one, c)
 
 -- where no bit is left
-pub bits-end : {ns : List ℕ} {n : ℕ} → Table ns n → (base count m : ℕ) (t : Tree) (p : ℕ) → p < n + 2 → count ≡ 0 → Grown ns ns n n p (bitsOver base count m t (at (treesOf ns n) p))
-bits-end {ns} {n} w base count m t p h e = stays ns n p _ w h (over_zero base m t (at (treesOf ns n) p) count e)
+pub bits_end : {ns : List ℕ} {n : ℕ} → Table ns n → (base count m : ℕ) (t : Tree) (p : ℕ) → p < n + 2 → count ≡ 0 → Grown ns ns n n p (bits_over base count m t (at (trees_of ns n) p))
+bits_end {ns} {n} w base count m t p h e = stays ns n p _ w h (over_zero base m t (at (trees_of ns n) p) count e)
 
 -- a reference of before leads to its tree in the grown table
-later-to : {ns ms : List ℕ} {n j r a : ℕ} {d t : Tree} → Grown ns ms n j r d → To ns n a t → To ms j a t
-later-to {n = n} {j} {a = a} g w = record { below = omega (arith, grown-count g, w.below); is = kept g a w.below ∙ w.is }
+later_to : {ns ms : List ℕ} {n j r a : ℕ} {d t : Tree} → Grown ns ms n j r d → To ns n a t → To ms j a t
+later_to {n = n} {j} {a = a} g w = record { below = omega (arith, grown_count g, w.below); is = kept g a w.below ∙ w.is }
 
 -- the tree of a reference is there already
 there : {ns : List ℕ} {n a : ℕ} {t : Tree} → Table ns n → To ns n a t → Grown ns ns n n a t
@@ -105,34 +105,34 @@ there {ns} {n} {a} {t} w r = stays ns n a t w r.below (sym r.is)
 -- the steps of a bit, over the sides of the reference p
 module _ {ns : List ℕ} {n : ℕ} (t : Table ns n) (base count m : ℕ) (d : Tree) (h : count ≢ 0) {p a b : ℕ} (s : Sides ns n p base a b) where
   -- no room for the later bits, under a bit that is 0
-  pub even-stuck : {ms : List ℕ} → m % 2 ≡ 0 → Stuck ns ms n (bitsOver (base + 1) (count - 1) (m / 2) (at (treesOf ns n) a) d) → Stuck ns ms n (bitsOver base count m (at (treesOf ns n) p) d)
-  even-stuck e w = rw (over-even base m (at (treesOf ns n) p) d count h e) (stuck-low base _ _ t (rw s.low.is at w))
+  pub even_stuck : {ms : List ℕ} → m % 2 ≡ 0 → Stuck ns ms n (bits_over (base + 1) (count - 1) (m / 2) (at (trees_of ns n) a) d) → Stuck ns ms n (bits_over base count m (at (trees_of ns n) p) d)
+  even_stuck e w = rw (over_even base m (at (trees_of ns n) p) d count h e) (stuck_low base _ _ t (rw s.low.is at w))
 
   -- the same under a bit that is 1
-  pub odd-stuck : {ms : List ℕ} → m % 2 ≢ 0 → Stuck ns ms n (bitsOver (base + 1) (count - 1) (m / 2) (at (treesOf ns n) b) d) → Stuck ns ms n (bitsOver base count m (at (treesOf ns n) p) d)
-  odd-stuck e w = rw (over-odd base m (at (treesOf ns n) p) d count h e) (stuck-high base _ _ t (there t s.low) (rw s.high.is at w))
+  pub odd_stuck : {ms : List ℕ} → m % 2 ≢ 0 → Stuck ns ms n (bits_over (base + 1) (count - 1) (m / 2) (at (trees_of ns n) b) d) → Stuck ns ms n (bits_over base count m (at (trees_of ns n) p) d)
+  odd_stuck e w = rw (over_odd base m (at (trees_of ns n) p) d count h e) (stuck_high base _ _ t (there t s.low) (rw s.high.is at w))
 
   module _ {ns₁ : List ℕ} {n₁ q : ℕ} (I : List ℕ → ℕ → Type 0) (ms : List ℕ) (x : Made) where
     -- the node of a bit that is 0
-    pub bits-even : m % 2 ≡ 0 → Grown ns ns₁ n n₁ q (bitsOver (base + 1) (count - 1) (m / 2) (at (treesOf ns n) a) d)
-        → Added I ns₁ ms n₁ (mk base (at (treesOf ns₁ n₁) q) (at (treesOf ns₁ n₁) b)) x → Added I ns ms n (bitsOver base count m (at (treesOf ns n) p) d) x
-    bits-even e g w =
-        rw (over-even base m (at (treesOf ns n) p) d count h e)
-        (joined base _ _ t (rw s.low.is at g) (there g.table (later-to g s.high)) I ms x w)
+    pub bits_even : m % 2 ≡ 0 → Grown ns ns₁ n n₁ q (bits_over (base + 1) (count - 1) (m / 2) (at (trees_of ns n) a) d)
+        → Added I ns₁ ms n₁ (mk base (at (trees_of ns₁ n₁) q) (at (trees_of ns₁ n₁) b)) x → Added I ns ms n (bits_over base count m (at (trees_of ns n) p) d) x
+    bits_even e g w =
+        rw (over_even base m (at (trees_of ns n) p) d count h e)
+        (joined base _ _ t (rw s.low.is at g) (there g.table (later_to g s.high)) I ms x w)
 
     -- the node of a bit that is 1
-    pub bits-odd : m % 2 ≢ 0 → Grown ns ns₁ n n₁ q (bitsOver (base + 1) (count - 1) (m / 2) (at (treesOf ns n) b) d)
-        → Added I ns₁ ms n₁ (mk base (at (treesOf ns₁ n₁) a) (at (treesOf ns₁ n₁) q)) x → Added I ns ms n (bitsOver base count m (at (treesOf ns n) p) d) x
-    bits-odd e g w =
-        rw (over-odd base m (at (treesOf ns n) p) d count h e)
+    pub bits_odd : m % 2 ≢ 0 → Grown ns ns₁ n n₁ q (bits_over (base + 1) (count - 1) (m / 2) (at (trees_of ns n) b) d)
+        → Added I ns₁ ms n₁ (mk base (at (trees_of ns₁ n₁) a) (at (trees_of ns₁ n₁) q)) x → Added I ns ms n (bits_over base count m (at (trees_of ns n) p) d) x
+    bits_odd e g w =
+        rw (over_odd base m (at (trees_of ns n) p) d count h e)
         (joined base _ _ t (there t s.low) (rw s.high.is at g) I ms x w)
 
 -- the sides of a tree that has a reference have one
-has-side : (ts : List Tree) (v : ℕ) (x : Bool) (t : Tree) → Closed ts → Has ts t → Has ts (side v x t)
+has_side : (ts : List Tree) (v : ℕ) (x : Bool) (t : Tree) → Closed ts → Has ts t → Has ts (side v x t)
 unfolding side
-has-side ts v x off cl h = h
-has-side ts v x on cl h = h
-has-side ts v x (node l a b) cl h = go (eqb l v) x
+has_side ts v x off cl h = h
+has_side ts v x on cl h = h
+has_side ts v x (node l a b) cl h = go (eqb l v) x
   where
     go : (q y : Bool) → Has ts (cond q (cond y b a) (node l a b))
     go true true = (cl h.0 l a b h.1).1
@@ -140,55 +140,55 @@ has-side ts v x (node l a b) cl h = go (eqb l v) x
     go false y = h
 
 -- a node may be added after its high side where its low side is there
-high-in : (ts : List Tree) (l : ℕ) (x y : Tree) → Closed ts → Has ts x → After ts y (mk l x y)
-high-in ts l x y cl h = rw (add-in ts x cl h) at (high_after ts l x y cl)
+high_in : (ts : List Tree) (l : ℕ) (x y : Tree) → Closed ts → Has ts x → After ts y (mk l x y)
+high_in ts l x y cl h = rw (add_in ts x cl h) at (high_after ts l x y cl)
 
 -- the bits may be added after what stands below them
-over-after : (count base m : ℕ) (t d : Tree) (ts : List Tree) → Closed ts → Has ts t → After ts d (bitsOver base count m t d)
-unfolding bitsOver
-over-after zero base m t d ts cl h = add-in (addTree ts d) d (closed-add ts d cl) (has-add ts d)
-over-after (suc count) base m t d ts cl h =
+over_after : (count base m : ℕ) (t d : Tree) (ts : List Tree) → Closed ts → Has ts t → After ts d (bits_over base count m t d)
+unfolding bits_over
+over_after zero base m t d ts cl h = add_in (add_tree ts d) d (closed_add ts d cl) (has_add ts d)
+over_after (suc count) base m t d ts cl h =
     go (eqb (m % 2) 0)
-    (over-after count (suc base) (m / 2) (side base false t) d ts cl (has-side ts base false t cl h))
-    (over-after count (suc base) (m / 2) (side base true t) d ts cl (has-side ts base true t cl h))
+    (over_after count (suc base) (m / 2) (side base false t) d ts cl (has_side ts base false t cl h))
+    (over_after count (suc base) (m / 2) (side base true t) d ts cl (has_side ts base true t cl h))
   where
-    go : (q : Bool) → After ts d (bitsOver (suc base) count (m / 2) (side base false t) d) → After ts d (bitsOver (suc base) count (m / 2) (side base true t) d)
-        → After ts d (cond q (mk base (bitsOver (suc base) count (m / 2) (side base false t) d) (side base true t)) (mk base (side base false t) (bitsOver (suc base) count (m / 2) (side base true t) d)))
-    go true a b = after-trans ts d _ _ a (low-after (addTree ts d) base _ _ (closed-add ts d cl)) (low-after ts base _ _ cl)
+    go : (q : Bool) → After ts d (bits_over (suc base) count (m / 2) (side base false t) d) → After ts d (bits_over (suc base) count (m / 2) (side base true t) d)
+        → After ts d (cond q (mk base (bits_over (suc base) count (m / 2) (side base false t) d) (side base true t)) (mk base (side base false t) (bits_over (suc base) count (m / 2) (side base true t) d)))
+    go true a b = after_trans ts d _ _ a (low_after (add_tree ts d) base _ _ (closed_add ts d cl)) (low_after ts base _ _ cl)
     go false a b =
-        after-trans ts d _ _ b
-        (high-in (addTree ts d) base (side base false t) _ (closed-add ts d cl) (goes-has (add_goes ts d) (has-side ts base false t cl h)))
-        (high-in ts base (side base false t) _ cl (has-side ts base false t cl h))
+        after_trans ts d _ _ b
+        (high_in (add_tree ts d) base (side base false t) _ (closed_add ts d cl) (goes_has (add_goes ts d) (has_side ts base false t cl h)))
+        (high_in ts base (side base false t) _ cl (has_side ts base false t cl h))
 
 -- the same of a variable
-place_after : (base k : ℕ) (x : Place) (t d : Tree) (ts : List Tree) → Closed ts → Has ts t → After ts d (placeOver base k x t d)
-place_after base k Any t d ts cl h = add-in (addTree ts d) d (closed-add ts d cl) (has-add ts d)
-place_after base k (Is m) t d ts cl h = over-after k base m.0 t d ts cl h
+place_after : (base k : ℕ) (x : Place) (t d : Tree) (ts : List Tree) → Closed ts → Has ts t → After ts d (place_over base k x t d)
+place_after base k Any t d ts cl h = add_in (add_tree ts d) d (closed_add ts d cl) (has_add ts d)
+place_after base k (Is m) t d ts cl h = over_after k base m.0 t d ts cl h
 
 -- the steps of a variable, over the tree of the reference p
 module _ {ns : List ℕ} {n : ℕ} (t : Table ns n) (base k : ℕ) (x : Place) {p : ℕ} {o : Tree} (w : To ns n p o) (d : Tree) where
-  may : After (treesOf ns n) d (placeOver base k x o d)
-  may = place_after base k x o d (treesOf ns n) (back-closed ns n t.back) (p, record { below = omega (arith, length-trees ns n, w.below); is = w.is })
+  may : After (trees_of ns n) d (place_over base k x o d)
+  may = place_after base k x o d (trees_of ns n) (back_closed ns n t.back) (p, record { below = omega (arith, length_trees ns n, w.below); is = w.is })
 
   -- no room for what stands below the variable
-  place-stuck : {ms : List ℕ} → Stuck ns ms n d → Stuck ns ms n (placeOver base k x o d)
-  place-stuck s = stuck-first d (placeOver base k x o d) may s
+  place_stuck : {ms : List ℕ} → Stuck ns ms n d → Stuck ns ms n (place_over base k x o d)
+  place_stuck s = stuck_first d (place_over base k x o d) may s
 
   -- what stands below is added, and then the variable
-  place-then : {ns₁ : List ℕ} {n₁ q : ℕ} → Grown ns ns₁ n n₁ q d → (I : List ℕ → ℕ → Type 0) (ms : List ℕ) (m : Made)
-      → Added I ns₁ ms n₁ (placeOver base k x (at (treesOf ns₁ n₁) p) (at (treesOf ns₁ n₁) q)) m → Added I ns ms n (placeOver base k x o d) m
-  place-then g I ms m v = first_then d (placeOver base k x o d) may g I ms m (rw (g.ref.is, (later-to g w).is) at v)
+  place_then : {ns₁ : List ℕ} {n₁ q : ℕ} → Grown ns ns₁ n n₁ q d → (I : List ℕ → ℕ → Type 0) (ms : List ℕ) (m : Made)
+      → Added I ns₁ ms n₁ (place_over base k x (at (trees_of ns₁ n₁) p) (at (trees_of ns₁ n₁) q)) m → Added I ns ms n (place_over base k x o d) m
+  place_then g I ms m v = first_then d (place_over base k x o d) may g I ms m (rw (g.ref.is, (later_to g w).is) at v)
 
 -- the references that the numbers lead to from p: past variable 0, past 1 and past 2
 pub record Down (ns : List ℕ) (n k : ℕ) (places : List Place) (p q r s : ℕ) : Type 0 where
-  pub start : To ns n p (at (treesOf ns n) p)
-  pub one : To ns n q (first k places (at (treesOf ns n) p))
-  pub two : To ns n r (second k places (at (treesOf ns n) p))
-  pub three : To ns n s (third k places (at (treesOf ns n) p))
+  pub start : To ns n p (at (trees_of ns n) p)
+  pub one : To ns n q (first k places (at (trees_of ns n) p))
+  pub two : To ns n r (second k places (at (trees_of ns n) p))
+  pub three : To ns n s (third k places (at (trees_of ns n) p))
 
 -- they are followed one after the other
-pub goes_down : {ns : List ℕ} {n : ℕ} (k : ℕ) (places : List Place) {p q r s : ℕ} → p < n + 2 → To ns n q (alongPlace 0 k (get_or places 0 Any) (at (treesOf ns n) p))
-    → To ns n r (alongPlace k k (get_or places 1 Any) (at (treesOf ns n) q)) → To ns n s (alongPlace (2 * k) k (get_or places 2 Any) (at (treesOf ns n) r)) → Down ns n k places p q r s
+pub goes_down : {ns : List ℕ} {n : ℕ} (k : ℕ) (places : List Place) {p q r s : ℕ} → p < n + 2 → To ns n q (along_place 0 k (get_or places 0 Any) (at (trees_of ns n) p))
+    → To ns n r (along_place k k (get_or places 1 Any) (at (trees_of ns n) q)) → To ns n s (along_place (2 * k) k (get_or places 2 Any) (at (trees_of ns n) r)) → Down ns n k places p q r s
 goes_down k places h a b c =
     let two = rw a.is at b in
     record { start = record { below = h; is = refl }; one = a; two = two; three = rw two.is at c }
@@ -196,37 +196,37 @@ goes_down k places h a b c =
 -- the steps up: the last variable, over yes, and then one more each time
 module _ {ns : List ℕ} {n : ℕ} (t : Table ns n) {k : ℕ} {places : List Place} {p q r s : ℕ} (w : Down ns n k places p q r s) where
   -- variable 3 is added
-  pub last_made : (I : List ℕ → ℕ → Type 0) (ms : List ℕ) (m : Made) → Added I ns ms n (placeOver (3 * k) k (get_or places 3 Any) (at (treesOf ns n) s) (at (treesOf ns n) 1)) m
-      → Added I ns ms n (last k places (at (treesOf ns n) p)) m
+  pub last_made : (I : List ℕ → ℕ → Type 0) (ms : List ℕ) (m : Made) → Added I ns ms n (place_over (3 * k) k (get_or places 3 Any) (at (trees_of ns n) s) (at (trees_of ns n) 1)) m
+      → Added I ns ms n (last k places (at (trees_of ns n) p)) m
   unfolding at
   last_made I ms m v = rw w.three.is at v
 
   module _ {ns₁ : List ℕ} {n₁ d : ℕ} where
     -- then variable 2
-    pub later-made : Grown ns ns₁ n n₁ d (last k places (at (treesOf ns n) p)) → (I : List ℕ → ℕ → Type 0) (ms : List ℕ) (m : Made)
-        → Added I ns₁ ms n₁ (placeOver (2 * k) k (get_or places 2 Any) (at (treesOf ns₁ n₁) r) (at (treesOf ns₁ n₁) d)) m → Added I ns ms n (later k places (at (treesOf ns n) p)) m
-    later-made g I ms m v = place-then t (2 * k) k (get_or places 2 Any) w.two _ g I ms m v
+    pub later_made : Grown ns ns₁ n n₁ d (last k places (at (trees_of ns n) p)) → (I : List ℕ → ℕ → Type 0) (ms : List ℕ) (m : Made)
+        → Added I ns₁ ms n₁ (place_over (2 * k) k (get_or places 2 Any) (at (trees_of ns₁ n₁) r) (at (trees_of ns₁ n₁) d)) m → Added I ns ms n (later k places (at (trees_of ns n) p)) m
+    later_made g I ms m v = place_then t (2 * k) k (get_or places 2 Any) w.two _ g I ms m v
 
     -- then variable 1
-    pub early-made : Grown ns ns₁ n n₁ d (later k places (at (treesOf ns n) p)) → (I : List ℕ → ℕ → Type 0) (ms : List ℕ) (m : Made)
-        → Added I ns₁ ms n₁ (placeOver k k (get_or places 1 Any) (at (treesOf ns₁ n₁) q) (at (treesOf ns₁ n₁) d)) m → Added I ns ms n (early k places (at (treesOf ns n) p)) m
-    early-made g I ms m v = place-then t k k (get_or places 1 Any) w.one _ g I ms m v
+    pub early_made : Grown ns ns₁ n n₁ d (later k places (at (trees_of ns n) p)) → (I : List ℕ → ℕ → Type 0) (ms : List ℕ) (m : Made)
+        → Added I ns₁ ms n₁ (place_over k k (get_or places 1 Any) (at (trees_of ns₁ n₁) q) (at (trees_of ns₁ n₁) d)) m → Added I ns ms n (early k places (at (trees_of ns n) p)) m
+    early_made g I ms m v = place_then t k k (get_or places 1 Any) w.one _ g I ms m v
 
     -- then variable 0
-    pub into-made : Over k places (at (treesOf ns n) p) → Grown ns ns₁ n n₁ d (early k places (at (treesOf ns n) p)) → (I : List ℕ → ℕ → Type 0) (ms : List ℕ) (m : Made)
-        → Added I ns₁ ms n₁ (placeOver 0 k (get_or places 0 Any) (at (treesOf ns₁ n₁) p) (at (treesOf ns₁ n₁) d)) m
-        → Added I ns ms n (tree_of (4 * k) (λ s. eval (at (treesOf ns n) p) s || cubeSays k places s)) m
-    into-made o g I ms m v = rw (into-tree k places o) (place-then t 0 k (get_or places 0 Any) w.start _ g I ms m v)
+    pub into_made : Over k places (at (trees_of ns n) p) → Grown ns ns₁ n n₁ d (early k places (at (trees_of ns n) p)) → (I : List ℕ → ℕ → Type 0) (ms : List ℕ) (m : Made)
+        → Added I ns₁ ms n₁ (place_over 0 k (get_or places 0 Any) (at (trees_of ns₁ n₁) p) (at (trees_of ns₁ n₁) d)) m
+        → Added I ns ms n (tree_of (4 * k) (λ s. eval (at (trees_of ns n) p) s || cube_says k places s)) m
+    into_made o g I ms m v = rw (into_tree k places o) (place_then t 0 k (get_or places 0 Any) w.start _ g I ms m v)
 
-  module _ (o : Over k places (at (treesOf ns n) p)) {ms : List ℕ} where
+  module _ (o : Over k places (at (trees_of ns n) p)) {ms : List ℕ} where
     -- no room for the variables 1 to 3
-    pub early-stuck : Stuck ns ms n (early k places (at (treesOf ns n) p)) → Stuck ns ms n (tree_of (4 * k) (λ s. eval (at (treesOf ns n) p) s || cubeSays k places s))
-    early-stuck v = rw (into-tree k places o) (place-stuck t 0 k (get_or places 0 Any) w.start _ v)
+    pub early_stuck : Stuck ns ms n (early k places (at (trees_of ns n) p)) → Stuck ns ms n (tree_of (4 * k) (λ s. eval (at (trees_of ns n) p) s || cube_says k places s))
+    early_stuck v = rw (into_tree k places o) (place_stuck t 0 k (get_or places 0 Any) w.start _ v)
 
     -- no room for the variables 2 and 3
-    pub later-stuck : Stuck ns ms n (later k places (at (treesOf ns n) p)) → Stuck ns ms n (tree_of (4 * k) (λ s. eval (at (treesOf ns n) p) s || cubeSays k places s))
-    later-stuck v = early-stuck (place-stuck t k k (get_or places 1 Any) w.one _ v)
+    pub later_stuck : Stuck ns ms n (later k places (at (trees_of ns n) p)) → Stuck ns ms n (tree_of (4 * k) (λ s. eval (at (trees_of ns n) p) s || cube_says k places s))
+    later_stuck v = early_stuck (place_stuck t k k (get_or places 1 Any) w.one _ v)
 
     -- no room for variable 3
-    pub last-stuck : Stuck ns ms n (last k places (at (treesOf ns n) p)) → Stuck ns ms n (tree_of (4 * k) (λ s. eval (at (treesOf ns n) p) s || cubeSays k places s))
-    last-stuck v = later-stuck (place-stuck t (2 * k) k (get_or places 2 Any) w.two _ v)
+    pub last_stuck : Stuck ns ms n (last k places (at (trees_of ns n) p)) → Stuck ns ms n (tree_of (4 * k) (λ s. eval (at (trees_of ns n) p) s || cube_says k places s))
+    last_stuck v = later_stuck (place_stuck t (2 * k) k (get_or places 2 Any) w.two _ v)

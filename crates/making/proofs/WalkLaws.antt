@@ -6,30 +6,30 @@ use native.Mathlib.Omega.{arith}
 use lib.ListN.{length, take}
 use lib.Seq.{take-append-le}
 use Rattle.trees.specs.Tree.{Tree, mk}
-use Rattle.trees.specs.Table.{addTree, at, treesOf}
-use Rattle.trees.proofs.TableLaws.{Closed, Goes, goes-length, goes_at, add_goes, add-mk, add-in, closed-add, has-add}
+use Rattle.trees.specs.Table.{add_tree, at, trees_of}
+use Rattle.trees.proofs.TableLaws.{Closed, Goes, goes_length, goes_at, add_goes, add_mk, add_in, closed_add, has_add}
 use Rattle.making.specs.declared.Made.{Made}
 use Rattle.making.specs.declared.Made.TheVariants.{Full, At}
 use Rattle.nodes.specs.Nodes.{Front, Rest, Table, Grown, Stuck}
 use Rattle.making.specs.Tables.{Added}
-use Rattle.trees.proofs.ReadLaws.{length-trees, back-closed}
-use Rattle.nodes.proofs.ReadLaws.{grown-goes, grown-count, grown-ref}
+use Rattle.trees.proofs.ReadLaws.{length_trees, back_closed}
+use Rattle.nodes.proofs.ReadLaws.{grown_goes, grown_count, grown_ref}
 
 -- a reference of before still leads to its tree
-pub kept : {ns ms : List ℕ} {n m r : ℕ} {d : Tree} → Grown ns ms n m r d → (q : ℕ) → q < n + 2 → at (treesOf ms m) q ≡ at (treesOf ns n) q
-kept {ns} {n = n} g q h = goes_at (grown-goes g) q (omega (arith, length-trees ns n))
+pub kept : {ns ms : List ℕ} {n m r : ℕ} {d : Tree} → Grown ns ms n m r d → (q : ℕ) → q < n + 2 → at (trees_of ms m) q ≡ at (trees_of ns n) q
+kept {ns} {n = n} g q h = goes_at (grown_goes g) q (omega (arith, length_trees ns n))
 
 -- what two walks leave in front
-pub front-trans : {j k : ℕ} {ns ms ls : List ℕ} → Front j ns ms → Front k ms ls → j ≤ k → Front j ns ls
-front-trans s t le = record { eq = λ i h. t.eq i (omega arith) ∙ s.eq i h }
+pub front_trans : {j k : ℕ} {ns ms ls : List ℕ} → Front j ns ms → Front k ms ls → j ≤ k → Front j ns ls
+front_trans s t le = record { eq = λ i h. t.eq i (omega arith) ∙ s.eq i h }
 
 -- what is the same before k is the same before j
 pub front_less : {j k : ℕ} {ns ms : List ℕ} → Front k ns ms → j ≤ k → Front j ns ms
 front_less s le = record { eq = λ i h. s.eq i (omega arith) }
 
 -- what two walks leave behind
-pub rest-trans : {j k : ℕ} {ns ms ls : List ℕ} → Rest j ns ms → Rest k ms ls → j ≤ k → Rest k ns ls
-rest-trans s t le = record { eq = λ i h. t.eq i h ∙ s.eq i (omega arith) }
+pub rest_trans : {j k : ℕ} {ns ms ls : List ℕ} → Rest j ns ms → Rest k ms ls → j ≤ k → Rest k ns ls
+rest_trans s t le = record { eq = λ i h. t.eq i h ∙ s.eq i (omega arith) }
 
 -- a list that goes on from a longer one has the same front
 front : {ts us : List Tree} → Goes ts us → (k : ℕ) → k ≤ length ts → take k ts ≡ take k us
@@ -37,18 +37,18 @@ front {ts} {us} g k h = rw g.is (sym (take-append-le k ts g.more h))
 
 -- z may be added after x
 abbrev pub After : List Tree → Tree → Tree → Type 0
-After ts x z = addTree (addTree ts x) z ≡ addTree ts z
+After ts x z = add_tree (add_tree ts x) z ≡ add_tree ts z
 
 -- z may be added after x where y may be, and z after y
-pub after-trans : (ts : List Tree) (x y z : Tree) → After ts x y → After (addTree ts x) y z → After ts y z → After ts x z
-after-trans ts x y z a b c = sym b ∙ ap (λ (us : List Tree). addTree us z) a ∙ c
+pub after_trans : (ts : List Tree) (x y z : Tree) → After ts x y → After (add_tree ts x) y z → After ts y z → After ts x z
+after_trans ts x y z a b c = sym b ∙ ap (λ (us : List Tree). add_tree us z) a ∙ c
 
-module _ {ns : List ℕ} {n : ℕ} (x z : Tree) (e : After (treesOf ns n) x z) where
+module _ {ns : List ℕ} {n : ℕ} (x z : Tree) (e : After (trees_of ns n) x z) where
   -- no room for x, so none for z
-  pub stuck-first : {ms : List ℕ} → Stuck ns ms n x → Stuck ns ms n z
-  stuck-first s =
-      let g = add_goes (addTree (treesOf ns n) x) z in
-      let a = goes-length g in
+  pub stuck_first : {ms : List ℕ} → Stuck ns ms n x → Stuck ns ms n z
+  stuck_first s =
+      let g = add_goes (add_tree (trees_of ns n) x) z in
+      let a = goes_length g in
       record {
         over = rw (← e) (omega (arith, s.over));
         table = s.table;
@@ -65,8 +65,8 @@ module _ {ns : List ℕ} {n : ℕ} (x z : Tree) (e : After (treesOf ns n) x z) w
     table = rw (← g.size) s.table;
     size = s.size ∙ g.size;
     trees = rw (← g.size) (s.trees ∙ rw (g.trees, e));
-    same = front-trans g.same s.same (omega (arith, grown-count g));
-    rest = rw (← g.size) (rest-trans g.rest s.rest (omega (arith, g.table.fits)));
+    same = front_trans g.same s.same (omega (arith, grown_count g));
+    rest = rw (← g.size) (rest_trans g.rest s.rest (omega (arith, g.table.fits)));
   }
   first_then g I ms (At k r) w =
       let s = w.0 in (
@@ -75,43 +75,43 @@ module _ {ns : List ℕ} {n : ℕ} (x z : Tree) (e : After (treesOf ns n) x z) w
           size = s.size ∙ g.size;
           trees = s.trees ∙ rw g.trees e;
           ref = s.ref;
-          same = front-trans g.same s.same (omega (arith, grown-count g));
-          rest = rest-trans g.rest s.rest (omega (arith, grown-count s));
+          same = front_trans g.same s.same (omega (arith, grown_count g));
+          rest = rest_trans g.rest s.rest (omega (arith, grown_count s));
         },
         w.1,
       )
 
 -- a node may be added after its low side, and then after its high side
-pub low-after : (ts : List Tree) (l : ℕ) (x y : Tree) → Closed ts → After ts x (mk l x y)
-low-after ts l x y cl =
-    sym (add-mk (addTree ts x) l x y (closed-add ts x cl))
-    ∙ rw (add-in (addTree ts x) x (closed-add ts x cl) (has-add ts x)) (add-mk ts l x y cl)
+pub low_after : (ts : List Tree) (l : ℕ) (x y : Tree) → Closed ts → After ts x (mk l x y)
+low_after ts l x y cl =
+    sym (add_mk (add_tree ts x) l x y (closed_add ts x cl))
+    ∙ rw (add_in (add_tree ts x) x (closed_add ts x cl) (has_add ts x)) (add_mk ts l x y cl)
 
 -- the same of the high side
-pub high_after : (ts : List Tree) (l : ℕ) (x y : Tree) → Closed ts → After (addTree ts x) y (mk l x y)
-high_after ts l x y cl = add-mk ts l x y cl ∙ sym (low-after ts l x y cl)
+pub high_after : (ts : List Tree) (l : ℕ) (x y : Tree) → Closed ts → After (add_tree ts x) y (mk l x y)
+high_after ts l x y cl = add_mk ts l x y cl ∙ sym (low_after ts l x y cl)
 
 module _ {ns : List ℕ} {n : ℕ} (l : ℕ) (x y : Tree) (t : Table ns n) where
   -- the low side comes first
-  low : After (treesOf ns n) x (mk l x y)
-  low = low-after (treesOf ns n) l x y (back-closed ns n t.back)
+  low : After (trees_of ns n) x (mk l x y)
+  low = low_after (trees_of ns n) l x y (back_closed ns n t.back)
 
   -- no room for the low side
-  pub stuck-low : {ms : List ℕ} → Stuck ns ms n x → Stuck ns ms n (mk l x y)
-  stuck-low s = stuck-first x (mk l x y) low s
+  pub stuck_low : {ms : List ℕ} → Stuck ns ms n x → Stuck ns ms n (mk l x y)
+  stuck_low s = stuck_first x (mk l x y) low s
 
   module _ {ns₁ : List ℕ} {n₁ p : ℕ} (g : Grown ns ns₁ n n₁ p x) where
     -- then the high side
-    high : After (treesOf ns₁ n₁) y (mk l x y)
-    high = rw g.trees (high_after (treesOf ns n) l x y (back-closed ns n t.back))
+    high : After (trees_of ns₁ n₁) y (mk l x y)
+    high = rw g.trees (high_after (trees_of ns n) l x y (back_closed ns n t.back))
 
     -- no room for the high side
-    pub stuck-high : {ms : List ℕ} → Stuck ns₁ ms n₁ y → Stuck ns ms n (mk l x y)
-    stuck-high {ms} s = first_then x (mk l x y) low g (λ ns n. Unit {0}) ms Full (stuck-first y (mk l x y) high s)
+    pub stuck_high : {ms : List ℕ} → Stuck ns₁ ms n₁ y → Stuck ns ms n (mk l x y)
+    stuck_high {ms} s = first_then x (mk l x y) low g (λ ns n. Unit {0}) ms Full (stuck_first y (mk l x y) high s)
 
     -- the node over both sides
     pub joined : {ns₂ : List ℕ} {n₂ q : ℕ} → Grown ns₁ ns₂ n₁ n₂ q y → (I : List ℕ → ℕ → Type 0) (ms : List ℕ) (m : Made)
-        → Added I ns₂ ms n₂ (mk l (at (treesOf ns₂ n₂) p) (at (treesOf ns₂ n₂) q)) m → Added I ns ms n (mk l x y) m
+        → Added I ns₂ ms n₂ (mk l (at (trees_of ns₂ n₂) p) (at (trees_of ns₂ n₂) q)) m → Added I ns ms n (mk l x y) m
     joined {ns₂} {n₂} {q} h I ms m w =
-        let ep : at (treesOf ns₂ n₂) p ≡ x = kept h p (grown-ref g) ∙ g.ref.is in
+        let ep : at (trees_of ns₂ n₂) p ≡ x = kept h p (grown_ref g) ∙ g.ref.is in
         first_then x (mk l x y) low g I ms m (first_then y (mk l x y) high h I ms m (rw (ep, h.ref.is) at w))

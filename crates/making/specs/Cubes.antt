@@ -8,15 +8,15 @@ use Rattle.making.specs.declared.Place.{Place}
 use Rattle.making.specs.declared.Place.TheVariants.{Any, Is}
 
 -- the k bits from the level base on show the number, modulo 2 ^ k, where one is given
-abbrev pub placeSays : ℕ → ℕ → Place → Function
-placeSays base k Any s = true
-placeSays base k (Is m) s = eqb (number s base k) (m.0 % 2 ^ k)
+abbrev pub place_says : ℕ → ℕ → Place → Function
+place_says base k Any s = true
+place_says base k (Is m) s = eqb (number s base k) (m.0 % 2 ^ k)
 
 -- the bits of each of the four variables show its number, the bits of variable v standing from the level v * k on
-unfoldable pub cubeSays : ℕ → List Place → Function
-cubeSays k places s =
-    placeSays 0 k (get_or places 0 Any) s
-    && (placeSays k k (get_or places 1 Any) s && (placeSays (2 * k) k (get_or places 2 Any) s && placeSays (3 * k) k (get_or places 3 Any) s))
+unfoldable pub cube_says : ℕ → List Place → Function
+cube_says k places s =
+    place_says 0 k (get_or places 0 Any) s
+    && (place_says k k (get_or places 1 Any) s && (place_says (2 * k) k (get_or places 2 Any) s && place_says (3 * k) k (get_or places 3 Any) s))
 
 -- a number is given
 abbrev pub given : Place → Bool
@@ -37,25 +37,25 @@ pub record SameShape (ps qs : List Place) : Type 0 where
   pub each : (v : ℕ) → v < 4 → given (get_or ps v Any) ≡ given (get_or qs v Any)
 
 -- where `count` bits of m, from the level base on, lead in a tree
-unfoldable pub alongBits : ℕ → ℕ → ℕ → Tree → Tree
-alongBits base zero m t = t
-alongBits base (suc count) m t =
-    cond (eqb (m % 2) 0) (alongBits (suc base) count (m / 2) (side base false t)) (alongBits (suc base) count (m / 2) (side base true t))
+unfoldable pub along_bits : ℕ → ℕ → ℕ → Tree → Tree
+along_bits base zero m t = t
+along_bits base (suc count) m t =
+    cond (eqb (m % 2) 0) (along_bits (suc base) count (m / 2) (side base false t)) (along_bits (suc base) count (m / 2) (side base true t))
 
 -- where a variable's number leads, where one is given
-abbrev pub alongPlace : ℕ → ℕ → Place → Tree → Tree
-alongPlace base k Any t = t
-alongPlace base k (Is m) t = alongBits base k m.0 t
+abbrev pub along_place : ℕ → ℕ → Place → Tree → Tree
+along_place base k Any t = t
+along_place base k (Is m) t = along_bits base k m.0 t
 
 -- the tree d with `count` bits of m asked before it, from the level base on, and on the other side of each what t has there
-unfoldable pub bitsOver : ℕ → ℕ → ℕ → Tree → Tree → Tree
-bitsOver base zero m t d = d
-bitsOver base (suc count) m t d =
+unfoldable pub bits_over : ℕ → ℕ → ℕ → Tree → Tree → Tree
+bits_over base zero m t d = d
+bits_over base (suc count) m t d =
     cond (eqb (m % 2) 0)
-    (mk base (bitsOver (suc base) count (m / 2) (side base false t) d) (side base true t))
-    (mk base (side base false t) (bitsOver (suc base) count (m / 2) (side base true t) d))
+    (mk base (bits_over (suc base) count (m / 2) (side base false t) d) (side base true t))
+    (mk base (side base false t) (bits_over (suc base) count (m / 2) (side base true t) d))
 
 -- the same of a variable's number, where one is given
-abbrev pub placeOver : ℕ → ℕ → Place → Tree → Tree → Tree
-placeOver base k Any t d = d
-placeOver base k (Is m) t d = bitsOver base k m.0 t d
+abbrev pub place_over : ℕ → ℕ → Place → Tree → Tree → Tree
+place_over base k Any t d = d
+place_over base k (Is m) t d = bits_over base k m.0 t d

@@ -4,10 +4,10 @@
 // chains stand in the work slice.
 ghost use Rattle.std.specs.Prelude.{◌+◌, ◌*◌, ◌<◌, ◌≤◌, ◌||◌};
 ghost use Rattle.trees.specs.Tree.{eval, tree_of};
-ghost use Rattle.trees.specs.Table.{at, treesOf};
+ghost use Rattle.trees.specs.Table.{at, trees_of};
 ghost use Rattle.nodes.specs.Nodes.{Table, To};
 ghost use Rattle.making.specs.Tables.{Added, Shelf, Shelved};
-ghost use Rattle.making.specs.Cubes.{Over, alongBits, alongPlace, bitsOver, placeOver, cubeSays};
+ghost use Rattle.making.specs.Cubes.{Over, along_bits, along_place, bits_over, place_over, cube_says};
 
 use crate::table::{make, sides};
 use crate::{Made, Place};
@@ -16,7 +16,7 @@ use crate::{Made, Place};
 fn along_bits(nodes: &[u32], n: u32, base: u32, count: u32, m: u32, p: u32) -> u32
     requires table { Table nodes.now n }
     requires p_bound { (p < n + 2) × (base + count < 4294967296) }
-    ensures { To nodes.now n result (alongBits base count m (at (treesOf nodes.now n) p)) }
+    ensures { To nodes.now n result (along_bits base count m (at (trees_of nodes.now n) p)) }
 {
     if p < 2 {
         return p;
@@ -35,7 +35,7 @@ fn along_bits(nodes: &[u32], n: u32, base: u32, count: u32, m: u32, p: u32) -> u
 fn along(nodes: &[u32], n: u32, base: u32, k: u32, place: Place, p: u32) -> u32
     requires table { Table nodes.now n }
     requires p_bound { (p < n + 2) × (base + k < 4294967296) }
-    ensures { To nodes.now n result (alongPlace base k place (at (treesOf nodes.now n) p)) }
+    ensures { To nodes.now n result (along_place base k place (at (trees_of nodes.now n) p)) }
 {
     match place {
         Place::Any => p,
@@ -57,7 +57,7 @@ fn bits_over(
 ) -> Made
     requires shelf { Shelf nodes.old n work.old c }
     requires p_bound { (p < n + 2) × (below < n + 2) × (base + count < 4294967296) }
-    ensures { Added (λ ns j. Shelved work.old ns j work.new c) nodes.old nodes.new n (bitsOver base count m (at (treesOf nodes.old n) p) (at (treesOf nodes.old n) below)) result }
+    ensures { Added (λ ns j. Shelved work.old ns j work.new c) nodes.old nodes.new n (bits_over base count m (at (trees_of nodes.old n) p) (at (trees_of nodes.old n) below)) result }
 {
     if count == 0 {
         return Made::At(n, below);
@@ -91,7 +91,7 @@ fn place_over(
 ) -> Made
     requires shelf { Shelf nodes.old n work.old c }
     requires p_bound { (p < n + 2) × (below < n + 2) × (base + k < 4294967296) }
-    ensures { Added (λ ns j. Shelved work.old ns j work.new c) nodes.old nodes.new n (placeOver base k place (at (treesOf nodes.old n) p) (at (treesOf nodes.old n) below)) result }
+    ensures { Added (λ ns j. Shelved work.old ns j work.new c) nodes.old nodes.new n (place_over base k place (at (trees_of nodes.old n) p) (at (trees_of nodes.old n) below)) result }
 {
     match place {
         Place::Any => Made::At(n, below),
@@ -110,8 +110,8 @@ pub fn into(
     p: u32,
 ) -> Made
     requires shelf { Shelf nodes.old n work.old c }
-    requires k_bound { (4 * k ≤ 64) × (p < n + 2) × Over k places (at (treesOf nodes.old n) p) }
-    ensures { Added (λ ns j. Shelved work.old ns j work.new c) nodes.old nodes.new n (tree_of (4 * k) (λ s. eval (at (treesOf nodes.old n) p) s || cubeSays k places s)) result }
+    requires k_bound { (4 * k ≤ 64) × (p < n + 2) × Over k places (at (trees_of nodes.old n) p) }
+    ensures { Added (λ ns j. Shelved work.old ns j work.new c) nodes.old nodes.new n (tree_of (4 * k) (λ s. eval (at (trees_of nodes.old n) p) s || cube_says k places s)) result }
 {
     let w = places[0];
     let x = places[1];

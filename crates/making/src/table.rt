@@ -2,8 +2,8 @@
 // of nodes from 13 * c on, and their links from 14 * c on. Assumes that the first n nodes are a table, chained so.
 ghost use Rattle.std.specs.Prelude.{◌≡◌, ◌+◌, ◌<◌};
 ghost use Rattle.trees.specs.Tree.{mk};
-ghost use Rattle.trees.specs.Table.{at, treesOf};
-ghost use Rattle.nodes.specs.Nodes.{Table, Sides, firstLevel};
+ghost use Rattle.trees.specs.Table.{at, trees_of};
+ghost use Rattle.nodes.specs.Nodes.{Table, Sides, first_level};
 ghost use Rattle.making.specs.Tables.{Added, Shelf, Shelved};
 
 use crate::Made;
@@ -22,7 +22,7 @@ pub fn make(
 ) -> Made
     requires shelf { Shelf nodes.old n work.old c }
     requires low_bound { (low < n + 2) × (high < n + 2) }
-    ensures { Added (λ ns j. Shelved work.old ns j work.new c) nodes.old nodes.new n (mk level (at (treesOf nodes.old n) low) (at (treesOf nodes.old n) high)) result }
+    ensures { Added (λ ns j. Shelved work.old ns j work.new c) nodes.old nodes.new n (mk level (at (trees_of nodes.old n) low) (at (trees_of nodes.old n) high)) result }
 {
     if low == high {
         return Made::At(n, low);
@@ -48,7 +48,7 @@ pub fn make(
 pub fn top(nodes: &[u32], n: u32, r: u32) -> u32
     requires table { Table nodes.now n }
     requires r_bound { r < n + 2 }
-    ensures { result ≡ firstLevel (at (treesOf nodes.now n) r) }
+    ensures { result ≡ first_level (at (trees_of nodes.now n) r) }
 {
     if r < 2 {
         return 4294967295;

@@ -21,7 +21,7 @@ use Rattle.meaning.specs.Numbering as Numbering
 use Rattle.meaning.specs.Step as Step
 use Rattle.meaning.specs.Tables as Tables
 use Rattle.meaning.specs.Outcome as Outcome
-use Rattle.meaning.specs.Outcome.{Machine, machine_of, startOutcome, runs, answers, workSize}
+use Rattle.meaning.specs.Outcome.{Machine, machine_of, start_outcome, runs, answers, work_size}
 use Rattle.meaning.specs.Tables.{most, padded}
 
 -- what is claimed of a run: its answers; the kept nodes, the rows' references and their sizes at its end; how many values of each variable have
@@ -42,17 +42,17 @@ record Case : Type 0 where
   events : List Event
   claim : Claim
 
-numbersOf : Answer → List ℕ
-numbersOf Started = 0 ∷ []
-numbersOf (Verdict true n m) = 1 ∷ 1 ∷ n ∷ m ∷ []
-numbersOf (Verdict false n m) = 1 ∷ 0 ∷ n ∷ m ∷ []
-numbersOf (Refused n p) = 2 ∷ n ∷ p ∷ []
+numbers_of : Answer → List ℕ
+numbers_of Started = 0 ∷ []
+numbers_of (Verdict true n m) = 1 ∷ 1 ∷ n ∷ m ∷ []
+numbers_of (Verdict false n m) = 1 ∷ 0 ∷ n ∷ m ∷ []
+numbers_of (Refused n p) = 2 ∷ n ∷ p ∷ []
 
-sameAnswers : List Answer → List Answer → Bool
-sameAnswers [] [] = true
-sameAnswers [] (b ∷ bs) = false
-sameAnswers (a ∷ as') [] = false
-sameAnswers (a ∷ as') (b ∷ bs) = same_numbers (numbersOf a) (numbersOf b) && sameAnswers as' bs
+answers_agree : List Answer → List Answer → Bool
+answers_agree [] [] = true
+answers_agree [] (b ∷ bs) = false
+answers_agree (a ∷ as') [] = false
+answers_agree (a ∷ as') (b ∷ bs) = same_numbers (numbers_of a) (numbers_of b) && answers_agree as' bs
 
 sayings : List Answer → List ℕ
 sayings [] = []
@@ -62,7 +62,7 @@ sayings (Verdict false n m ∷ as') = 0 ∷ sayings as'
 sayings (Refused n p ∷ as') = n ∷ sayings as'
 
 begun : Case → Machine
-begun c = machine_of (startOutcome c.k c.rows (replicate (3 * c.C) 0) (replicate (4 * most c.k) 0)) (replicate (workSize c.C) 0)
+begun c = machine_of (start_outcome c.k c.rows (replicate (3 * c.C) 0) (replicate (4 * most c.k) 0)) (replicate (work_size c.C) 0)
 
 -- the size at a place is one more
 damaged : ℕ → Machine → Machine
@@ -76,7 +76,7 @@ damaged i m =
     }
 
 meets : Case → Claim → Bool
-meets c (answered as') = sameAnswers (answers c.rows (begun c) c.events) as'
+meets c (answered as') = answers_agree (answers c.rows (begun c) c.events) as'
 meets c (said ns) = same_numbers (sayings (answers c.rows (begun c) c.events)) ns
 meets c (kept nodes refs sizes) =
     let m = runs c.rows (begun c) c.events in
@@ -84,9 +84,9 @@ meets c (kept nodes refs sizes) =
 meets c (numbered counts) = same_numbers (runs c.rows (begun c) c.events).state.counts counts
 meets c (misfit i e) = same_numbers (sayings (answers c.rows (damaged i (runs c.rows (begun c) c.events)) (e ∷ []))) (4 ∷ [])
 
-allMeet : List Case → Bool
-allMeet [] = true
-allMeet (c ∷ cs) = meets c c.claim && allMeet cs
+all_meet : List Case → Bool
+all_meet [] = true
+all_meet (c ∷ cs) = meets c c.claim && all_meet cs
 
 -- a fact of n values
 fact : ℕ → ℕ → ℕ → ℕ → Fact
@@ -123,11 +123,11 @@ atom2 : ℕ → ℕ → ℕ → List ℕ
 atom2 p x y = 2 ∷ p ∷ 2 ∷ 0 ∷ x ∷ 0 ∷ y ∷ 0 ∷ 0 ∷ []
 
 -- rule K: 1 confirmed, 2 questioned, 3 shelved
-ruleK : List ℕ
-ruleK = atom1 3 0 0 ++ (atom1 2 0 0 ++ (row 4 1 0 ++ (atom1 1 0 0 ++ (row 5 2 3 ++ (row 4 4 0 ++ (row 3 0 5 ++ (row 7 0 6 ++ row 4 7 0)))))))
+rule_k : List ℕ
+rule_k = atom1 3 0 0 ++ (atom1 2 0 0 ++ (row 4 1 0 ++ (atom1 1 0 0 ++ (row 5 2 3 ++ (row 4 4 0 ++ (row 3 0 5 ++ (row 7 0 6 ++ row 4 7 0)))))))
 
-eventsK : List Event
-eventsK = event1 1 7 ∷ event1 3 7 ∷ event1 3 8 ∷ event1 2 7 ∷ event1 3 7 ∷ []
+events_k : List Event
+events_k = event1 1 7 ∷ event1 3 7 ∷ event1 3 8 ∷ event1 2 7 ∷ event1 3 7 ∷ []
 
 -- exists x exists y (p(x,y) and p(y,x))
 crossed : List ℕ
@@ -143,21 +143,21 @@ cases =
     record {
       k = 2;
       C = 64;
-      rows = ruleK;
-      events = eventsK;
+      rows = rule_k;
+      events = events_k;
       claim = answered (Verdict true 4 4 ∷ Verdict true 4 4 ∷ Verdict false 5 6 ∷ Verdict true 4 5 ∷ Verdict false 2 5 ∷ []);
     }
     ∷ record {
       k = 2;
       C = 64;
-      rows = ruleK;
+      rows = rule_k;
       events = event1 1 7 ∷ [];
       claim = kept (1 ∷ 1 ∷ 0 ∷ 0 ∷ 2 ∷ 0 ∷ 1 ∷ 0 ∷ 1 ∷ 0 ∷ 4 ∷ 1 ∷ []) (0 ∷ 0 ∷ 1 ∷ 3 ∷ 3 ∷ 5 ∷ 0 ∷ 0 ∷ 1 ∷ []) (0 ∷ 0 ∷ 0 ∷ 2 ∷ 2 ∷ 2 ∷ []);
     }
     ∷ record {
       k = 2;
       C = 64;
-      rows = ruleK;
+      rows = rule_k;
       events = event1 1 1 ∷ event1 1 2 ∷ event1 1 3 ∷ event1 1 4 ∷ event1 1 1 ∷ [];
       claim = answered (Verdict true 4 4 ∷ Verdict true 3 5 ∷ Verdict true 5 6 ∷ Refused 6 0 ∷ Verdict true 5 6 ∷ []);
     }
@@ -233,6 +233,6 @@ cases =
     ∷ []
 
 -- every case marked P is as document 01 says; the two before the last two are one set of facts in two orders: kept and room depend on the order
-cases-hold : allMeet cases ≡ true
-unfolding together sayings moment nine numbersOf sameAnswers begun damaged meets allMeet fact single event0 event1 event2 row atom1 atom2 ruleK eventsK crossed cases Bits.put Bits.number Bits.drop Bits.drops Tree.eval Tree.same Tree.mk Tree.leaf Tree.treeFrom Tree.tree_of Tree.isOn Table.mem Table.push Table.addTree Table.addTrees Table.at Table.find Table.refOf Table.show Table.nodeAt Table.treesOf Kept.all_below Kept.above Kept.nodeRight Kept.equalNodes Kept.sameTrees Kept.levels Kept.zerosFrom Kept.diagrams Kept.wellKept Sizes.sizesOf Sizes.same_numbers Sizes.sizesRight Qtl.freeArguments Qtl.free Rows.field Rows.uses Rows.useOf Rows.fieldRight Rows.pairsUsed Rows.pairRight Rows.rowRight Rows.disagree Rows.rowFault Rows.argumentAt Rows.ofKind Rows.row_at Rows.rowsUpTo Rows.rowCount Rows.ruleOf Rows.follow Rows.formulasFrom Rows.formulas Rows.formulaAt Rows.closed Rows.firstBelow Rows.judgeRows Rows.checkRows Numbering.place Numbering.listed Numbering.noted Numbering.ask Numbering.repeats Numbering.fits Numbering.askArguments Numbering.askRow Numbering.askRows Numbering.askFacts Step.argumentsSay Step.factSays Step.atomSays Step.rowSays Step.saysAt Step.rowTree Step.rowTrees Step.fresh Step.step Step.removals Step.removed Step.turns Step.atomTurns Step.counted Step.roomOf Tables.most Tables.part Tables.list_of Tables.read Tables.padded Tables.layValues Tables.keptTable Tables.layNodes Tables.layState Tables.freeLevel Tables.distinct Tables.listRight Tables.wellFormed Outcome.kRight Outcome.capacity Outcome.nodesRight Outcome.valuesRight Outcome.workSize Outcome.cleared Outcome.fact_of Outcome.given Outcome.facts_of Outcome.agrees Outcome.allAgree Outcome.factRight Outcome.allRight Outcome.countRight Outcome.shortest Outcome.judgeStart Outcome.judgeEvent Outcome.state_of Outcome.settleStart Outcome.decideStart Outcome.startOutcome Outcome.shows Outcome.decideEvent Outcome.verdictOf Outcome.settleEvent Outcome.eventOutcome Outcome.runs Outcome.answers Outcome.machine_of
-cases-hold = refl
+cases_hold : all_meet cases ≡ true
+unfolding together sayings moment nine numbers_of answers_agree begun damaged meets all_meet fact single event0 event1 event2 row atom1 atom2 rule_k events_k crossed cases Bits.put Bits.number Bits.drop Bits.drops Tree.eval Tree.same Tree.mk Tree.leaf Tree.tree_from Tree.tree_of Tree.is_on Table.mem Table.push Table.add_tree Table.add_trees Table.at Table.find Table.ref_of Table.show Table.node_at Table.trees_of Kept.all_below Kept.above Kept.node_right Kept.equal_nodes Kept.same_trees Kept.levels Kept.zeros_from Kept.diagrams Kept.well_kept Sizes.sizes_of Sizes.same_numbers Sizes.sizes_right Qtl.free_arguments Qtl.free Rows.field Rows.uses Rows.use_of Rows.field_right Rows.pairs_used Rows.pair_right Rows.row_right Rows.disagree Rows.row_fault Rows.argument_at Rows.of_kind Rows.row_at Rows.rows_up_to Rows.count_of_rows Rows.rule_of Rows.follow Rows.formulas_from Rows.formulas Rows.formula_at Rows.closed Rows.first_below Rows.judge_rows Rows.check_rows Numbering.place Numbering.listed Numbering.noted Numbering.ask Numbering.repeats Numbering.fits Numbering.ask_arguments Numbering.ask_row Numbering.ask_rows Numbering.ask_facts Step.arguments_say Step.fact_says Step.atom_says Step.row_says Step.says_at Step.row_tree Step.row_trees Step.fresh Step.step Step.removals Step.removed Step.turns Step.atom_turns Step.counted Step.room_of Tables.most Tables.part Tables.list_of Tables.read Tables.padded Tables.lay_values Tables.kept_table Tables.lay_nodes Tables.lay_state Tables.free_level Tables.distinct Tables.list_right Tables.well_formed Outcome.k_right Outcome.capacity Outcome.nodes_right Outcome.values_right Outcome.work_size Outcome.cleared Outcome.fact_of Outcome.given Outcome.facts_of Outcome.agrees Outcome.all_agree Outcome.fact_right Outcome.all_right Outcome.count_right Outcome.shortest Outcome.judge_start Outcome.judge_event Outcome.state_of Outcome.settle_start Outcome.decide_start Outcome.start_outcome Outcome.shows Outcome.decide_event Outcome.verdict_of Outcome.settle_event Outcome.event_outcome Outcome.runs Outcome.answers Outcome.machine_of
+cases_hold = refl

@@ -11,23 +11,23 @@ use lib.ListN.{length}
 use borrow.Author.Tests.{ltb-true, ltb-false, leb-true, leb-false, lt-leb}
 use Rattle.trees.specs.Tree.{Tree}
 use Rattle.trees.specs.Room.{Room}
-use Rattle.trees.proofs.Tests.{lt-or-ge, false-true, and-true-l, and_true_r}
-use Rattle.trees.proofs.TreeLaws.{fine-off}
-use Rattle.trees.proofs.RoomLaws.{room-one}
+use Rattle.trees.proofs.Tests.{lt_or_ge, false_true, and_true_l, and_true_r}
+use Rattle.trees.proofs.TreeLaws.{fine_off}
+use Rattle.trees.proofs.RoomLaws.{room_one}
 use Rattle.meaning.specs.declared.Event.{Event}
-use Rattle.meaning.specs.Rows.{Row, ruleOf, Found, right, fault, checkRows}
-use Rattle.meaning.specs.Numbering.{askFacts}
-use Rattle.meaning.specs.Step.{step, counted, roomOf}
-use Rattle.meaning.specs.Tables.{read, wellFormed}
-use Rattle.meaning.specs.Outcome.{kRight, capacity, nodesRight, valuesRight, workSize, facts_of, countRight, shortest, Decision, taken, refused, judgeStart, judgeEvent, decideStart, decideEvent, Machine, shows}
+use Rattle.meaning.specs.Rows.{Row, rule_of, Found, right, fault, check_rows}
+use Rattle.meaning.specs.Numbering.{ask_facts}
+use Rattle.meaning.specs.Step.{step, counted, room_of}
+use Rattle.meaning.specs.Tables.{read, well_formed}
+use Rattle.meaning.specs.Outcome.{k_right, capacity, nodes_right, values_right, work_size, facts_of, count_right, shortest, Decision, taken, refused, judge_start, judge_event, decide_start, decide_event, Machine, shows}
 use Rattle.meaning.specs.Refusals.{BadNodes, BadValues, BadWork, IllFormed, Short, NoRoom, StartSentence, Sentence, First}
 use Rattle.meaning.proofs.RowsLaws.{Checked, checked}
-use Rattle.meaning.proofs.StepLaws.{AllFine, fine-rows}
-use Rattle.meaning.proofs.ProperLaws.{read-fine}
-use Rattle.meaning.proofs.RoomOfLaws.{room-is}
-use Rattle.meaning.proofs.IllFormedLaws.{formed-bad}
+use Rattle.meaning.proofs.StepLaws.{AllFine, fine_rows}
+use Rattle.meaning.proofs.ProperLaws.{read_fine}
+use Rattle.meaning.proofs.RoomOfLaws.{room_is}
+use Rattle.meaning.proofs.IllFormedLaws.{formed_bad}
 use Rattle.meaning.proofs.RunLaws.{few}
-use Rattle.meaning.proofs.ExactLaws.{k-bad, RowsFound, well, ill, rows-found, nodes-bad, values-bad, either-bad, count-bad, short-found}
+use Rattle.meaning.proofs.ExactLaws.{k_bad, RowsFound, well, ill, rows_found, nodes_bad, values_bad, either_bad, count_bad, short_found}
 
 -- no sentence below j applies
 abbrev NoneBelow : (ℕ → ℕ → Type 0) → ℕ → Type 0
@@ -61,29 +61,29 @@ exact S d (fails j q a none one) n p = (there, back)
         (λ l. ⊎_elim
         (λ r. absurd (f.none j q r a))
         (λ r. let z : n ≡ j = omega arith in rw (z, one p (rw z at f.applies)))
-        (lt-or-ge j n))
-        (lt-or-ge n j)
+        (lt_or_ge j n))
+        (lt_or_ge n j)
 
 -- and what is taken is what no sentence refuses
-pub exact-taken : (S : ℕ → ℕ → Type 0) (d : Decision) → Judged S d → (d ≡ taken) ↔ ((n p : ℕ) → S n p → ⊥)
-exact-taken S d (passes h) = (λ e. h, λ z. refl)
-exact-taken S d (fails j q a none one) = (λ e. absurd (let z : ◌≡◌ {A = ℕ} 0 1 = cc in omega arith), λ z. absurd (z j q a))
+pub exact_taken : (S : ℕ → ℕ → Type 0) (d : Decision) → Judged S d → (d ≡ taken) ↔ ((n p : ℕ) → S n p → ⊥)
+exact_taken S d (passes h) = (λ e. h, λ z. refl)
+exact_taken S d (fails j q a none one) = (λ e. absurd (let z : ◌≡◌ {A = ℕ} 0 1 = cc in omega arith), λ z. absurd (z j q a))
 
 -- start
 module _ (k : ℕ) (rows nodes values : List ℕ) where
   S : ℕ → ℕ → Type 0
   S = StartSentence k rows nodes values
 
-  pub judged-start : Judged (StartSentence k rows nodes values) (decideStart k rows nodes values)
-  unfolding decideStart judgeStart S
-  judged-start = one (kRight k) refl
+  pub judged_start : Judged (StartSentence k rows nodes values) (decide_start k rows nodes values)
+  unfolding decide_start judge_start S
+  judged_start = one (k_right k) refl
     where
-      zero-none : NoneBelow S 1
-      zero-none zero p h z = z
-      zero-none (suc i) p h z = absurd (omega arith)
+      zero_none : NoneBelow S 1
+      zero_none zero p h z = z
+      zero_none (suc i) p h z = absurd (omega arith)
 
-      bad : ((nodesRight nodes && valuesRight k values) ≡ false) ↔ (BadNodes nodes ⊎ BadValues k values)
-      bad = either-bad (nodesRight nodes) (valuesRight k values) _ _ (nodes-bad nodes) (values-bad k values)
+      bad : ((nodes_right nodes && values_right k values) ≡ false) ↔ (BadNodes nodes ⊎ BadValues k values)
+      bad = either_bad (nodes_right nodes) (values_right k values) _ _ (nodes_bad nodes) (values_bad k values)
 
       end : NoneBelow S 4 → (n p : ℕ) → S n p → ⊥
       end h zero p z = z
@@ -92,17 +92,17 @@ module _ (k : ℕ) (rows nodes values : List ℕ) where
       end h (suc (suc (suc zero))) p z = h 3 p (omega arith) z
       end h (suc (suc (suc (suc n)))) p z = z
 
-      three : NoneBelow S 3 → (b : Bool) → (nodesRight nodes && valuesRight k values) ≡ b → Judged S (judgeStart true right b)
+      three : NoneBelow S 3 → (b : Bool) → (nodes_right nodes && values_right k values) ≡ b → Judged S (judge_start true right b)
       three h false e = fails 3 0 (refl, bad.0 e) h (λ p z. z.0)
-      three h true e = passes (end (one_more S 3 h (λ p z. false-true (bad.1 z.1) e)))
+      three h true e = passes (end (one_more S 3 h (λ p z. false_true (bad.1 z.1) e)))
 
-      two : NoneBelow S 2 → (f : Found) → RowsFound rows f → Judged S (judgeStart true f (nodesRight nodes && valuesRight k values))
-      two h f (well w) = three (one_more S 2 h w) (nodesRight nodes && valuesRight k values) refl
+      two : NoneBelow S 2 → (f : Found) → RowsFound rows f → Judged S (judge_start true f (nodes_right nodes && values_right k values))
+      two h f (well w) = three (one_more S 2 h w) (nodes_right nodes && values_right k values) refl
       two h f (ill p b u) = fails 2 p b h u
 
-      one : (a : Bool) → kRight k ≡ a → Judged S (judgeStart a (checkRows rows) (nodesRight nodes && valuesRight k values))
-      one false e = fails 1 0 (refl, (k-bad k).0 e) zero-none (λ p z. z.0)
-      one true e = two (one_more S 1 zero-none (λ p z. false-true ((k-bad k).1 z.1) e)) (checkRows rows) (rows-found rows)
+      one : (a : Bool) → k_right k ≡ a → Judged S (judge_start a (check_rows rows) (nodes_right nodes && values_right k values))
+      one false e = fails 1 0 (refl, (k_bad k).0 e) zero_none (λ p z. z.0)
+      one true e = two (one_more S 1 zero_none (λ p z. false_true ((k_bad k).1 z.1) e)) (check_rows rows) (rows_found rows)
 
 -- event
 module _ (rows : List ℕ) (m : Machine) (e : Event) where
@@ -113,64 +113,64 @@ module _ (rows : List ℕ) (m : Machine) (e : Event) where
   C = capacity m.nodes
 
   W : ℕ
-  W = shortest m.state.k (ruleOf rows) (shows rows m) (facts_of e)
+  W = shortest m.state.k (rule_of rows) (shows rows m) (facts_of e)
 
   abbrev R : ℕ
-  R = roomOf m.state.k (ruleOf rows) (shows rows m) (facts_of e) (step m.state.k (ruleOf rows) (shows rows m) (facts_of e))
+  R = room_of m.state.k (rule_of rows) (shows rows m) (facts_of e) (step m.state.k (rule_of rows) (shows rows m) (facts_of e))
 
   lengths : Bool
-  lengths = nodesRight m.nodes && (valuesRight m.state.k m.values && leb (workSize (capacity m.nodes)) (length m.work))
+  lengths = nodes_right m.nodes && (values_right m.state.k m.values && leb (work_size (capacity m.nodes)) (length m.work))
 
   abbrev formed : Bool
-  formed = wellFormed m.state.k (capacity m.nodes) (ruleOf rows) m.state m.nodes m.values
+  formed = well_formed m.state.k (capacity m.nodes) (rule_of rows) m.state m.nodes m.values
 
   Q : ℕ → ℕ → Type 0
   Q = Sentence rows m e
 
-  bad-lengths : (lengths ≡ false) ↔ (BadNodes m.nodes ⊎ (BadValues m.state.k m.values ⊎ BadWork m.nodes m.work))
+  bad_lengths : (lengths ≡ false) ↔ (BadNodes m.nodes ⊎ (BadValues m.state.k m.values ⊎ BadWork m.nodes m.work))
   unfolding lengths
-  bad-lengths = either-bad (nodesRight m.nodes) (valuesRight m.state.k m.values && leb (workSize (capacity m.nodes)) (length m.work)) _ _ (nodes-bad m.nodes)
-      (either-bad (valuesRight m.state.k m.values) (leb (workSize (capacity m.nodes)) (length m.work)) _ _ (values-bad m.state.k m.values)
+  bad_lengths = either_bad (nodes_right m.nodes) (values_right m.state.k m.values && leb (work_size (capacity m.nodes)) (length m.work)) _ _ (nodes_bad m.nodes)
+      (either_bad (values_right m.state.k m.values) (leb (work_size (capacity m.nodes)) (length m.work)) _ _ (values_bad m.state.k m.values)
       (leb-false _ _, lt-leb _ _))
 
-  bad-formed : kRight m.state.k ≡ true → checkRows rows ≡ right → (formed ≡ false) ↔ IllFormed m.state.k (capacity m.nodes) (ruleOf rows) m.state m.nodes m.values
-  bad-formed a r = formed-bad m.state.k (capacity m.nodes) (ruleOf rows) (few rows m.state.k (capacity m.nodes) a r) m.state m.nodes m.values
+  bad_formed : k_right m.state.k ≡ true → check_rows rows ≡ right → (formed ≡ false) ↔ IllFormed m.state.k (capacity m.nodes) (rule_of rows) m.state m.nodes m.values
+  bad_formed a r = formed_bad m.state.k (capacity m.nodes) (rule_of rows) (few rows m.state.k (capacity m.nodes) a r) m.state m.nodes m.values
 
-  positive : kRight m.state.k ≡ true → 0 < m.state.k
-  unfolding kRight
-  positive a = ltb-true 0 m.state.k (and-true-l (ltb 0 m.state.k) (leb m.state.k 10) a)
+  positive : k_right m.state.k ≡ true → 0 < m.state.k
+  unfolding k_right
+  positive a = ltb-true 0 m.state.k (and_true_l (ltb 0 m.state.k) (leb m.state.k 10) a)
 
   -- the diagrams before and after are reduced and ordered
-  fine_before : kRight m.state.k ≡ true → checkRows rows ≡ right → formed ≡ true → AllFine (4 * m.state.k) (shows rows m).trees
+  fine_before : k_right m.state.k ≡ true → check_rows rows ≡ right → formed ≡ true → AllFine (4 * m.state.k) (shows rows m).trees
   unfolding shows read
-  fine_before a r f = read-fine m.state.k (capacity m.nodes) (ruleOf rows) m.state m.nodes m.values f (positive a) (checked rows r).rows
+  fine_before a r f = read_fine m.state.k (capacity m.nodes) (rule_of rows) m.state m.nodes m.values f (positive a) (checked rows r).rows
 
-  fine-after : AllFine (4 * m.state.k) (shows rows m).trees → AllFine (4 * m.state.k) (step m.state.k (ruleOf rows) (shows rows m) (facts_of e)).trees
+  fine_after : AllFine (4 * m.state.k) (shows rows m).trees → AllFine (4 * m.state.k) (step m.state.k (rule_of rows) (shows rows m) (facts_of e)).trees
   unfolding step
-  fine-after w = fine-rows m.state.k (askFacts (facts_of e) (shows rows m).lists (ruleOf rows)) (facts_of e) (shows rows m).trees w (ruleOf rows) [] (λ j. fine-off 0 (4 * m.state.k))
+  fine_after w = fine_rows m.state.k (ask_facts (facts_of e) (shows rows m).lists (rule_of rows)) (facts_of e) (shows rows m).trees w (rule_of rows) [] (λ j. fine_off 0 (4 * m.state.k))
 
   -- the room of the outcome is document 01's
-  pub event-room : kRight m.state.k ≡ true → checkRows rows ≡ right → formed ≡ true
-      → Room (4 * m.state.k) (counted m.state.k (ruleOf rows) (shows rows m) (facts_of e) (step m.state.k (ruleOf rows) (shows rows m) (facts_of e))) R
-  event-room a r f = let w = fine_before a r f in room-is m.state.k (ruleOf rows) (checked rows r).rows (shows rows m) (facts_of e) _ w (fine-after w)
+  pub event_room : k_right m.state.k ≡ true → check_rows rows ≡ right → formed ≡ true
+      → Room (4 * m.state.k) (counted m.state.k (rule_of rows) (shows rows m) (facts_of e) (step m.state.k (rule_of rows) (shows rows m) (facts_of e))) R
+  event_room a r f = let w = fine_before a r f in room_is m.state.k (rule_of rows) (checked rows r).rows (shows rows m) (facts_of e) _ w (fine_after w)
 
-  no_room : kRight m.state.k ≡ true → checkRows rows ≡ right → formed ≡ true → (leb R C ≡ false) ↔ NoRoom rows m e
+  no_room : k_right m.state.k ≡ true → check_rows rows ≡ right → formed ≡ true → (leb R C ≡ false) ↔ NoRoom rows m e
   unfolding C
   no_room a r f = (
-    λ z. record { room = R; is = event-room a r f; over = leb-false R (capacity m.nodes) z },
-    λ n. lt-leb R (capacity m.nodes) (let y = n.over in let x = room-one _ _ _ _ n.is (event-room a r f) in omega arith),
+    λ z. record { room = R; is = event_room a r f; over = leb-false R (capacity m.nodes) z },
+    λ n. lt-leb R (capacity m.nodes) (let y = n.over in let x = room_one _ _ _ _ n.is (event_room a r f) in omega arith),
   )
 
-  pub judged-event : Judged (Sentence rows m e) (decideEvent rows m e)
-  unfolding decideEvent judgeStart judgeEvent Q C W lengths k
-  judged-event = one (kRight m.state.k) refl
+  pub judged_event : Judged (Sentence rows m e) (decide_event rows m e)
+  unfolding decide_event judge_start judge_event Q C W lengths k
+  judged_event = one (k_right m.state.k) refl
     where
       count : Bool
-      count = countRight (ruleOf rows) e
+      count = count_right (rule_of rows) e
 
-      zero-none : NoneBelow Q 1
-      zero-none zero p h z = z
-      zero-none (suc i) p h z = absurd (omega arith)
+      zero_none : NoneBelow Q 1
+      zero_none zero p h z = z
+      zero_none (suc i) p h z = absurd (omega arith)
 
       end : NoneBelow Q 8 → (n p : ℕ) → Q n p → ⊥
       end h zero p z = z
@@ -183,32 +183,32 @@ module _ (rows : List ℕ) (m : Machine) (e : Event) where
       end h (suc (suc (suc (suc (suc (suc (suc zero))))))) p z = h 7 p (omega arith) z
       end h (suc (suc (suc (suc (suc (suc (suc (suc n)))))))) p z = z
 
-      seven : ((leb R C ≡ false) ↔ NoRoom rows m e) → NoneBelow Q 7 → (b : Bool) → leb R C ≡ b → Judged Q (judgeEvent taken true true false W b)
+      seven : ((leb R C ≡ false) ↔ NoRoom rows m e) → NoneBelow Q 7 → (b : Bool) → leb R C ≡ b → Judged Q (judge_event taken true true false W b)
       seven n h false z = fails 7 0 (refl, n.0 z) h (λ p y. y.0)
-      seven n h true z = passes (end (one_more Q 7 h (λ p y. false-true (n.1 y.1) z)))
+      seven n h true z = passes (end (one_more Q 7 h (λ p y. false_true (n.1 y.1) z)))
 
-      six : ((leb R C ≡ false) ↔ NoRoom rows m e) → NoneBelow Q 6 → (b : Bool) → ltb W 4 ≡ b → Judged Q (judgeEvent taken true true b W (leb R C))
-      six n h true z = fails 6 W ((short-found rows m e).0 (ltb-true W 4 z)) h (λ p y. ((short-found rows m e).1 p y).1)
-      six n h false z = seven n (one_more Q 6 h (λ p y. absurd (let x = ((short-found rows m e).1 p y).0 in let u = ltb-false W 4 z in omega arith))) (leb R C) refl
+      six : ((leb R C ≡ false) ↔ NoRoom rows m e) → NoneBelow Q 6 → (b : Bool) → ltb W 4 ≡ b → Judged Q (judge_event taken true true b W (leb R C))
+      six n h true z = fails 6 W ((short_found rows m e).0 (ltb-true W 4 z)) h (λ p y. ((short_found rows m e).1 p y).1)
+      six n h false z = seven n (one_more Q 6 h (λ p y. absurd (let x = ((short_found rows m e).1 p y).0 in let u = ltb-false W 4 z in omega arith))) (leb R C) refl
 
-      five : ((leb R C ≡ false) ↔ NoRoom rows m e) → NoneBelow Q 5 → (b : Bool) → count ≡ b → Judged Q (judgeEvent taken true b (ltb W 4) W (leb R C))
-      five n h false z = fails 5 0 (refl, (count-bad rows e).0 z) h (λ p y. y.0)
-      five n h true z = six n (one_more Q 5 h (λ p y. false-true ((count-bad rows e).1 y.1) z)) (ltb W 4) refl
+      five : ((leb R C ≡ false) ↔ NoRoom rows m e) → NoneBelow Q 5 → (b : Bool) → count ≡ b → Judged Q (judge_event taken true b (ltb W 4) W (leb R C))
+      five n h false z = fails 5 0 (refl, (count_bad rows e).0 z) h (λ p y. y.0)
+      five n h true z = six n (one_more Q 5 h (λ p y. false_true ((count_bad rows e).1 y.1) z)) (ltb W 4) refl
 
-      four : kRight m.state.k ≡ true → checkRows rows ≡ right → NoneBelow Q 4 → (b : Bool) → formed ≡ b → Judged Q (judgeEvent taken b count (ltb W 4) W (leb R C))
-      four a r h false z = fails 4 0 (refl, (bad-formed a r).0 z) h (λ p y. y.0)
-      four a r h true z = five (no_room a r z) (one_more Q 4 h (λ p y. false-true ((bad-formed a r).1 y.1) z)) count refl
+      four : k_right m.state.k ≡ true → check_rows rows ≡ right → NoneBelow Q 4 → (b : Bool) → formed ≡ b → Judged Q (judge_event taken b count (ltb W 4) W (leb R C))
+      four a r h false z = fails 4 0 (refl, (bad_formed a r).0 z) h (λ p y. y.0)
+      four a r h true z = five (no_room a r z) (one_more Q 4 h (λ p y. false_true ((bad_formed a r).1 y.1) z)) count refl
 
-      three : kRight m.state.k ≡ true → checkRows rows ≡ right → NoneBelow Q 3 → (b : Bool) → lengths ≡ b
-          → Judged Q (judgeEvent (judgeStart true right b) formed count (ltb W 4) W (leb R C))
-      three a r h false z = fails 3 0 (refl, bad-lengths.0 z) h (λ p y. y.0)
-      three a r h true z = four a r (one_more Q 3 h (λ p y. false-true (bad-lengths.1 y.1) z)) formed refl
+      three : k_right m.state.k ≡ true → check_rows rows ≡ right → NoneBelow Q 3 → (b : Bool) → lengths ≡ b
+          → Judged Q (judge_event (judge_start true right b) formed count (ltb W 4) W (leb R C))
+      three a r h false z = fails 3 0 (refl, bad_lengths.0 z) h (λ p y. y.0)
+      three a r h true z = four a r (one_more Q 3 h (λ p y. false_true (bad_lengths.1 y.1) z)) formed refl
 
-      two : kRight m.state.k ≡ true → NoneBelow Q 2 → (f : Found) → checkRows rows ≡ f → RowsFound rows f
-          → Judged Q (judgeEvent (judgeStart true f lengths) formed count (ltb W 4) W (leb R C))
+      two : k_right m.state.k ≡ true → NoneBelow Q 2 → (f : Found) → check_rows rows ≡ f → RowsFound rows f
+          → Judged Q (judge_event (judge_start true f lengths) formed count (ltb W 4) W (leb R C))
       two a h f r (well w) = three a r (one_more Q 2 h w) lengths refl
       two a h f r (ill p b u) = fails 2 p b h u
 
-      one : (a : Bool) → kRight m.state.k ≡ a → Judged Q (judgeEvent (judgeStart a (checkRows rows) lengths) formed count (ltb W 4) W (leb R C))
-      one false a = fails 1 0 (refl, (k-bad m.state.k).0 a) zero-none (λ p z. z.0)
-      one true a = two a (one_more Q 1 zero-none (λ p z. false-true ((k-bad m.state.k).1 z.1) a)) (checkRows rows) refl (rows-found rows)
+      one : (a : Bool) → k_right m.state.k ≡ a → Judged Q (judge_event (judge_start a (check_rows rows) lengths) formed count (ltb W 4) W (leb R C))
+      one false a = fails 1 0 (refl, (k_bad m.state.k).0 a) zero_none (λ p z. z.0)
+      one true a = two a (one_more Q 1 zero_none (λ p z. false_true ((k_bad m.state.k).1 z.1) a)) (check_rows rows) refl (rows_found rows)

@@ -9,53 +9,53 @@ use native.Mathlib.Omega.{arith}
 use lib.Dec.{eqb}
 use borrow.Author.Tests.{ne_eqb}
 use Rattle.trees.specs.Bits.{Bits, number}
-use Rattle.trees.specs.Tree.{Tree, off, on, eval, Fine, isOn}
-use Rattle.trees.proofs.Tests.{or_l, or_r, eqb_same, false-true, not-true}
-use Rattle.trees.proofs.TreeLaws.{canon, fine-off, fine-on}
-use Rattle.meaning.specs.Qtl.{Argument, variable, constant, Fact, Formula, Assignment, bind, Matches, Some, SameFacts, Matching, Holds, free, freeArguments}
+use Rattle.trees.specs.Tree.{Tree, off, on, eval, Fine, is_on}
+use Rattle.trees.proofs.Tests.{or_l, or_r, eqb_same, false_true, not_true}
+use Rattle.trees.proofs.TreeLaws.{canon, fine_off, fine_on}
+use Rattle.meaning.specs.Qtl.{Argument, variable, constant, Fact, Formula, Assignment, bind, Matches, Some, SameFacts, Matching, Holds, free, free_arguments}
 use Rattle.meaning.specs.Qtl
 use Rattle.meaning.specs.Numbering.{Lists, Shows}
 use Rattle.meaning.proofs.ValuesLaws.{value_of}
-use Rattle.meaning.proofs.Simulation.{Sim, bind-own, bind-other}
+use Rattle.meaning.proofs.Simulation.{Sim, bind_own, bind_other}
 
 -- assignments alike on F
 abbrev pub Alike : (ℕ → Bool) → Assignment → Assignment → Type 0
 Alike F a b = (v : ℕ) → F v ≡ true → a v ≡ b v
 
-matches-alike : (gs : List Argument) (xs : List ℕ) (a b : Assignment) → Alike (freeArguments gs) a b → Matches a gs xs → Matches b gs xs
-unfolding freeArguments
-matches-alike [] [] a b h p = tt
-matches-alike [] (x ∷ xs) a b h p = p
-matches-alike (g ∷ gs) [] a b h p = p
-matches-alike (variable w ∷ gs) (x ∷ xs) a b h p =
-    (sym (h w (or_l (eqb w w) (freeArguments gs w) (eqb_same w))) ∙ p.0, matches-alike gs xs a b (λ v e. h v (or_r (eqb w v) (freeArguments gs v) e)) p.1)
-matches-alike (constant c ∷ gs) (x ∷ xs) a b h p = (p.0, matches-alike gs xs a b h p.1)
+matches_alike : (gs : List Argument) (xs : List ℕ) (a b : Assignment) → Alike (free_arguments gs) a b → Matches a gs xs → Matches b gs xs
+unfolding free_arguments
+matches_alike [] [] a b h p = tt
+matches_alike [] (x ∷ xs) a b h p = p
+matches_alike (g ∷ gs) [] a b h p = p
+matches_alike (variable w ∷ gs) (x ∷ xs) a b h p =
+    (sym (h w (or_l (eqb w w) (free_arguments gs w) (eqb_same w))) ∙ p.0, matches_alike gs xs a b (λ v e. h v (or_r (eqb w v) (free_arguments gs v) e)) p.1)
+matches_alike (constant c ∷ gs) (x ∷ xs) a b h p = (p.0, matches_alike gs xs a b h p.1)
 
-some_alike : (q : ℕ) (gs : List Argument) (es : List Fact) (a b : Assignment) → Alike (freeArguments gs) a b → Some (Matching a q gs) es → Some (Matching b q gs) es
+some_alike : (q : ℕ) (gs : List Argument) (es : List Fact) (a b : Assignment) → Alike (free_arguments gs) a b → Some (Matching a q gs) es → Some (Matching b q gs) es
 some_alike q gs [] a b h p = p
-some_alike q gs (e ∷ es) a b h (inl p) = inl (p.0, matches-alike gs e.values a b h p.1)
+some_alike q gs (e ∷ es) a b h (inl p) = inl (p.0, matches_alike gs e.values a b h p.1)
 some_alike q gs (e ∷ es) a b h (inr p) = inr (some_alike q gs es a b h p)
 
-bind-alike : (f : Formula) (x y : ℕ) (a b : Assignment) → Alike (free (Qtl.exists x f)) a b → Alike (free f) (bind a x y) (bind b x y)
+bind_alike : (f : Formula) (x y : ℕ) (a b : Assignment) → Alike (free (Qtl.exists x f)) a b → Alike (free f) (bind a x y) (bind b x y)
 unfolding free
-bind-alike f x y a b h v e = elim (ℕ_discrete v x) [
-  | yes p ↦ rw (p, bind-own a x y, bind-own b x y)
-  | no p ↦ bind-other a x y v p ∙ (h v (rw (ne_eqb x v (λ q. p (sym q))) e) ∙ sym (bind-other b x y v p))
+bind_alike f x y a b h v e = elim (ℕ_discrete v x) [
+  | yes p ↦ rw (p, bind_own a x y, bind_own b x y)
+  | no p ↦ bind_other a x y v p ∙ (h v (rw (ne_eqb x v (λ q. p (sym q))) e) ∙ sym (bind_other b x y v p))
 ]
 
 -- what some fact of a list has, some fact of the same facts has
-some-fact : (P : Fact → Type 0) (es : List Fact) → Some P es → (f : Fact) × Some (λ e. e ≡ f) es × P f
-some-fact P [] p = absurd p
-some-fact P (e ∷ es) (inl p) = (e, inl refl, p)
-some-fact P (e ∷ es) (inr p) = let f = some-fact P es p in (f.0, inr f.1, f.2)
+some_fact : (P : Fact → Type 0) (es : List Fact) → Some P es → (f : Fact) × Some (λ e. e ≡ f) es × P f
+some_fact P [] p = absurd p
+some_fact P (e ∷ es) (inl p) = (e, inl refl, p)
+some_fact P (e ∷ es) (inr p) = let f = some_fact P es p in (f.0, inr f.1, f.2)
 
-fact-some : (P : Fact → Type 0) (es : List Fact) (f : Fact) → Some (λ e. e ≡ f) es → P f → Some P es
-fact-some P [] f i p = i
-fact-some P (e ∷ es) f (inl q) p = inl (rw q p)
-fact-some P (e ∷ es) f (inr i) p = inr (fact-some P es f i p)
+fact_some : (P : Fact → Type 0) (es : List Fact) (f : Fact) → Some (λ e. e ≡ f) es → P f → Some P es
+fact_some P [] f i p = i
+fact_some P (e ∷ es) f (inl q) p = inl (rw q p)
+fact_some P (e ∷ es) f (inr i) p = inr (fact_some P es f i p)
 
 some_same : (P : Fact → Type 0) (es fs : List Fact) → SameFacts es fs → Some P es → Some P fs
-some_same P es fs t p = let f = some-fact P es p in fact-some P fs f.0 ((t f.0).0 f.1) f.2
+some_same P es fs t p = let f = some_fact P es p in fact_some P fs f.0 ((t f.0).0 f.1) f.2
 
 -- the same facts up to a position
 abbrev pub AlikeTo : ℕ → (ℕ → List Fact) → (ℕ → List Fact) → Type 0
@@ -73,62 +73,62 @@ Reads f = (σ τ : ℕ → List Fact) (i : ℕ) (a b : Assignment) → AlikeTo i
 turn : (i : ℕ) (σ τ : ℕ → List Fact) → AlikeTo i σ τ → AlikeTo i τ σ
 turn i σ τ t j p q = same_turn (σ j) (τ j) (t j p q)
 
-since-reads : (f g : Formula) → Reads f → Reads g → Reads (Qtl.since f g)
+since_reads : (f g : Formula) → Reads f → Reads g → Reads (Qtl.since f g)
 unfolding free
-since-reads f g rf rg σ τ zero a b t h p = p
-since-reads f g rf rg σ τ (suc i) a b t h (inl p) = inl (rg σ τ (suc i) a b t (λ v e. h v (or_r (free f v) (free g v) e)) p)
-since-reads f g rf rg σ τ (suc i) a b t h (inr p) =
-    inr (rf σ τ (suc i) a b t (λ v e. h v (or_l (free f v) (free g v) e)) p.0, since-reads f g rf rg σ τ i a b (λ j q r. t j q (omega arith)) h p.1)
+since_reads f g rf rg σ τ zero a b t h p = p
+since_reads f g rf rg σ τ (suc i) a b t h (inl p) = inl (rg σ τ (suc i) a b t (λ v e. h v (or_r (free f v) (free g v) e)) p)
+since_reads f g rf rg σ τ (suc i) a b t h (inr p) =
+    inr (rf σ τ (suc i) a b t (λ v e. h v (or_l (free f v) (free g v) e)) p.0, since_reads f g rf rg σ τ i a b (λ j q r. t j q (omega arith)) h p.1)
 
 -- a formula reads its free variables, and the events up to its position
-pub holds-reads : (f : Formula) → Reads f
+pub holds_reads : (f : Formula) → Reads f
 unfolding free
-holds-reads Qtl.truth σ τ zero a b t h p = p
-holds-reads Qtl.truth σ τ (suc i) a b t h p = p
-holds-reads (Qtl.atom q gs) σ τ zero a b t h p = p
-holds-reads (Qtl.atom q gs) σ τ (suc i) a b t h p =
+holds_reads Qtl.truth σ τ zero a b t h p = p
+holds_reads Qtl.truth σ τ (suc i) a b t h p = p
+holds_reads (Qtl.atom q gs) σ τ zero a b t h p = p
+holds_reads (Qtl.atom q gs) σ τ (suc i) a b t h p =
     some_same (Matching b q gs) (σ (suc i)) (τ (suc i)) (t (suc i) (omega arith) (omega arith)) (some_alike q gs (σ (suc i)) a b h p)
-holds-reads (Qtl.both f g) σ τ zero a b t h p = p
-holds-reads (Qtl.both f g) σ τ (suc i) a b t h p =
-    (holds-reads f σ τ (suc i) a b t (λ v e. h v (or_l (free f v) (free g v) e)) p.0, holds-reads g σ τ (suc i) a b t (λ v e. h v (or_r (free f v) (free g v) e)) p.1)
-holds-reads (Qtl.neg f) σ τ zero a b t h p = p
-holds-reads (Qtl.neg f) σ τ (suc i) a b t h p = λ q. p (holds-reads f τ σ (suc i) b a (turn (suc i) σ τ t) (λ v e. sym (h v e)) q)
-holds-reads (Qtl.since f g) σ τ i a b t h p = since-reads f g (holds-reads f) (holds-reads g) σ τ i a b t h p
-holds-reads (Qtl.previous f) σ τ zero a b t h p = p
-holds-reads (Qtl.previous f) σ τ (suc i) a b t h p = holds-reads f σ τ i a b (λ j q r. t j q (omega arith)) h p
-holds-reads (Qtl.exists x f) σ τ zero a b t h p = p
-holds-reads (Qtl.exists x f) σ τ (suc i) a b t h p =
-    (p.0, holds-reads f σ τ (suc i) (bind a x p.0) (bind b x p.0) t (bind-alike f x p.0 a b h) p.1)
+holds_reads (Qtl.both f g) σ τ zero a b t h p = p
+holds_reads (Qtl.both f g) σ τ (suc i) a b t h p =
+    (holds_reads f σ τ (suc i) a b t (λ v e. h v (or_l (free f v) (free g v) e)) p.0, holds_reads g σ τ (suc i) a b t (λ v e. h v (or_r (free f v) (free g v) e)) p.1)
+holds_reads (Qtl.neg f) σ τ zero a b t h p = p
+holds_reads (Qtl.neg f) σ τ (suc i) a b t h p = λ q. p (holds_reads f τ σ (suc i) b a (turn (suc i) σ τ t) (λ v e. sym (h v e)) q)
+holds_reads (Qtl.since f g) σ τ i a b t h p = since_reads f g (holds_reads f) (holds_reads g) σ τ i a b t h p
+holds_reads (Qtl.previous f) σ τ zero a b t h p = p
+holds_reads (Qtl.previous f) σ τ (suc i) a b t h p = holds_reads f σ τ i a b (λ j q r. t j q (omega arith)) h p
+holds_reads (Qtl.exists x f) σ τ zero a b t h p = p
+holds_reads (Qtl.exists x f) σ τ (suc i) a b t h p =
+    (p.0, holds_reads f σ τ (suc i) (bind a x p.0) (bind b x p.0) t (bind_alike f x p.0 a b h) p.1)
 
 -- every setting of the bits shows some assignment
-pub some-assignment : (k : ℕ) (L : Lists) (s : Bits) → (a : Assignment) × Shows k L s a
-some-assignment k L s = (λ v. (value_of (L v) (number s (v * k) k)).0, λ v h. (value_of (L v) (number s (v * k) k)).1)
+pub some_assignment : (k : ℕ) (L : Lists) (s : Bits) → (a : Assignment) × Shows k L s a
+some_assignment k L s = (λ v. (value_of (L v) (number s (v * k) k)).0, λ v h. (value_of (L v) (number s (v * k) k)).1)
 
 -- the diagram of a sentence is yes exactly if it holds
 pub sentence : (k : ℕ) (L : Lists) (t : Tree) (σ : ℕ → List Fact) (f : Formula) (i : ℕ) → ((v : ℕ) → free f v ≡ false) → Fine 0 (4 * k) t
-    → Sim k L (eval t) (λ a. Holds σ f i a) → (a : Assignment) → (isOn t ≡ true) ↔ Holds σ f i a
-unfolding eval isOn
+    → Sim k L (eval t) (λ a. Holds σ f i a) → (a : Assignment) → (is_on t ≡ true) ↔ Holds σ f i a
+unfolding eval is_on
 sentence k L t σ f i c fine s a = go (eval t dark) refl
   where
     dark : Bits
     dark l = false
 
     any : (a b : Assignment) → Holds σ f i a → Holds σ f i b
-    any a b p = holds-reads f σ σ i a b (λ j q r. same_refl (σ j) (σ j) refl) (λ v e. absurd (false-true (c v) e)) p
+    any a b p = holds_reads f σ σ i a b (λ j q r. same_refl (σ j) (σ j) refl) (λ v e. absurd (false_true (c v) e)) p
 
     A : Bits → Assignment
-    A e = (some-assignment k L e).0
+    A e = (some_assignment k L e).0
 
     says : (e : Bits) → (eval t e ≡ true) ↔ Holds σ f i (A e)
-    says e = s.means e (A e) (some-assignment k L e).1
+    says e = s.means e (A e) (some_assignment k L e).1
 
     alike : (x : Bool) → eval t dark ≡ x → (e : Bits) → eval t e ≡ x
     alike true q e = (says e).1 (any (A dark) (A e) ((says dark).0 q))
-    alike false q e = not-true (eval t e) λ z. false-true q ((says dark).1 (any (A e) (A dark) ((says e).0 z)))
+    alike false q e = not_true (eval t e) λ z. false_true q ((says dark).1 (any (A e) (A dark) ((says e).0 z)))
 
-    go : (x : Bool) → eval t dark ≡ x → (isOn t ≡ true) ↔ Holds σ f i a
-    go true q = (λ z. any (A dark) a ((says dark).0 q), λ z. ap isOn (canon (4 * k) t on fine (fine-on 0 (4 * k)) (alike true q)))
+    go : (x : Bool) → eval t dark ≡ x → (is_on t ≡ true) ↔ Holds σ f i a
+    go true q = (λ z. any (A dark) a ((says dark).0 q), λ z. ap is_on (canon (4 * k) t on fine (fine_on 0 (4 * k)) (alike true q)))
     go false q = (
-      λ z. absurd (false-true (ap isOn (canon (4 * k) t off fine (fine-off 0 (4 * k)) (alike false q))) z),
-      λ z. absurd (false-true q ((says dark).1 (any a (A dark) z))),
+      λ z. absurd (false_true (ap is_on (canon (4 * k) t off fine (fine_off 0 (4 * k)) (alike false q))) z),
+      λ z. absurd (false_true q ((says dark).1 (any a (A dark) z))),
     )

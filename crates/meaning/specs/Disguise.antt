@@ -12,24 +12,24 @@ among x [] = false
 among x (y ∷ ys) = eqb x y || among x ys
 
 -- the values that the events use
-unfoldable pub usedIn : List Fact → List ℕ
-usedIn [] = []
-usedIn (f ∷ fs) = f.values ++ usedIn fs
+unfoldable pub used_in : List Fact → List ℕ
+used_in [] = []
+used_in (f ∷ fs) = f.values ++ used_in fs
 
 unfoldable pub used : List Event → List ℕ
 used [] = []
-used (e ∷ es) = usedIn (facts_of e) ++ used es
+used (e ∷ es) = used_in (facts_of e) ++ used es
 
 -- the rule's constants
-unfoldable pub constantsIn : List Argument → List ℕ
-constantsIn [] = []
-constantsIn (variable v ∷ gs) = constantsIn gs
-constantsIn (constant c ∷ gs) = c ∷ constantsIn gs
+unfoldable pub constants_in : List Argument → List ℕ
+constants_in [] = []
+constants_in (variable v ∷ gs) = constants_in gs
+constants_in (constant c ∷ gs) = c ∷ constants_in gs
 
 unfoldable pub constants : List Row → List ℕ
 constants [] = []
 constants (truth ∷ rs) = constants rs
-constants (atom p gs ∷ rs) = constantsIn gs ++ constants rs
+constants (atom p gs ∷ rs) = constants_in gs ++ constants rs
 constants (both l r ∷ rs) = constants rs
 constants (neg r ∷ rs) = constants rs
 constants (since l r ∷ rs) = constants rs
@@ -43,18 +43,18 @@ pub record Disguise (rule : List Row) (es : List Event) (π : ℕ → ℕ) : Typ
   pub else : (x c : ℕ) → among x (used es) ≡ true → among c (constants rule) ≡ true → π x ≡ c → x ≡ c
 
 -- a fact, disguised, and an event: "Demand 3 renames all facts alike."
-unfoldable pub disguisedGiven : (ℕ → ℕ) → Given → Given
-disguisedGiven π f = record { predicate = f.predicate; count = f.count; values = map (λ v. record { 0 = π v.0 }) f.values }
+unfoldable pub disguised_given : (ℕ → ℕ) → Given → Given
+disguised_given π f = record { predicate = f.predicate; count = f.count; values = map (λ v. record { 0 = π v.0 }) f.values }
 
 unfoldable pub disguised : (ℕ → ℕ) → Event → Event
-disguised π e = record { count = e.count; facts = map (disguisedGiven π) e.facts }
+disguised π e = record { count = e.count; facts = map (disguised_given π) e.facts }
 
-unfoldable pub disguisedFact : (ℕ → ℕ) → Fact → Fact
-disguisedFact π f = record { predicate = f.predicate; values = map π f.values }
+unfoldable pub disguised_fact : (ℕ → ℕ) → Fact → Fact
+disguised_fact π f = record { predicate = f.predicate; values = map π f.values }
 
 -- g is the fact f in disguise: "Values past an event's count are ignored", so g may have any there
 abbrev pub HiddenFact : (ℕ → ℕ) → Given → Given → Type 0
-HiddenFact π f g = (fact_of g ≡ disguisedFact π (fact_of f)) × (g.count ≡ f.count)
+HiddenFact π f g = (fact_of g ≡ disguised_fact π (fact_of f)) × (g.count ≡ f.count)
 
 -- f is e in disguise, fact by fact; facts past the count are ignored too
 abbrev pub Disguised : (ℕ → ℕ) → Event → Event → Type 0
@@ -70,5 +70,5 @@ DisguisedLog π (e ∷ es) (f ∷ fs) = Disguised π e f × DisguisedLog π es f
 -- two machines that show the same but for the disguise: "The value lists differ only by the disguise"
 pub record Alike (π : ℕ → ℕ) (rows : List ℕ) (m n : Machine) : Type 0 where
   pub states : n.state ≡ m.state
-  pub node-slices : n.nodes ≡ m.nodes
+  pub node_slices : n.nodes ≡ m.nodes
   pub lists : (v : ℕ) → (shows rows n).lists v ≡ map π ((shows rows m).lists v)

@@ -41,31 +41,31 @@ fits (variable v ∷ gs) (y ∷ ys) = repeats v y gs ys && fits gs ys
 fits (constant c ∷ gs) (y ∷ ys) = eqb c y && fits gs ys
 
 -- "asks a number for each of its variables' values, in argument order, where that variable has none yet"
-unfoldable pub askArguments : Lists → List Argument → List ℕ → Lists
-askArguments L [] ys = L
-askArguments L (g ∷ gs) [] = L
-askArguments L (variable v ∷ gs) (y ∷ ys) = askArguments (ask L v y) gs ys
-askArguments L (constant c ∷ gs) (y ∷ ys) = askArguments L gs ys
+unfoldable pub ask_arguments : Lists → List Argument → List ℕ → Lists
+ask_arguments L [] ys = L
+ask_arguments L (g ∷ gs) [] = L
+ask_arguments L (variable v ∷ gs) (y ∷ ys) = ask_arguments (ask L v y) gs ys
+ask_arguments L (constant c ∷ gs) (y ∷ ys) = ask_arguments L gs ys
 
 -- "Each atom that matches the event [the fact] (predicate, constants, and equal values where a variable repeats)"
-unfoldable pub askRow : Fact → Lists → Row → Lists
-askRow e L truth = L
-askRow e L (atom p gs) = cond (eqb e.predicate p && fits gs e.values) (askArguments L gs e.values) L
-askRow e L (both l r) = L
-askRow e L (neg r) = L
-askRow e L (since l r) = L
-askRow e L (previous r) = L
-askRow e L (exists x r) = L
+unfoldable pub ask_row : Fact → Lists → Row → Lists
+ask_row e L truth = L
+ask_row e L (atom p gs) = cond (eqb e.predicate p && fits gs e.values) (ask_arguments L gs e.values) L
+ask_row e L (both l r) = L
+ask_row e L (neg r) = L
+ask_row e L (since l r) = L
+ask_row e L (previous r) = L
+ask_row e L (exists x r) = L
 
 -- "For an event, walk the rows in order", of one fact
-unfoldable pub askRows : Fact → Lists → List Row → Lists
-askRows e L [] = L
-askRows e L (r ∷ rs) = askRows e (askRow e L r) rs
+unfoldable pub ask_rows : Fact → Lists → List Row → Lists
+ask_rows e L [] = L
+ask_rows e L (r ∷ rs) = ask_rows e (ask_row e L r) rs
 
 -- "Numbers are asked fact by fact, rows in order within each."
-unfoldable pub askFacts : List Fact → Lists → List Row → Lists
-askFacts [] L rs = L
-askFacts (e ∷ es) L rs = askFacts es (askRows e L rs) rs
+unfoldable pub ask_facts : List Fact → Lists → List Row → Lists
+ask_facts [] L rs = L
+ask_facts (e ∷ es) L rs = ask_facts es (ask_rows e L rs) rs
 
 -- no place of the list has the value
 abbrev pub Unseen : List ℕ → ℕ → Type 0

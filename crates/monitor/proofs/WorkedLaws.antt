@@ -10,216 +10,216 @@ use lib.ListN.{length, get_or, take, length-map, get_or-map}
 use lib.Seq.{ext_get_or, length-take-le}
 use borrow.Author.Tests.{eqb-true, leb-true, le-ltb}
 use Rattle.trees.specs.Kept.{all_below}
-use Rattle.trees.specs.Sizes.{sizesOf}
-use Rattle.trees.proofs.Tests.{bool, and-true-l, and_true_r}
-use Rattle.trees.proofs.KeptLaws.{all-at}
+use Rattle.trees.specs.Sizes.{sizes_of}
+use Rattle.trees.proofs.Tests.{bool, and_true_l, and_true_r}
+use Rattle.trees.proofs.KeptLaws.{all_at}
 use Rattle.meaning.specs.declared.State.{State}
 use Rattle.meaning.specs.declared.Event.{Event}
 use Rattle.meaning.specs.declared.Turn.{Turn}
-use Rattle.meaning.specs.Rows.{truth, row_at, rowCount, ruleOf, firstBelow}
-use Rattle.meaning.specs.Numbering.{Lists, place, askFacts}
-use Rattle.meaning.specs.Step.{Shown, step, roomOf}
-use Rattle.meaning.specs.Tables.{most, read, list_of, listRight, keptTable, layState, layNodes, layValues, freeLevel}
-use Rattle.meaning.specs.Outcome.{capacity, nodesRight, valuesRight, cleared, workSize, fact_of, given, facts_of, allRight, countRight, taken, refused, judgeEvent, decideEvent, Machine, shows, EventOutcome, settleEvent, eventOutcome, verdictOf}
-use Rattle.meaning.proofs.StepLaws.{trees-length}
+use Rattle.meaning.specs.Rows.{truth, row_at, count_of_rows, rule_of, first_below}
+use Rattle.meaning.specs.Numbering.{Lists, place, ask_facts}
+use Rattle.meaning.specs.Step.{Shown, step, room_of}
+use Rattle.meaning.specs.Tables.{most, read, list_of, list_right, kept_table, lay_state, lay_nodes, lay_values, free_level}
+use Rattle.meaning.specs.Outcome.{capacity, nodes_right, values_right, cleared, work_size, fact_of, given, facts_of, all_right, count_right, taken, refused, judge_event, decide_event, Machine, shows, EventOutcome, settle_event, event_outcome, verdict_of}
+use Rattle.meaning.proofs.StepLaws.{trees_length}
 use Rattle.meaning.proofs.RunLaws.{few, Laid}
-use Rattle.meaning.proofs.AnyState.{laid-formed}
+use Rattle.meaning.proofs.AnyState.{laid_formed}
 use Rattle.numbers.specs.declared.Asked.{Asked}
-use Rattle.numbers.specs.Asking.{withFresh, withCounts, bare, factAt, Asks, Askable}
-use Rattle.numbers.proofs.AskedLaws.{lists_of, numbers-right}
+use Rattle.numbers.specs.Asking.{with_fresh, with_counts, bare, fact_at, Asks, Askable}
+use Rattle.numbers.proofs.AskedLaws.{lists_of, numbers_right}
 use Rattle.lists.specs.Writing.{Writable}
-use Rattle.lists.proofs.WrittenLaws.{shortest-is, writable, written_is}
+use Rattle.lists.proofs.WrittenLaws.{shortest_is, writable, written_is}
 use Rattle.diagram.specs.declared.Instruction.TheVariants.{Yes}
 use Rattle.diagram.specs.declared.Told.{Told}
 use Rattle.diagram.specs.declared.Told.TheVariants.{Unfit, Bad, Full, Done}
 use Rattle.diagram.specs.Steps
-use Rattle.diagram.specs.Steps.{Task, does, judge, formedOutcome, stepOutcome, Leaves}
+use Rattle.diagram.specs.Steps.{Task, does, judge, formed_outcome, step_outcome, Leaves}
 use Rattle.diagram.specs.Counts.{Visited, Visits}
 use Rattle.instructions.specs.Plan.{task_of, plan_of}
 use Rattle.instructions.specs.Planned.{planned}
-use Rattle.instructions.specs.Worked.{workedOutcome}
+use Rattle.instructions.specs.Worked.{worked_outcome}
 use Rattle.instructions.proofs.ReadLaws.{NumbersRight}
-use Rattle.instructions.proofs.PlannedLaws.{planned-length, planned-is}
+use Rattle.instructions.proofs.PlannedLaws.{planned_length, planned_is}
 use Rattle.monitor.specs.Calls.{Happens}
-use Rattle.monitor.specs.Events.{listsRight, Listed, Asking}
-use Rattle.monitor.specs.Visits.{eventPlan}
-use Rattle.monitor.proofs.SaidLaws.{keptTurn, formedTurn, takenTurn}
-use Rattle.monitor.proofs.DecisionLaws.{formed, short, fitting, decides-4, decides-5, decides-6, decides-room}
-use Rattle.monitor.proofs.StartLaws.{k-small}
-use Rattle.monitor.proofs.TakenLaws.{state-is, verdict-is}
-use Rattle.monitor.proofs.WorkLaws.{some-rows, enough-left, step-bad, step-works}
-use Rattle.monitor.proofs.EventLaws.{kept, ends, formed-kept, rows_are, refuses-late, refuses-formed, clear-same, rule-count}
+use Rattle.monitor.specs.Events.{lists_right, Listed, Asking}
+use Rattle.monitor.specs.Visits.{event_plan}
+use Rattle.monitor.proofs.SaidLaws.{kept_turn_law, formed_turn_law, taken_turn_law}
+use Rattle.monitor.proofs.DecisionLaws.{formed, short, fitting, decides_4, decides_5, decides_6, decides_room}
+use Rattle.monitor.proofs.StartLaws.{k_small}
+use Rattle.monitor.proofs.TakenLaws.{state_is, verdict_is}
+use Rattle.monitor.proofs.WorkLaws.{some_rows, enough_left, step_bad, step_works}
+use Rattle.monitor.proofs.EventLaws.{kept, ends, formed_kept, rows_are, refuses_late, refuses_formed, clear_same, rule_count}
 
 -- the lists that a machine shows
-pub lists-are : (rows : List ℕ) (m : Machine) → (shows rows m).lists ≡ list_of m.state.k (withCounts m.state.counts) m.values
+pub lists_are : (rows : List ℕ) (m : Machine) → (shows rows m).lists ≡ list_of m.state.k (with_counts m.state.counts) m.values
 unfolding shows read
-lists-are rows m = lists_of m.state.k m.state m.values
+lists_are rows m = lists_of m.state.k m.state m.values
 
 -- an event that agrees has few facts
-pub few-facts : (rows : List ℕ) (e : Event) → countRight (ruleOf rows) e ≡ true → e.count ≤ 8
-unfolding countRight
-few-facts rows e h = leb-true e.count 8 (and-true-l (leb e.count 8) (allRight (ruleOf rows) (given e)) h)
+pub few_facts : (rows : List ℕ) (e : Event) → count_right (rule_of rows) e ≡ true → e.count ≤ 8
+unfolding count_right
+few_facts rows e h = leb-true e.count 8 (and_true_l (leb e.count 8) (all_right (rule_of rows) (given e)) h)
 
 -- its facts are as many as its count says
-facts-count : (e : Event) → e.count ≤ length e.facts → length (facts_of e) ≡ e.count
+facts_count : (e : Event) → e.count ≤ length e.facts → length (facts_of e) ≡ e.count
 unfolding facts_of given
-facts-count e l = length-map (take e.count e.facts) fact_of ∙ length-take-le e.count e.facts l
+facts_count e l = length-map (take e.count e.facts) fact_of ∙ length-take-le e.count e.facts l
 
 -- where the lists are right, an event can ask
 module _ (rows masks : List ℕ) (m : Machine) (e : Event) (l : Listed rows masks m) where
   pub values_length : length m.values ≡ 4 * most m.state.k
-  unfolding valuesRight
+  unfolding values_right
   values_length =
       eqb-true (length m.values) (4 * most m.state.k)
-      (and-true-l (eqb (length m.values) (4 * most m.state.k)) (leb (workSize (capacity m.nodes)) (length m.work)) (and_true_r (nodesRight m.nodes) _ l.lengths))
+      (and_true_l (eqb (length m.values) (4 * most m.state.k)) (leb (work_size (capacity m.nodes)) (length m.work)) (and_true_r (nodes_right m.nodes) _ l.lengths))
 
-  counts-few : (v : ℕ) → v < 4 → get_or m.state.counts v 0 ≤ most m.state.k
-  unfolding listsRight listRight
-  counts-few v h =
+  counts_few : (v : ℕ) → v < 4 → get_or m.state.counts v 0 ≤ most m.state.k
+  unfolding lists_right list_right
+  counts_few v h =
       leb-true (get_or m.state.counts v 0) (most m.state.k)
-      (and-true-l (leb (get_or m.state.counts v 0) (most m.state.k)) _
-      (all-at 4 (listRight m.state.k m.state m.values) (and_true_r (eqb m.state.rows (length (ruleOf rows))) (all_below 4 (listRight m.state.k m.state m.values)) l.lists) v h))
+      (and_true_l (leb (get_or m.state.counts v 0) (most m.state.k)) _
+      (all_at 4 (list_right m.state.k m.state m.values) (and_true_r (eqb m.state.rows (length (rule_of rows))) (all_below 4 (list_right m.state.k m.state m.values)) l.lists) v h))
 
-  pub askable : countRight (ruleOf rows) e ≡ true → Askable m.state.k m.state.counts m.values rows e
-  askable c = record { bits = k-small m.state.k l.k-right; counts = counts-few; parts = values_length; checked = l.rule-right; agreed = c }
+  pub askable : count_right (rule_of rows) e ≡ true → Askable m.state.k m.state.counts m.values rows e
+  askable c = record { bits = k_small m.state.k l.k_is_right; counts = counts_few; parts = values_length; checked = l.rule_right; agreed = c }
 
   -- the variable that is short, if one is
   module _ (a : Asked) (t : Asks m.state.k m.state.counts m.values rows e a) where
-    short-is : firstBelow 4 (λ v. ltb (most m.state.k) (get_or a.counts v 0)) ≡ short rows m e
-    short-is = shortest-is m.state.k m.state.counts m.values rows e a t (shows rows m) (lists-are rows m)
+    short_is : first_below 4 (λ v. ltb (most m.state.k) (get_or a.counts v 0)) ≡ short rows m e
+    short_is = shortest_is m.state.k m.state.counts m.values rows e a t (shows rows m) (lists_are rows m)
 
-    pub asking : countRight (ruleOf rows) e ≡ true → (v : ℕ) → v ≡ firstBelow 4 (λ w. ltb (most m.state.k) (get_or a.counts w 0)) → 4 ≤ v → length e.facts ≡ 8 → Asking rows masks m e a
-    asking c v q h eight = record { facts = eight; listed = l; count-right = c; enough = le-ltb _ _ (subst (λ (n : ℕ). 4 ≤ n) (q ∙ short-is) h); asks = t }
+    pub asking : count_right (rule_of rows) e ≡ true → (v : ℕ) → v ≡ first_below 4 (λ w. ltb (most m.state.k) (get_or a.counts w 0)) → 4 ≤ v → length e.facts ≡ 8 → Asking rows masks m e a
+    asking c v q h eight = record { facts = eight; listed = l; count_is_right = c; enough = le-ltb _ _ (subst (λ (n : ℕ). 4 ≤ n) (q ∙ short_is) h); asks = t }
 
     -- refusal 6
-    pub refuses-6 : countRight (ruleOf rows) e ≡ true → (v : ℕ) → v ≡ firstBelow 4 (λ w. ltb (most m.state.k) (get_or a.counts w 0)) → v < 4
-        → (u : Turn) (ns vs ws : List ℕ) → u ≡ formedTurn (formedOutcome m.state.k m.state.rows masks m.state.refs m.state.sizes m.state.kept m.nodes m.work).gives m.state 6 v
-        → ws ≡ (formedOutcome m.state.k m.state.rows masks m.state.refs m.state.sizes m.state.kept m.nodes m.work).work → ns ≡ m.nodes → vs ≡ m.values → Happens rows m e u ns vs ws
-    refuses-6 c v q h u ns vs ws x y n w =
-        refuses-formed rows m e masks l 6 v u ns vs ws
-        (λ f. decides-6 rows m e l.k-right l.rule-right l.lengths f c (subst (λ (z : ℕ). z < 4) (q ∙ short-is) h) ∙ ap (refused 6) (sym (q ∙ short-is))) refl x y n w
+    pub refuses_6 : count_right (rule_of rows) e ≡ true → (v : ℕ) → v ≡ first_below 4 (λ w. ltb (most m.state.k) (get_or a.counts w 0)) → v < 4
+        → (u : Turn) (ns vs ws : List ℕ) → u ≡ formed_turn_law (formed_outcome m.state.k m.state.rows masks m.state.refs m.state.sizes m.state.kept m.nodes m.work).gives m.state 6 v
+        → ws ≡ (formed_outcome m.state.k m.state.rows masks m.state.refs m.state.sizes m.state.kept m.nodes m.work).work → ns ≡ m.nodes → vs ≡ m.values → Happens rows m e u ns vs ws
+    refuses_6 c v q h u ns vs ws x y n w =
+        refuses_formed rows m e masks l 6 v u ns vs ws
+        (λ f. decides_6 rows m e l.k_is_right l.rule_right l.lengths f c (subst (λ (z : ℕ). z < 4) (q ∙ short_is) h) ∙ ap (refused 6) (sym (q ∙ short_is))) refl x y n w
 
   -- refusal 5
-  pub refuses-5 : countRight (ruleOf rows) e ≡ false
-      → (u : Turn) (ns vs ws : List ℕ) → u ≡ formedTurn (formedOutcome m.state.k m.state.rows masks m.state.refs m.state.sizes m.state.kept m.nodes m.work).gives m.state 5 0
-      → ws ≡ (formedOutcome m.state.k m.state.rows masks m.state.refs m.state.sizes m.state.kept m.nodes m.work).work → ns ≡ m.nodes → vs ≡ m.values → Happens rows m e u ns vs ws
-  refuses-5 c u ns vs ws x y n w = refuses-formed rows m e masks l 5 0 u ns vs ws (λ f. decides-5 rows m e l.k-right l.rule-right l.lengths f c) refl x y n w
+  pub refuses_5 : count_right (rule_of rows) e ≡ false
+      → (u : Turn) (ns vs ws : List ℕ) → u ≡ formed_turn_law (formed_outcome m.state.k m.state.rows masks m.state.refs m.state.sizes m.state.kept m.nodes m.work).gives m.state 5 0
+      → ws ≡ (formed_outcome m.state.k m.state.rows masks m.state.refs m.state.sizes m.state.kept m.nodes m.work).work → ns ≡ m.nodes → vs ≡ m.values → Happens rows m e u ns vs ws
+  refuses_5 c u ns vs ws x y n w = refuses_formed rows m e masks l 5 0 u ns vs ws (λ f. decides_5 rows m e l.k_is_right l.rule_right l.lengths f c) refl x y n w
 
 module _ (rows masks : List ℕ) (m : Machine) (e : Event) (a : Asked) (s : Asking rows masks m e a) where
   abbrev after : Shown
-  after = step m.state.k (ruleOf rows) (shows rows m) (facts_of e)
+  after = step m.state.k (rule_of rows) (shows rows m) (facts_of e)
 
   abbrev C : ℕ
   C = capacity m.nodes
 
-  right-numbers : (i f : ℕ) → i < rowCount rows → f < e.count → NumbersRight (factAt e f) (askFacts (facts_of e) (shows rows m).lists (ruleOf rows)) (row_at rows i) a.given f
-  right-numbers i f li lf v j lv q =
-      numbers-right m.state.k m.state.counts m.values rows e a s.asks f i v j lf li lv q
-      ∙ ap (λ (L : Lists). place (askFacts (facts_of e) L (ruleOf rows) v) (get_or (factAt e f).values j 0)) (sym (lists-are rows m))
+  right_numbers : (i f : ℕ) → i < count_of_rows rows → f < e.count → NumbersRight (fact_at e f) (ask_facts (facts_of e) (shows rows m).lists (rule_of rows)) (row_at rows i) a.given f
+  right_numbers i f li lf v j lv q =
+      numbers_right m.state.k m.state.counts m.values rows e a s.asks f i v j lf li lv q
+      ∙ ap (λ (L : Lists). place (ask_facts (facts_of e) L (rule_of rows) v) (get_or (fact_at e f).values j 0)) (sym (lists_are rows m))
 
-  count-facts : length (facts_of e) ≡ e.count
-  count-facts = facts-count e (omega (arith, few-facts rows e s.count-right, s.facts))
+  count_facts : length (facts_of e) ≡ e.count
+  count_facts = facts_count e (omega (arith, few_facts rows e s.count_is_right, s.facts))
 
-  same_rows : m.state.rows ≡ length (ruleOf rows)
+  same_rows : m.state.rows ≡ length (rule_of rows)
   same_rows = rows_are rows m e masks s.listed
 
   pub rows_few : (0 < m.state.rows) × (m.state.rows ≤ 64)
   rows_few =
       let l = s.listed in
-      let p = some-rows rows l.rule-right in
-      let q = few rows m.state.k C l.k-right l.rule-right in
+      let p = some_rows rows l.rule_right in
+      let q = few rows m.state.k C l.k_is_right l.rule_right in
       (subst (λ (n : ℕ). 0 < n) (sym same_rows) p, subst (λ (n : ℕ). n ≤ 64) (sym same_rows) q)
 
   -- the three ends of the work
   pub data Ended (x : Told) (rs zs ns ws : List ℕ) : Type 0 where
     bad : formed rows m e ≡ false → x ≡ Bad → rs ≡ m.state.refs → zs ≡ m.state.sizes → ns ≡ m.nodes → ws ≡ cleared C m.work → Ended x rs zs ns ws
     full : formed rows m e ≡ true → fitting rows m e ≡ false → x ≡ Full → rs ≡ m.state.refs → zs ≡ m.state.sizes → ns ≡ m.nodes → ws ≡ cleared C m.work → Ended x rs zs ns ws
-    done : formed rows m e ≡ true → fitting rows m e ≡ true → x ≡ Done (length (keptTable after)) (roomOf m.state.k (ruleOf rows) (shows rows m) (facts_of e) after)
-        → rs ≡ (layState m.state.k after).refs → zs ≡ sizesOf after.trees → ns ≡ layNodes C after → ws ≡ cleared C m.work → Ended x rs zs ns ws
+    done : formed rows m e ≡ true → fitting rows m e ≡ true → x ≡ Done (length (kept_table after)) (room_of m.state.k (rule_of rows) (shows rows m) (facts_of e) after)
+        → rs ≡ (lay_state m.state.k after).refs → zs ≡ sizes_of after.trees → ns ≡ lay_nodes C after → ws ≡ cleared C m.work → Ended x rs zs ns ws
 
   abbrev plan : List Task
   plan = planned rows e a.given
 
-  count-is : length (ruleOf rows) ≡ rowCount rows
-  unfolding rowCount
-  count-is = rule-count rows
+  count_is : length (rule_of rows) ≡ count_of_rows rows
+  unfolding count_of_rows
+  count_is = rule_count rows
 
   -- it is the event's
-  plan-is : plan ≡ eventPlan rows m e
-  unfolding eventPlan plan_of planned task_of
-  plan-is =
-      ext_get_or (does Yes) _ _ (planned-length rows e a.given (rowCount rows) ∙ sym (length-map (ruleOf rows) (task_of (askFacts (facts_of e) (shows rows m).lists (ruleOf rows)) (facts_of e)) ∙ count-is))
+  plan_is : plan ≡ event_plan rows m e
+  unfolding event_plan plan_of planned task_of
+  plan_is =
+      ext_get_or (does Yes) _ _ (planned_length rows e a.given (count_of_rows rows) ∙ sym (length-map (rule_of rows) (task_of (ask_facts (facts_of e) (shows rows m).lists (rule_of rows)) (facts_of e)) ∙ count_is))
       (λ i h.
-      let l : i < length (ruleOf rows) = omega (arith, planned-length rows e a.given (rowCount rows), count-is) in
-      planned-is rows e a.given (shows rows m).lists count-facts right-numbers i l
-      ∙ sym (get_or-map (task_of (askFacts (facts_of e) (shows rows m).lists (ruleOf rows)) (facts_of e)) (ruleOf rows) i truth))
+      let l : i < length (rule_of rows) = omega (arith, planned_length rows e a.given (count_of_rows rows), count_is) in
+      planned_is rows e a.given (shows rows m).lists count_facts right_numbers i l
+      ∙ sym (get_or-map (task_of (ask_facts (facts_of e) (shows rows m).lists (rule_of rows)) (facts_of e)) (rule_of rows) i truth))
 
   module _ (x : Told) (rs zs ns ws : List ℕ)
-      (left : Leaves (stepOutcome m.state.k (rowCount rows) plan masks m.state.refs m.state.sizes m.state.kept m.nodes m.work) x rs zs ns ws) where
-    ends_as : (o : Steps.Outcome) → stepOutcome m.state.k (length (ruleOf rows)) plan masks m.state.refs m.state.sizes m.state.kept m.nodes m.work ≡ o → Leaves o x rs zs ns ws
-    unfolding rowCount
+      (left : Leaves (step_outcome m.state.k (count_of_rows rows) plan masks m.state.refs m.state.sizes m.state.kept m.nodes m.work) x rs zs ns ws) where
+    ends_as : (o : Steps.Outcome) → step_outcome m.state.k (length (rule_of rows)) plan masks m.state.refs m.state.sizes m.state.kept m.nodes m.work ≡ o → Leaves o x rs zs ns ws
+    unfolding count_of_rows
     ends_as o q =
         subst (λ (y : Steps.Outcome). Leaves y x rs zs ns ws)
-        (ap (λ (n : ℕ). stepOutcome m.state.k n plan masks m.state.refs m.state.sizes m.state.kept m.nodes m.work) (sym (rule-count rows)) ∙ q) left
+        (ap (λ (n : ℕ). step_outcome m.state.k n plan masks m.state.refs m.state.sizes m.state.kept m.nodes m.work) (sym (rule_count rows)) ∙ q) left
 
-    ends-bad : kept rows m e ≡ false → Ended x rs zs ns ws
+    ends_bad : kept rows m e ≡ false → Ended x rs zs ns ws
     unfolding capacity
-    ends-bad k =
+    ends_bad k =
         let l = s.listed in
-        let o = ends_as _ (step-bad rows m e l.k-right l.rule-right l.lengths masks l.free plan k) in
-        bad (formed-kept rows m e masks l ∙ k) o.told o.refs o.sizes o.nodes (clear-same (length m.nodes / 3) m.work ws o.work)
+        let o = ends_as _ (step_bad rows m e l.k_is_right l.rule_right l.lengths masks l.free plan k) in
+        bad (formed_kept rows m e masks l ∙ k) o.told o.refs o.sizes o.nodes (clear_same (length m.nodes / 3) m.work ws o.work)
 
-    works : kept rows m e ≡ true → Leaves (workedOutcome (fitting rows m e) m.state.k C (ruleOf rows) (shows rows m) (facts_of e) after m.state.refs m.state.sizes m.nodes m.work) x rs zs ns ws
+    works : kept rows m e ≡ true → Leaves (worked_outcome (fitting rows m e) m.state.k C (rule_of rows) (shows rows m) (facts_of e) after m.state.refs m.state.sizes m.nodes m.work) x rs zs ns ws
     works k =
         let l = s.listed in
-        ends_as _ (step-works rows m e l.k-right l.rule-right l.lengths masks l.free (l.counts, l.refs, l.sizes) (formed-kept rows m e masks l ∙ k) s.enough plan
-        (planned-is rows e a.given (shows rows m).lists count-facts right-numbers))
+        ends_as _ (step_works rows m e l.k_is_right l.rule_right l.lengths masks l.free (l.counts, l.refs, l.sizes) (formed_kept rows m e masks l ∙ k) s.enough plan
+        (planned_is rows e a.given (shows rows m).lists count_facts right_numbers))
 
-    ends-full : kept rows m e ≡ true → fitting rows m e ≡ false → Ended x rs zs ns ws
-    unfolding workedOutcome
-    ends-full k f = let o = rw f at (works k) in full (formed-kept rows m e masks s.listed ∙ k) f o.told o.refs o.sizes o.nodes o.work
+    ends_full : kept rows m e ≡ true → fitting rows m e ≡ false → Ended x rs zs ns ws
+    unfolding worked_outcome
+    ends_full k f = let o = rw f at (works k) in full (formed_kept rows m e masks s.listed ∙ k) f o.told o.refs o.sizes o.nodes o.work
 
-    ends-done : kept rows m e ≡ true → fitting rows m e ≡ true → Ended x rs zs ns ws
-    unfolding workedOutcome
-    ends-done k f =
+    ends_done : kept rows m e ≡ true → fitting rows m e ≡ true → Ended x rs zs ns ws
+    unfolding worked_outcome
+    ends_done k f =
         let o = rw f at (works k) in
-        done (formed-kept rows m e masks s.listed ∙ k) f o.told o.refs o.sizes o.nodes o.work
+        done (formed_kept rows m e masks s.listed ∙ k) f o.told o.refs o.sizes o.nodes o.work
 
     ended : Ended x rs zs ns ws
-    ended = ⊎_elim (λ k. ⊎_elim (ends-done k) (ends-full k) (bool (fitting rows m e))) ends-bad (bool (kept rows m e))
+    ended = ⊎_elim (λ k. ⊎_elim (ends_done k) (ends_full k) (bool (fitting rows m e))) ends_bad (bool (kept rows m e))
 
-    decides : (b : Bool) → formed rows m e ≡ true → fitting rows m e ≡ b → decideEvent rows m e ≡ judgeEvent taken true true false (short rows m e) b
-    decides b f g = let l = s.listed in decides-room rows m e l.k-right l.rule-right l.lengths f s.count-right s.enough b g
+    decides : (b : Bool) → formed rows m e ≡ true → fitting rows m e ≡ b → decide_event rows m e ≡ judge_event taken true true false (short rows m e) b
+    decides b f g = let l = s.listed in decides_room rows m e l.k_is_right l.rule_right l.lengths f s.count_is_right s.enough b g
 
-    decides-full : formed rows m e ≡ true → fitting rows m e ≡ false → decideEvent rows m e ≡ refused 7 0
-    unfolding judgeEvent
-    decides-full f g = decides false f g
+    decides_full : formed rows m e ≡ true → fitting rows m e ≡ false → decide_event rows m e ≡ refused 7 0
+    unfolding judge_event
+    decides_full f g = decides false f g
 
-    decides-done : formed rows m e ≡ true → fitting rows m e ≡ true → decideEvent rows m e ≡ taken
-    unfolding judgeEvent
-    decides-done f g = decides true f g
+    decides_done : formed rows m e ≡ true → fitting rows m e ≡ true → decide_event rows m e ≡ taken
+    unfolding judge_event
+    decides_done f g = decides true f g
 
     -- a step without room is refused
-    pub refuses-full : (t : Turn) (vs : List ℕ) → x ≡ Full → (rs ≡ m.state.refs → zs ≡ m.state.sizes → t ≡ keptTurn m.state 7 0) → vs ≡ m.values → Happens rows m e t ns vs ws
-    refuses-full t vs y h v = go ended
+    pub refuses_full : (t : Turn) (vs : List ℕ) → x ≡ Full → (rs ≡ m.state.refs → zs ≡ m.state.sizes → t ≡ kept_turn_law m.state 7 0) → vs ≡ m.values → Happens rows m e t ns vs ws
+    refuses_full t vs y h v = go ended
       where
         go : Ended x rs zs ns ws → Happens rows m e t ns vs ws
         go (bad f q i j n w) = let z : Full ≡ Bad = sym y ∙ q in let u : ◌≡◌ {A = ℕ} 0 1 = cc in absurd (omega arith)
-        go (full f g q i j n w) = refuses-late rows m e 7 0 t ns vs ws (decides-full f g) refl (h i j) n v w
+        go (full f g q i j n w) = refuses_late rows m e 7 0 t ns vs ws (decides_full f g) refl (h i j) n v w
         go (done f g q r j n w) = let z : Full ≡ Done _ _ = sym y ∙ q in let u : ◌≡◌ {A = ℕ} 0 1 = cc in absurd (omega arith)
 
     -- one on bad diagrams is refused
-    pub refuses-bad : (t : Turn) (vs : List ℕ) → x ≡ Bad → (rs ≡ m.state.refs → zs ≡ m.state.sizes → t ≡ keptTurn m.state 4 0) → vs ≡ m.values → Happens rows m e t ns vs ws
-    refuses-bad t vs y h v = go ended
+    pub refuses_bad : (t : Turn) (vs : List ℕ) → x ≡ Bad → (rs ≡ m.state.refs → zs ≡ m.state.sizes → t ≡ kept_turn_law m.state 4 0) → vs ≡ m.values → Happens rows m e t ns vs ws
+    refuses_bad t vs y h v = go ended
       where
         go : Ended x rs zs ns ws → Happens rows m e t ns vs ws
-        go (bad f q i j n w) = let l = s.listed in refuses-late rows m e 4 0 t ns vs ws (decides-4 rows m e l.k-right l.rule-right l.lengths f) refl (h i j) n v w
+        go (bad f q i j n w) = let l = s.listed in refuses_late rows m e 4 0 t ns vs ws (decides_4 rows m e l.k_is_right l.rule_right l.lengths f) refl (h i j) n v w
         go (full f g q i j n w) = let z : Bad ≡ Full = sym y ∙ q in let u : ◌≡◌ {A = ℕ} 0 1 = cc in absurd (omega arith)
         go (done f g q r j n w) = let z : Bad ≡ Done _ _ = sym y ∙ q in let u : ◌≡◌ {A = ℕ} 0 1 = cc in absurd (omega arith)
 
     -- the numbers and lengths are fit
-    pub never-unfit : {A : Type 0} → x ≡ Unfit → A
-    never-unfit {A} y = go ended
+    pub never_unfit : {A : Type 0} → x ≡ Unfit → A
+    never_unfit {A} y = go ended
       where
         go : Ended x rs zs ns ws → A
         go (bad f q i j n w) = let z : Unfit ≡ Bad = sym y ∙ q in let u : ◌≡◌ {A = ℕ} 0 1 = cc in absurd (omega arith)
@@ -231,12 +231,12 @@ module _ (rows masks : List ℕ) (m : Machine) (e : Event) (a : Asked) (s : Aski
       pub record Finished : Type 0 where
         pub well : formed rows m e ≡ true
         pub fits : fitting rows m e ≡ true
-        pub kept-is : n ≡ length (keptTable after)
-        pub room-is : r ≡ roomOf m.state.k (ruleOf rows) (shows rows m) (facts_of e) after
-        pub refs-are : rs ≡ (layState m.state.k after).refs
-        pub sizes-are : zs ≡ sizesOf after.trees
-        pub nodes-are : ns ≡ layNodes C after
-        pub work-is : ws ≡ cleared C m.work
+        pub kept_is : n ≡ length (kept_table after)
+        pub room_is : r ≡ room_of m.state.k (rule_of rows) (shows rows m) (facts_of e) after
+        pub refs_are : rs ≡ (lay_state m.state.k after).refs
+        pub sizes_are : zs ≡ sizes_of after.trees
+        pub nodes_are : ns ≡ lay_nodes C after
+        pub work_is : ws ≡ cleared C m.work
 
       finished : Finished
       finished = go ended
@@ -245,60 +245,60 @@ module _ (rows masks : List ℕ) (m : Machine) (e : Event) (a : Asked) (s : Aski
           go (bad f q i j u w) = let z : Done n r ≡ Bad = sym d ∙ q in let y : ◌≡◌ {A = ℕ} 0 1 = cc in absurd (omega arith)
           go (full f g q i j u w) = let z : Done n r ≡ Full = sym d ∙ q in let y : ◌≡◌ {A = ℕ} 0 1 = cc in absurd (omega arith)
           go (done f g q p j u w) =
-              let z : Done n r ≡ Done (length (keptTable after)) (roomOf m.state.k (ruleOf rows) (shows rows m) (facts_of e) after) = sym d ∙ q in
-              record { well = f; fits = g; kept-is = cc; room-is = cc; refs-are = p; sizes-are = j; nodes-are = u; work-is = w }
+              let z : Done n r ≡ Done (length (kept_table after)) (room_of m.state.k (rule_of rows) (shows rows m) (facts_of e) after) = sym d ∙ q in
+              record { well = f; fits = g; kept_is = cc; room_is = cc; refs_are = p; sizes_are = j; nodes_are = u; work_is = w }
 
-      laid : Laid rows m.state.k C s.listed.k-right s.listed.rule-right m (shows rows m)
-      laid = let l = s.listed in laid-formed rows m (l.counts, l.refs, l.sizes) l.k-right l.rule-right l.lengths finished.well
+      laid : Laid rows m.state.k C s.listed.k_is_right s.listed.rule_right m (shows rows m)
+      laid = let l = s.listed in laid_formed rows m (l.counts, l.refs, l.sizes) l.k_is_right l.rule_right l.lengths finished.well
 
-      trees-count : length after.trees ≡ length (ruleOf rows)
+      trees_count : length after.trees ≡ length (rule_of rows)
       unfolding step
-      trees-count =
-          trees-length m.state.k (askFacts (facts_of e) (shows rows m).lists (ruleOf rows)) (facts_of e) (shows rows m).trees laid.proper.fine (ruleOf rows) []
-          ∙ (let z : 0 + length (ruleOf rows) ≡ length (ruleOf rows) = omega arith in z)
+      trees_count =
+          trees_length m.state.k (ask_facts (facts_of e) (shows rows m).lists (rule_of rows)) (facts_of e) (shows rows m).trees laid.proper.fine (rule_of rows) []
+          ∙ (let z : 0 + length (rule_of rows) ≡ length (rule_of rows) = omega arith in z)
 
-      lists-after : after.lists ≡ askFacts (facts_of e) (list_of m.state.k (withCounts m.state.counts) m.values) (ruleOf rows)
+      lists_after : after.lists ≡ ask_facts (facts_of e) (list_of m.state.k (with_counts m.state.counts) m.values) (rule_of rows)
       unfolding step
-      lists-after = ap (λ (L : Lists). askFacts (facts_of e) L (ruleOf rows)) (lists-are rows m)
+      lists_after = ap (λ (L : Lists). ask_facts (facts_of e) L (rule_of rows)) (lists_are rows m)
 
-      room-left : (v : ℕ) → v < 4 → get_or a.counts v 0 ≤ most m.state.k
+      room_left : (v : ℕ) → v < 4 → get_or a.counts v 0 ≤ most m.state.k
       unfolding most
-      room-left v h =
-          let z = enough-left rows m e s.enough v h in
-          let q : length (askFacts (facts_of e) (shows rows m).lists (ruleOf rows) v) ≡ get_or a.counts v 0 =
-          ap (λ (L : Lists). length (askFacts (facts_of e) L (ruleOf rows) v)) (lists-are rows m) ∙ s.asks.listing.counted v h in
+      room_left v h =
+          let z = enough_left rows m e s.enough v h in
+          let q : length (ask_facts (facts_of e) (shows rows m).lists (rule_of rows) v) ≡ get_or a.counts v 0 =
+          ap (λ (L : Lists). length (ask_facts (facts_of e) L (rule_of rows) v)) (lists_are rows m) ∙ s.asks.listing.counted v h in
           subst (λ (y : ℕ). y ≤ 2 ^ m.state.k - 1) q z
 
       -- the fresh values can be written
       pub writes : Writable m.state.k m.state.counts a m.values
       writes =
-          writable m.state.k m.state.counts m.values rows e a s.asks (k-small m.state.k s.listed.k-right) (values_length rows masks m e s.listed)
-          (ap (layValues m.state.k) (sym (lists-are rows m)) ∙ sym laid.values-are) room-left
+          writable m.state.k m.state.counts m.values rows e a s.asks (k_small m.state.k s.listed.k_is_right) (values_length rows masks m e s.listed)
+          (ap (lay_values m.state.k) (sym (lists_are rows m)) ∙ sym laid.values_are) room_left
 
-      taken-outcome : eventOutcome rows m e ≡ record {
-        answer = verdictOf m.state.k (ruleOf rows) (shows rows m) (facts_of e) after;
-        left = record { state = layState m.state.k after; nodes = layNodes C after; values = layValues m.state.k after.lists; work = cleared C m.work };
+      taken_outcome : event_outcome rows m e ≡ record {
+        answer = verdict_of m.state.k (rule_of rows) (shows rows m) (facts_of e) after;
+        left = record { state = lay_state m.state.k after; nodes = lay_nodes C after; values = lay_values m.state.k after.lists; work = cleared C m.work };
       }
-      unfolding eventOutcome settleEvent
-      taken-outcome = rw (decides-done finished.well finished.fits) refl
+      unfolding event_outcome settle_event
+      taken_outcome = rw (decides_done finished.well finished.fits) refl
 
       -- what is given back and left is the outcome of an event that is taken
       pub takes : length a.counts ≡ 4 → (t : Turn) (vs : List ℕ)
-          → t ≡ takenTurn m.state a.counts rs zs n r (eqb (get_or rs (m.state.rows - 1) 0) 1)
-          → vs ≡ layValues m.state.k (withFresh m.state.counts a.counts (bare a.fresh) (list_of m.state.k (withCounts m.state.counts) m.values)) → Happens rows m e t ns vs ws
-      unfolding takenTurn
+          → t ≡ taken_turn_law m.state a.counts rs zs n r (eqb (get_or rs (m.state.rows - 1) 0) 1)
+          → vs ≡ lay_values m.state.k (with_fresh m.state.counts a.counts (bare a.fresh) (list_of m.state.k (with_counts m.state.counts) m.values)) → Happens rows m e t ns vs ws
+      unfolding taken_turn_law
       takes four t vs h v =
           rw h
-          (ends rows m e _ taken-outcome _ ns vs ws
-          (rw (finished.refs-are, finished.kept-is, finished.room-is)
-          (sym (verdict-is m.state.k m.state.rows (ruleOf rows) (shows rows m) (facts_of e) after (sym same_rows) (trees-count ∙ sym same_rows) rows_few.0)))
-          (rw (finished.refs-are, finished.sizes-are, finished.kept-is)
-          (sym (state-is m.state.k m.state.rows after a.counts (trees-count ∙ sym same_rows) four (λ w q. ap (λ (L : Lists). length (L w)) lists-after ∙ s.asks.listing.counted w q))))
-          finished.nodes-are
-          (v ∙ written_is m.state.k m.state.counts m.values rows e a s.asks ∙ ap (layValues m.state.k) (sym lists-after))
-          finished.work-is)
+          (ends rows m e _ taken_outcome _ ns vs ws
+          (rw (finished.refs_are, finished.kept_is, finished.room_is)
+          (sym (verdict_is m.state.k m.state.rows (rule_of rows) (shows rows m) (facts_of e) after (sym same_rows) (trees_count ∙ sym same_rows) rows_few.0)))
+          (rw (finished.refs_are, finished.sizes_are, finished.kept_is)
+          (sym (state_is m.state.k m.state.rows after a.counts (trees_count ∙ sym same_rows) four (λ w q. ap (λ (L : Lists). length (L w)) lists_after ∙ s.asks.listing.counted w q))))
+          finished.nodes_are
+          (v ∙ written_is m.state.k m.state.counts m.values rows e a s.asks ∙ ap (lay_values m.state.k) (sym lists_after))
+          finished.work_is)
 
       -- the visits are those of the event's plan
-      pub looks : (complements swept : ℕ) → Visits m.state.k (rowCount rows) plan m.state.refs m.state.kept m.nodes x complements swept
-          → Visited m.state.k (length (ruleOf rows)) (eventPlan rows m e) m.state.refs m.state.kept m.nodes n complements swept
-      looks complements swept v = rw (count-is, ← plan-is) (rw d at v)
+      pub looks : (complements swept : ℕ) → Visits m.state.k (count_of_rows rows) plan m.state.refs m.state.kept m.nodes x complements swept
+          → Visited m.state.k (length (rule_of rows)) (event_plan rows m e) m.state.refs m.state.kept m.nodes n complements swept
+      looks complements swept v = rw (count_is, ← plan_is) (rw d at v)

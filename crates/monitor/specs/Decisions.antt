@@ -8,19 +8,19 @@ use Rattle.monitor.specs.declared.Decision.{Decision}
 use Rattle.monitor.specs.declared.Decision.TheVariants.{Taken, Refused}
 
 -- the decision of the meaning
-unfoldable pub decisionOf : Decision → Outcome.Decision
-decisionOf Taken = taken
-decisionOf (Refused n p) = refused n p
+unfoldable pub decision_of : Decision → Outcome.Decision
+decision_of Taken = taken
+decision_of (Refused n p) = refused n p
 
 -- refusal 2
-unfoldable pub ofRule : Checked → Decision
-ofRule Right = Taken
-ofRule (Fault p) = Refused 2 p
+unfoldable pub of_rule : Checked → Decision
+of_rule Right = Taken
+of_rule (Fault p) = Refused 2 p
 
 -- refusal 3
-unfoldable pub ofLengths : Bool → Decision
-ofLengths true = Taken
-ofLengths false = Refused 3 0
+unfoldable pub of_lengths : Bool → Decision
+of_lengths true = Taken
+of_lengths false = Refused 3 0
 
 -- the first that refuses
 unfoldable pub first_of : Decision → Decision → Decision

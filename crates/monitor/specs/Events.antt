@@ -3,9 +3,9 @@ use Rattle.std.specs.Prelude.{ℕ, ◌<◌, ◌≤◌, ◌≡◌, Bool, true, fa
 use Rattle.trees.specs.Kept.{all_below}
 use Rattle.meaning.specs.declared.State.{State}
 use Rattle.meaning.specs.declared.Event.{Event}
-use Rattle.meaning.specs.Rows.{ruleOf, right, checkRows}
-use Rattle.meaning.specs.Tables.{listRight}
-use Rattle.meaning.specs.Outcome.{kRight, capacity, nodesRight, valuesRight, workSize, facts_of, countRight, shortest, Machine, shows}
+use Rattle.meaning.specs.Rows.{rule_of, right, check_rows}
+use Rattle.meaning.specs.Tables.{list_right}
+use Rattle.meaning.specs.Outcome.{k_right, capacity, nodes_right, values_right, work_size, facts_of, count_right, shortest, Machine, shows}
 use Rattle.rule.specs.Checking.{Free}
 use Rattle.numbers.specs.declared.Asked.{Asked}
 use Rattle.numbers.specs.Asking.{Asks}
@@ -13,11 +13,11 @@ use Rattle.diagram.specs.declared.Formed.{Formed}
 use Rattle.diagram.specs.declared.Formed.TheVariants.{Unfit, Bad, Good}
 use Rattle.monitor.specs.declared.Figures.{Figures}
 use Rattle.monitor.specs.declared.Said.{Said}
-use Rattle.monitor.specs.Said.{refusedSaid}
+use Rattle.monitor.specs.Said.{refused_said}
 
 -- the parts of refusal 4 that the lists and the count of rows decide
-unfoldable pub listsRight : State → ℕ → List ℕ → Bool
-listsRight s n values = eqb s.rows n && all_below 4 (listRight s.k s values)
+unfoldable pub lists_right : State → ℕ → List ℕ → Bool
+lists_right s n values = eqb s.rows n && all_below 4 (list_right s.k s values)
 
 -- the numbers past the first w are as they were, and none is added or lost
 pub record Beyond (w : ℕ) (entry exit : List ℕ) : Type 0 where
@@ -25,17 +25,17 @@ pub record Beyond (w : ℕ) (entry exit : List ℕ) : Type 0 where
   pub rest : drop w exit ≡ drop w entry
 
 -- what is said of an event that is refused by what follows the state's check: refusal 4 comes before it
-unfoldable pub formedSaid : Formed → Figures → ℕ → ℕ → Said
-formedSaid Good f number place = refusedSaid f number place
-formedSaid Bad f number place = refusedSaid f 4 0
-formedSaid Unfit f number place = refusedSaid f 4 0
+unfoldable pub formed_said : Formed → Figures → ℕ → ℕ → Said
+formed_said Good f number place = refused_said f number place
+formed_said Bad f number place = refused_said f 4 0
+formed_said Unfit f number place = refused_said f 4 0
 
 -- refusals 1 to 3 do not apply, the count of rows and the lists are right, and the masks are the rule's
 pub record Listed (rows masks : List ℕ) (m : Machine) : Type 0 where
-  pub k-right : kRight m.state.k ≡ true
-  pub rule-right : checkRows rows ≡ right
-  pub lengths : (nodesRight m.nodes && (valuesRight m.state.k m.values && leb (workSize (capacity m.nodes)) (length m.work))) ≡ true
-  pub lists : listsRight m.state (length (ruleOf rows)) m.values ≡ true
+  pub k_is_right : k_right m.state.k ≡ true
+  pub rule_right : check_rows rows ≡ right
+  pub lengths : (nodes_right m.nodes && (values_right m.state.k m.values && leb (work_size (capacity m.nodes)) (length m.work))) ≡ true
+  pub lists : lists_right m.state (length (rule_of rows)) m.values ≡ true
   pub free : Free rows masks
   pub counts : length m.state.counts ≡ 4
   pub refs : length m.state.refs ≡ 64
@@ -44,8 +44,8 @@ pub record Listed (rows masks : List ℕ) (m : Machine) : Type 0 where
 -- neither refusal 5 nor refusal 6 applies, and this is what the event asks
 pub record Asking (rows masks : List ℕ) (m : Machine) (e : Event) (a : Asked) : Type 0 where
   pub listed : Listed rows masks m
-  pub count-right : countRight (ruleOf rows) e ≡ true
-  pub enough : ltb (shortest m.state.k (ruleOf rows) (shows rows m) (facts_of e)) 4 ≡ false
+  pub count_is_right : count_right (rule_of rows) e ≡ true
+  pub enough : ltb (shortest m.state.k (rule_of rows) (shows rows m) (facts_of e)) 4 ≡ false
   pub asks : Asks m.state.k m.state.counts m.values rows e a
   -- an event has an array of eight facts
   pub facts : length e.facts ≡ 8

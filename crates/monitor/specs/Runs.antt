@@ -23,12 +23,12 @@ Calls rows m (e ∷ es) [] o = ⊥
 Calls rows m (e ∷ es) (a ∷ xs) o = (n : Machine) × Call rows m e a n × Calls rows n es xs o
 
 -- the facts of the events taken: those that were answered by a verdict
-unfoldable pub takenIn : List Event → List Answer → List (List Fact)
-takenIn [] xs = []
-takenIn (e ∷ es) [] = []
-takenIn (e ∷ es) (Started ∷ xs) = takenIn es xs
-takenIn (e ∷ es) (Verdict y n r ∷ xs) = facts_of e ∷ takenIn es xs
-takenIn (e ∷ es) (Refused n p ∷ xs) = takenIn es xs
+unfoldable pub taken_in : List Event → List Answer → List (List Fact)
+taken_in [] xs = []
+taken_in (e ∷ es) [] = []
+taken_in (e ∷ es) (Started ∷ xs) = taken_in es xs
+taken_in (e ∷ es) (Verdict y n r ∷ xs) = facts_of e ∷ taken_in es xs
+taken_in (e ∷ es) (Refused n p ∷ xs) = taken_in es xs
 
 -- every answer is a verdict: every event was taken
 unfoldable pub AllTaken : List Answer → Type 0

@@ -15,12 +15,12 @@ abbrev pub turn_of : Said → List ℕ → List ℕ → Turn
 turn_of t refs sizes = record { state = whole t.figures refs sizes; answer = t.answer }
 
 -- what is said of a refused event: "A refused event returns the state it got"
-unfoldable pub refusedSaid : Figures → ℕ → ℕ → Said
-refusedSaid f number place = record { figures = f; answer = Refused number place; complements = 0; swept = 0; numbered = replicate 4 0 }
+unfoldable pub refused_said : Figures → ℕ → ℕ → Said
+refused_said f number place = record { figures = f; answer = Refused number place; complements = 0; swept = 0; numbered = replicate 4 0 }
 
 -- what is said of an event that is taken
-unfoldable pub takenSaid : Figures → List ℕ → ℕ → ℕ → Bool → ℕ → ℕ → List ℕ → Said
-takenSaid f counts kept room y complements swept numbered = record {
+unfoldable pub taken_said : Figures → List ℕ → ℕ → ℕ → Bool → ℕ → ℕ → List ℕ → Said
+taken_said f counts kept room y complements swept numbered = record {
   figures = record { k = f.k; rows = f.rows; kept = kept; counts = counts };
   answer = Verdict y kept room;
   complements = complements;

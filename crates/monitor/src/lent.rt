@@ -1,16 +1,16 @@
 // The lent tables: when their lengths are right, and how they are cleared.
 ghost use Rattle.std.specs.Prelude.{◌≡◌, ◌&&◌, [], ◌+◌, ◌*◌, ◌<◌, ◌≤◌, length, replicate};
 ghost use Rattle.meaning.specs.Tables;
-ghost use Rattle.meaning.specs.Outcome.{nodesRight, valuesRight};
+ghost use Rattle.meaning.specs.Outcome.{nodes_right, values_right};
 ghost use Rattle.monitor.specs.Said.{whole};
-ghost use Rattle.monitor.specs.Events.{listsRight, Beyond};
+ghost use Rattle.monitor.specs.Events.{lists_right, Beyond};
 
 use crate::Figures;
 
 // The node slice has 3 × C numbers, C from 1 to 4096, and the value slice 4 × (2^k − 1).
 pub fn lengths_right(k: u32, nodes: &[u32], values: &[u32]) -> bool
     requires { k ≤ 10 }
-    ensures { result ≡ (nodesRight nodes.now && valuesRight k values.now) }
+    ensures { result ≡ (nodes_right nodes.now && values_right k values.now) }
 {
     if nodes.len() % 3 != 0 {
         return false;
@@ -30,7 +30,7 @@ pub fn lengths_right(k: u32, nodes: &[u32], values: &[u32]) -> bool
 pub fn lists_right(figures: Figures, n: usize, values: &[u32], w: usize, work: &mut [u32]) -> bool
     requires k_bound { (figures.k ≤ 10) × (length values.now ≡ 4 * Tables.most figures.k) }
     requires le_w { (1024 ≤ w) × (w ≤ length work.old) }
-    ensures value { result ≡ listsRight (whole figures [] []) n values.now }
+    ensures value { result ≡ lists_right (whole figures [] []) n values.now }
     ensures beyond { Beyond w work.old work.new }
 {
     if figures.rows as usize != n {

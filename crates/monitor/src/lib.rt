@@ -6,8 +6,8 @@ mod working;
 
 ghost use Rattle.std.specs.Prelude.{◌≡◌, length};
 ghost use Rattle.meaning.specs.Outcome.{state_of};
-ghost use Rattle.monitor.specs.Calls.{refusedTurn, startedTurn, machine, Starts, Happens};
-ghost use Rattle.monitor.specs.Said.{whole, turn_of, refusedSaid};
+ghost use Rattle.monitor.specs.Calls.{refused_turn, started_turn, machine, Starts, Happens};
+ghost use Rattle.monitor.specs.Said.{whole, turn_of, refused_said};
 ghost use Rattle.monitor.specs.Visits.{Looks};
 ghost use Rattle.monitor.specs.Numbered.{Numbers};
 
@@ -36,7 +36,7 @@ fn state_of(k: u32, n: u32) -> State
 
 // The turn of a refused start.
 fn refused_start(number: u32, place: u32) -> Turn
-    ensures { result ≡ refusedTurn number place }
+    ensures { result ≡ refused_turn number place }
 {
     Turn {
         state: state_of(0, 0),
@@ -46,7 +46,7 @@ fn refused_start(number: u32, place: u32) -> Turn
 
 // The turn of a start that is taken.
 fn started(k: u32, n: u32) -> Turn
-    ensures { result ≡ startedTurn k n }
+    ensures { result ≡ started_turn k n }
 {
     Turn {
         state: state_of(k, n),
@@ -90,7 +90,7 @@ pub struct Said {
 
 // What is said of a refused event: the figures are those that it got.
 fn refused(figures: Figures, number: u32, place: u32) -> Said
-    ensures { result ≡ refusedSaid figures number place }
+    ensures { result ≡ refused_said figures number place }
 {
     Said {
         figures,

@@ -1,12 +1,12 @@
 // What follows the check of the lists in an event: refusals 5 to 7, the rest of refusal 4, and the step itself. Each part
 // leaves its outcome as the crate `meaning` defines it. What a part may assume is in specs/Events.antt.
 ghost use Rattle.std.specs.Prelude.{◌≡◌, ◌-◌, ◌<◌, ◌≤◌, eqb, get_or, length};
-ghost use Rattle.diagram.specs.Steps.{formedOutcome};
+ghost use Rattle.diagram.specs.Steps.{formed_outcome};
 ghost use Rattle.monitor.specs.Calls.{machine, Happens};
-ghost use Rattle.monitor.specs.Said.{whole, turn_of, takenSaid};
+ghost use Rattle.monitor.specs.Said.{whole, turn_of, taken_said};
 ghost use Rattle.monitor.specs.Visits.{Looks};
 ghost use Rattle.monitor.specs.Numbered.{Numbers, Grown, growth};
-ghost use Rattle.monitor.specs.Events.{formedSaid, Listed, Asking};
+ghost use Rattle.monitor.specs.Events.{formed_said, Listed, Asking};
 
 use crate::{Figures, Said, refused};
 use diagram::{Formed, Told};
@@ -25,8 +25,8 @@ fn refused_formed(
     place: u32,
 ) -> Said
     requires { (length refs.now ≡ 64) × (length sizes.now ≡ 64) }
-    ensures value { result ≡ formedSaid (formedOutcome figures.k figures.rows free.now refs.now sizes.now figures.kept nodes.now work.old).gives figures number place }
-    ensures work_after { work.new ≡ (formedOutcome figures.k figures.rows free.now refs.now sizes.now figures.kept nodes.now work.old).work }
+    ensures value { result ≡ formed_said (formed_outcome figures.k figures.rows free.now refs.now sizes.now figures.kept nodes.now work.old).gives figures number place }
+    ensures work_after { work.new ≡ (formed_outcome figures.k figures.rows free.now refs.now sizes.now figures.kept nodes.now work.old).work }
 {
     let formed = stepping::well_formed(
         figures.k,
@@ -69,7 +69,7 @@ fn taken(
     numbered: [u32; 4],
 ) -> Said
     requires { (0 < figures.rows) × (figures.rows ≤ 64) }
-    ensures { result ≡ takenSaid figures counts kept room (eqb (get_or refs.now (figures.rows - 1) 0) 1) complements swept numbered }
+    ensures { result ≡ taken_said figures counts kept room (eqb (get_or refs.now (figures.rows - 1) 0) 1) complements swept numbered }
 {
     let last = (figures.rows - 1) as usize;
     let yes = refs[last] == 1;

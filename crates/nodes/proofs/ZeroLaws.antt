@@ -7,16 +7,16 @@ use native.Mathlib.Decide.{ℕ_discrete}
 use native.Mathlib.Omega.{arith}
 use lib.ListN.{length, get_or, set, length-set}
 use lib.Seq.{get_or-set_same, get_or-set_other, ext_get_or}
-use Rattle.trees.proofs.Tests.{lt-or-ge}
+use Rattle.trees.proofs.Tests.{lt_or_ge}
 use Rattle.nodes.specs.Nodes.{Zeroed}
 
 -- nothing was zeroed yet
-pub zeroed-none : (from : ℕ) (xs : List ℕ) → Zeroed from from xs xs
-zeroed-none from xs = record { size = refl; zero = λ i h k. absurd (omega arith); same = record { eq = λ i h. refl }; rest = record { eq = λ i h. refl } }
+pub zeroed_none : (from : ℕ) (xs : List ℕ) → Zeroed from from xs xs
+zeroed_none from xs = record { size = refl; zero = λ i h k. absurd (omega arith); same = record { eq = λ i h. refl }; rest = record { eq = λ i h. refl } }
 
 -- one number more is zeroed
-pub zeroed-more : (from i : ℕ) (xs ys : List ℕ) → from ≤ i → i < length ys → Zeroed from i xs ys → Zeroed from (i + 1) xs (set ys i 0)
-zeroed-more from i xs ys le h z = record {
+pub zeroed_more : (from i : ℕ) (xs ys : List ℕ) → from ≤ i → i < length ys → Zeroed from i xs ys → Zeroed from (i + 1) xs (set ys i 0)
+zeroed_more from i xs ys le h z = record {
   size = length-set ys i 0 ∙ z.size;
   zero = λ j p q. go j p q (ℕ_discrete j i);
   same = record { eq = λ j p. get_or-set_other ys i j 0 0 (omega arith) ∙ z.same.eq j p };
@@ -28,20 +28,20 @@ zeroed-more from i xs ys le h z = record {
     go j p q (no e) = get_or-set_other ys i j 0 0 e ∙ z.zero j p (omega arith)
 
 -- where the walk stops early everything is zeroed as asked
-pub zeroed-end : (from i to : ℕ) (xs ys : List ℕ) → from ≤ i → to ≤ i → Zeroed from i xs ys → (from < i → i ≤ to) → Zeroed from to xs ys
-zeroed-end from i to xs ys p q z top = ⊎_elim
+pub zeroed_end : (from i to : ℕ) (xs ys : List ℕ) → from ≤ i → to ≤ i → Zeroed from i xs ys → (from < i → i ≤ to) → Zeroed from to xs ys
+zeroed_end from i to xs ys p q z top = ⊎_elim
     (λ h. let e : i ≡ to = omega (arith, top h) in rw (← e) z)
     (λ h.
     let e : i ≡ from = omega arith in
-    record { size = z.size; zero = λ j a b. z.zero j a (omega arith); same = z.same; rest = record { eq = λ j a. ⊎_elim (λ k. z.same.eq j k) (λ k. z.rest.eq j (omega arith)) (lt-or-ge j from) } })
-    (lt-or-ge from i)
+    record { size = z.size; zero = λ j a b. z.zero j a (omega arith); same = z.same; rest = record { eq = λ j a. ⊎_elim (λ k. z.same.eq j k) (λ k. z.rest.eq j (omega arith)) (lt_or_ge j from) } })
+    (lt_or_ge from i)
 
 -- what is left is one list
-pub one-zeroed : {from to : ℕ} {xs ys zs : List ℕ} → Zeroed from to xs ys → Zeroed from to xs zs → ys ≡ zs
-one-zeroed {from} {to} {xs} {ys} {zs} p q = ext_get_or 0 ys zs (p.size ∙ sym q.size) (λ i h. ⊎_elim
+pub one_zeroed : {from to : ℕ} {xs ys zs : List ℕ} → Zeroed from to xs ys → Zeroed from to xs zs → ys ≡ zs
+one_zeroed {from} {to} {xs} {ys} {zs} p q = ext_get_or 0 ys zs (p.size ∙ sym q.size) (λ i h. ⊎_elim
     (λ l. p.same.eq i l ∙ sym (q.same.eq i l))
     (λ l. ⊎_elim
     (λ k. p.zero i l k ∙ sym (q.zero i l k))
     (λ k. p.rest.eq i k ∙ sym (q.rest.eq i k))
-    (lt-or-ge i to))
-    (lt-or-ge i from))
+    (lt_or_ge i to))
+    (lt_or_ge i from))

@@ -10,27 +10,27 @@ use lib.Dec.{eqb, ltb}
 use lib.ListN.{length, get_or, length-append, get_or-append}
 use lib.Seq.{get_or-append_seam, get_or-append-add}
 use borrow.Author.Tests.{ltb-false, lt-ltb, le-ltb, eq-eqb, ne_eqb}
-use Rattle.trees.proofs.Tests.{EqCase, equal, other, eq-case, eqb_same, lt-or-ge, LtCase, below, lt-case}
+use Rattle.trees.proofs.Tests.{EqCase, equal, other, eq_case, eqb_same, lt_or_ge, LtCase, below, lt_case}
 use Rattle.meaning.specs.Numbering.{Lists, place, listed, noted, ask, Unseen}
 use Rattle.meaning.proofs.ValuesLaws.{Grows, Placed, here, nowhere, placed}
 use Rattle.numbers.specs.Asking.{number_in}
 
 -- the first place of a value is its place
-pub place-first : (xs : List ℕ) (y i : ℕ) → i < length xs → get_or xs i 0 ≡ y → ((k : ℕ) → k < i → get_or xs k 0 ≡ y → ⊥) → place xs y ≡ i
+pub place_first : (xs : List ℕ) (y i : ℕ) → i < length xs → get_or xs i 0 ≡ y → ((k : ℕ) → k < i → get_or xs k 0 ≡ y → ⊥) → place xs y ≡ i
 unfolding place
-place-first [] y i h e none = absurd (omega arith)
-place-first (x ∷ xs) y zero h e none = rw (eq-eqb x y e)
-place-first (x ∷ xs) y (suc i) h e none =
-    rw (ne_eqb x y (none 0 (omega arith))) (ap suc (place-first xs y i (omega arith) e (λ k q. none (suc k) (omega arith))))
+place_first [] y i h e none = absurd (omega arith)
+place_first (x ∷ xs) y zero h e none = rw (eq-eqb x y e)
+place_first (x ∷ xs) y (suc i) h e none =
+    rw (ne_eqb x y (none 0 (omega arith))) (ap suc (place_first xs y i (omega arith) e (λ k q. none (suc k) (omega arith))))
 
 -- a value that has a place is listed, and one that has none is not
-pub listed-first : (xs : List ℕ) (y i : ℕ) → i < length xs → get_or xs i 0 ≡ y → ((k : ℕ) → k < i → get_or xs k 0 ≡ y → ⊥) → number_in xs y ≡ i
+pub listed_first : (xs : List ℕ) (y i : ℕ) → i < length xs → get_or xs i 0 ≡ y → ((k : ℕ) → k < i → get_or xs k 0 ≡ y → ⊥) → number_in xs y ≡ i
 unfolding number_in listed
-listed-first xs y i h e none = rw (place-first xs y i h e none, lt-ltb i (length xs) h)
+listed_first xs y i h e none = rw (place_first xs y i h e none, lt-ltb i (length xs) h)
 
-pub listed-never : (xs : List ℕ) (y : ℕ) → Unseen xs y → number_in xs y ≡ 4294967295
+pub listed_never : (xs : List ℕ) (y : ℕ) → Unseen xs y → number_in xs y ≡ 4294967295
 unfolding number_in listed
-listed-never xs y none = go (place xs y) (placed xs y)
+listed_never xs y none = go (place xs y) (placed xs y)
   where
     go : (n : ℕ) → Placed xs y n → cond (ltb n (length xs)) n 4294967295 ≡ 4294967295
     go n (here h e) = absurd (none n h e)
@@ -46,17 +46,17 @@ listed_of xs y h = go (listed xs y) h
     go false h = absurd (h refl)
 
 -- a number is a place of the list
-pub number-low : (xs : List ℕ) (y : ℕ) → (number_in xs y ≡ 4294967295 → ⊥) → number_in xs y < length xs
+pub number_low : (xs : List ℕ) (y : ℕ) → (number_in xs y ≡ 4294967295 → ⊥) → number_in xs y < length xs
 unfolding number_in listed
-number-low xs y h = go (ltb (place xs y) (length xs)) (lt-case (place xs y) (length xs)) h
+number_low xs y h = go (ltb (place xs y) (length xs)) (lt_case (place xs y) (length xs)) h
   where
     go : (t : Bool) → LtCase (place xs y) (length xs) t → (cond t (place xs y) 4294967295 ≡ 4294967295 → ⊥) → cond t (place xs y) 4294967295 < length xs
     go true (below q) h = q
     go false q h = absurd (h refl)
 
-pub unlisted-of : (xs : List ℕ) (y : ℕ) → length xs ≤ 4294967295 → number_in xs y ≡ 4294967295 → listed xs y ≡ false
+pub unlisted_of : (xs : List ℕ) (y : ℕ) → length xs ≤ 4294967295 → number_in xs y ≡ 4294967295 → listed xs y ≡ false
 unfolding number_in listed
-unlisted-of xs y few h = go (ltb (place xs y) (length xs)) (lt-case (place xs y) (length xs)) h
+unlisted_of xs y few h = go (ltb (place xs y) (length xs)) (lt_case (place xs y) (length xs)) h
   where
     go : (t : Bool) → LtCase (place xs y) (length xs) t → cond t (place xs y) 4294967295 ≡ 4294967295 → t ≡ false
     go true (below q) h = absurd (omega arith)
@@ -71,10 +71,10 @@ unseen_of xs y h = go (place xs y) (placed xs y) h
     go n (nowhere q u) h = u
 
 -- nothing before its place has a value
-place-least : (xs : List ℕ) (y k : ℕ) → k < place xs y → get_or xs k 0 ≡ y → ⊥
+place_least : (xs : List ℕ) (y k : ℕ) → k < place xs y → get_or xs k 0 ≡ y → ⊥
 unfolding place
-place-least [] y k h e = omega arith
-place-least (x ∷ xs) y k h e = go (eqb x y) (eq-case x y) k h e (place-least xs y)
+place_least [] y k h e = omega arith
+place_least (x ∷ xs) y k h e = go (eqb x y) (eq_case x y) k h e (place_least xs y)
   where
     go : (t : Bool) → EqCase x y t → (k : ℕ) → k < cond t 0 (suc (place xs y)) → get_or (x ∷ xs) k 0 ≡ y → ((k : ℕ) → k < place xs y → get_or xs k 0 ≡ y → ⊥) → ⊥
     go true (equal q) k h e less = omega arith
@@ -82,8 +82,8 @@ place-least (x ∷ xs) y k h e = go (eqb x y) (eq-case x y) k h e (place-least x
     go false (other q) (suc k) h e less = less k (omega arith) e
 
 -- the numbers after a value is noted at the end
-pub number-snoc : (xs : List ℕ) (y z : ℕ) → listed xs y ≡ false → number_in (xs ++ y ∷ []) z ≡ cond (eqb z y) (length xs) (number_in xs z)
-number-snoc xs y z h = go (eqb z y) (eq-case z y) (place xs z) refl (placed xs z)
+pub number_snoc : (xs : List ℕ) (y z : ℕ) → listed xs y ≡ false → number_in (xs ++ y ∷ []) z ≡ cond (eqb z y) (length xs) (number_in xs z)
+number_snoc xs y z h = go (eqb z y) (eq_case z y) (place xs z) refl (placed xs z)
   where
     long : length (xs ++ y ∷ []) ≡ suc (length xs)
     long = length-append xs (y ∷ []) ∙ add-one (length xs)
@@ -96,28 +96,28 @@ number-snoc xs y z h = go (eqb z y) (eq-case z y) (place xs z) refl (placed xs z
 
     go : (t : Bool) → EqCase z y t → (n : ℕ) → place xs z ≡ n → Placed xs z n → number_in (xs ++ y ∷ []) z ≡ cond t (length xs) (number_in xs z)
     go true (equal q) n e p =
-        listed-first (xs ++ y ∷ []) z (length xs) (omega (arith, long)) (new (length xs) refl ∙ sym q) (λ k r s. unseen_of xs y h k r (sym (old k r) ∙ (s ∙ q)))
+        listed_first (xs ++ y ∷ []) z (length xs) (omega (arith, long)) (new (length xs) refl ∙ sym q) (λ k r s. unseen_of xs y h k r (sym (old k r) ∙ (s ∙ q)))
     go false (other q) n e (here r f) =
-        listed-first (xs ++ y ∷ []) z n (omega (arith, long)) (old n r ∙ f) (λ k s g. place-least xs z k (omega arith) (sym (old k (omega arith)) ∙ g))
-        ∙ sym (listed-first xs z n r f (λ k s g. place-least xs z k (omega arith) g))
+        listed_first (xs ++ y ∷ []) z n (omega (arith, long)) (old n r ∙ f) (λ k s g. place_least xs z k (omega arith) (sym (old k (omega arith)) ∙ g))
+        ∙ sym (listed_first xs z n r f (λ k s g. place_least xs z k (omega arith) g))
     go false (other q) n e (nowhere r u) =
-        listed-never (xs ++ y ∷ []) z (λ k s g. ⊎_elim (λ i. u k i (sym (old k i) ∙ g)) (λ i. q (sym g ∙ new k (omega (arith, long)))) (lt-or-ge k (length xs)))
-        ∙ sym (listed-never xs z u)
+        listed_never (xs ++ y ∷ []) z (λ k s g. ⊎_elim (λ i. u k i (sym (old k i) ∙ g)) (λ i. q (sym g ∙ new k (omega (arith, long)))) (lt_or_ge k (length xs)))
+        ∙ sym (listed_never xs z u)
 
 -- a number is the value's place
-pub number-place : (xs : List ℕ) (y : ℕ) → (number_in xs y ≡ 4294967295 → ⊥) → number_in xs y ≡ place xs y
+pub number_place : (xs : List ℕ) (y : ℕ) → (number_in xs y ≡ 4294967295 → ⊥) → number_in xs y ≡ place xs y
 unfolding number_in
-number-place xs y h = rw (listed_of xs y h)
+number_place xs y h = rw (listed_of xs y h)
 
 -- a number stays what it is while the list grows
-pub number-grows : (xs ys : List ℕ) (y : ℕ) → Grows xs ys → (number_in xs y ≡ 4294967295 → ⊥) → number_in ys y ≡ number_in xs y
-number-grows xs ys y g h = go (place xs y) refl (placed xs y)
+pub number_grows : (xs ys : List ℕ) (y : ℕ) → Grows xs ys → (number_in xs y ≡ 4294967295 → ⊥) → number_in ys y ≡ number_in xs y
+number_grows xs ys y g h = go (place xs y) refl (placed xs y)
   where
     go : (n : ℕ) → place xs y ≡ n → Placed xs y n → number_in ys y ≡ number_in xs y
     go n e (here q f) =
-        listed-first ys y n (omega (arith, g.longer)) (g.keeps n q ∙ f) (λ k r z. place-least xs y k (omega arith) (sym (g.keeps k (omega arith)) ∙ z))
-        ∙ sym (listed-first xs y n q f (λ k r z. place-least xs y k (omega arith) z))
-    go n e (nowhere q u) = absurd (h (listed-never xs y u))
+        listed_first ys y n (omega (arith, g.longer)) (g.keeps n q ∙ f) (λ k r z. place_least xs y k (omega arith) (sym (g.keeps k (omega arith)) ∙ z))
+        ∙ sym (listed_first xs y n q f (λ k r z. place_least xs y k (omega arith) z))
+    go n e (nowhere q u) = absurd (h (listed_never xs y u))
 
 -- the number of a value in a list with another behind it
 module _ (xs zs : List ℕ) (y : ℕ) where
@@ -127,54 +127,54 @@ module _ (xs zs : List ℕ) (y : ℕ) where
   right : (k : ℕ) → length xs ≤ k → get_or (xs ++ zs) k 0 ≡ get_or zs (k - length xs) 0
   right k h = let z : length xs + (k - length xs) ≡ k = omega arith in rw z at (get_or-append-add xs zs (k - length xs) 0)
 
-  pub number-left : (number_in xs y ≡ 4294967295 → ⊥) → number_in (xs ++ zs) y ≡ number_in xs y
-  number-left h = go (place xs y) refl (placed xs y)
+  pub number_left : (number_in xs y ≡ 4294967295 → ⊥) → number_in (xs ++ zs) y ≡ number_in xs y
+  number_left h = go (place xs y) refl (placed xs y)
     where
       go : (n : ℕ) → place xs y ≡ n → Placed xs y n → number_in (xs ++ zs) y ≡ number_in xs y
       go n e (here q f) =
-          listed-first (xs ++ zs) y n (rw length-append (omega arith)) (left n q ∙ f) (λ k r g. place-least xs y k (omega arith) (sym (left k (omega arith)) ∙ g))
-          ∙ sym (listed-first xs y n q f (λ k r g. place-least xs y k (omega arith) g))
-      go n e (nowhere q u) = absurd (h (listed-never xs y u))
+          listed_first (xs ++ zs) y n (rw length-append (omega arith)) (left n q ∙ f) (λ k r g. place_least xs y k (omega arith) (sym (left k (omega arith)) ∙ g))
+          ∙ sym (listed_first xs y n q f (λ k r g. place_least xs y k (omega arith) g))
+      go n e (nowhere q u) = absurd (h (listed_never xs y u))
 
   module _ (short : length xs ≤ 4294967295) (none : number_in xs y ≡ 4294967295) where
     unseen : Unseen xs y
-    unseen = unseen_of xs y (unlisted-of xs y short none)
+    unseen = unseen_of xs y (unlisted_of xs y short none)
 
-    pub number-nowhere : length zs ≤ 4294967295 → number_in zs y ≡ 4294967295 → number_in (xs ++ zs) y ≡ 4294967295
-    number-nowhere few e =
-        listed-never (xs ++ zs) y (λ k h g. ⊎_elim
+    pub number_nowhere : length zs ≤ 4294967295 → number_in zs y ≡ 4294967295 → number_in (xs ++ zs) y ≡ 4294967295
+    number_nowhere few e =
+        listed_never (xs ++ zs) y (λ k h g. ⊎_elim
         (λ q. unseen k q (sym (left k q) ∙ g))
-        (λ q. unseen_of zs y (unlisted-of zs y few e) (k - length xs) (omega (arith, length-append xs zs)) (sym (right k q) ∙ g))
-        (lt-or-ge k (length xs)))
+        (λ q. unseen_of zs y (unlisted_of zs y few e) (k - length xs) (omega (arith, length-append xs zs)) (sym (right k q) ∙ g))
+        (lt_or_ge k (length xs)))
 
-    pub number-right : (number_in zs y ≡ 4294967295 → ⊥) → number_in (xs ++ zs) y ≡ length xs + number_in zs y
-    number-right h = go (place zs y) refl (placed zs y)
+    pub number_right : (number_in zs y ≡ 4294967295 → ⊥) → number_in (xs ++ zs) y ≡ length xs + number_in zs y
+    number_right h = go (place zs y) refl (placed zs y)
       where
         go : (n : ℕ) → place zs y ≡ n → Placed zs y n → number_in (xs ++ zs) y ≡ length xs + number_in zs y
-        go n e (nowhere q u) = absurd (h (listed-never zs y u))
+        go n e (nowhere q u) = absurd (h (listed_never zs y u))
         go n e (here q f) =
             let z : length xs + n - length xs ≡ n = omega arith in
-            rw (listed-first zs y n q f (λ k r g. place-least zs y k (omega arith) g))
-            (listed-first (xs ++ zs) y (length xs + n) (rw length-append (omega arith)) (right (length xs + n) (omega arith) ∙ rw z f)
+            rw (listed_first zs y n q f (λ k r g. place_least zs y k (omega arith) g))
+            (listed_first (xs ++ zs) y (length xs + n) (rw length-append (omega arith)) (right (length xs + n) (omega arith) ∙ rw z f)
             (λ k r g. ⊎_elim
             (λ p. unseen k p (sym (left k p) ∙ g))
-            (λ p. place-least zs y (k - length xs) (omega arith) (sym (right k p) ∙ g))
-            (lt-or-ge k (length xs))))
+            (λ p. place_least zs y (k - length xs) (omega arith) (sym (right k p) ∙ g))
+            (lt_or_ge k (length xs))))
 
 -- a value that is listed is not noted anew
-pub ask-listed : (M : Lists) (v y : ℕ) → listed (M v) y ≡ true → ask M v y ≡ M
+pub ask_listed : (M : Lists) (v y : ℕ) → listed (M v) y ≡ true → ask M v y ≡ M
 unfolding ask noted
-ask-listed M v y h = fun_ext (λ w. go w (eqb w v) (eq-case w v))
+ask_listed M v y h = fun_ext (λ w. go w (eqb w v) (eq_case w v))
   where
     go : (w : ℕ) (t : Bool) → EqCase w v t → cond t (cond (listed (M w) y) (M w) (M w ++ y ∷ [])) (M w) ≡ M w
     go w true (equal q) = let g : listed (M w) y ≡ true = ap (λ (u : ℕ). listed (M u) y) q ∙ h in rw g
     go w false q = refl
 
 -- and one that is not goes to the end of the variable's list
-pub ask-here : (M : Lists) (v y : ℕ) → listed (M v) y ≡ false → ask M v y v ≡ M v ++ y ∷ []
+pub ask_here : (M : Lists) (v y : ℕ) → listed (M v) y ≡ false → ask M v y v ≡ M v ++ y ∷ []
 unfolding ask noted
-ask-here M v y h = rw (eqb_same v, h)
+ask_here M v y h = rw (eqb_same v, h)
 
-pub ask-other : (M : Lists) (v w y : ℕ) → (w ≡ v → ⊥) → ask M v y w ≡ M w
+pub ask_other : (M : Lists) (v w y : ℕ) → (w ≡ v → ⊥) → ask M v y w ≡ M w
 unfolding ask
-ask-other M v w y h = rw (ne_eqb w v h)
+ask_other M v w y h = rw (ne_eqb w v h)

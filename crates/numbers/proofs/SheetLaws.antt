@@ -5,40 +5,40 @@ use mathlib.Core.List.{List, [], ◌∷◌}
 use lib.ListN.{get_or, set, get_or-map}
 use Rattle.making.specs.declared.Number.{Number}
 use Rattle.meaning.specs.Numbering.{Lists, ask}
-use Rattle.numbers.specs.Asking.{number_in, plain, withFresh, sheet, Steady, Carried, Pair}
-use Rattle.numbers.proofs.TallyLaws.{note-known, inside, note-new, note-old}
+use Rattle.numbers.specs.Asking.{number_in, plain, with_fresh, sheet, Steady, Carried, Pair}
+use Rattle.numbers.proofs.TallyLaws.{note_known, inside, note_new, note_old}
 
 -- a number of the list, and the list with a number stored
 pub plain_at : (ns : List Number) (i : ℕ) → get_or (plain ns) i 0 ≡ (get_or ns i (record { 0 = 0 })).0
 plain_at ns i = get_or-map (λ (n : Number). n.0) ns i (record { 0 = 0 })
 
-pub plain-set : (ns : List Number) (i : ℕ) (n : Number) → plain (set ns i n) ≡ set (plain ns) i n.0
-plain-set [] zero n = refl
-plain-set [] (suc i) n = refl
-plain-set (x ∷ ns) zero n = refl
-plain-set (x ∷ ns) (suc i) n = ap (λ (l : List ℕ). x.0 ∷ l) (plain-set ns i n)
+pub plain_set : (ns : List Number) (i : ℕ) (n : Number) → plain (set ns i n) ≡ set (plain ns) i n.0
+plain_set [] zero n = refl
+plain_set [] (suc i) n = refl
+plain_set (x ∷ ns) zero n = refl
+plain_set (x ∷ ns) (suc i) n = ap (λ (l : List ℕ). x.0 ∷ l) (plain_set ns i n)
 
 -- the fact has the value y at place j
 module _ (before : List ℕ) (L : Lists) (ys counts fresh : List ℕ) (ns : List Number) (v j : ℕ) (st : Steady before (sheet counts fresh ns)) (hv : v < 4) (hj : j < 3) where
   -- a number of v's for it is written down
-  pub noted-old : ((get_or ns (3 * v + j) (record { 0 = 0 })).0 ≡ 4294967295 → ⊥)
+  pub noted_old : ((get_or ns (3 * v + j) (record { 0 = 0 })).0 ≡ 4294967295 → ⊥)
       → Carried before L ys (λ M. ask M v (get_or ys j 0)) (Pair v j) (sheet counts fresh ns) (sheet counts fresh ns)
-  noted-old some = note-old before L ys (sheet counts fresh ns) v j st hv hj (λ e. some (sym (plain_at ns (3 * v + j)) ∙ e))
+  noted_old some = note_old before L ys (sheet counts fresh ns) v j st hv hj (λ e. some (sym (plain_at ns (3 * v + j)) ∙ e))
 
   module _ (y : ℕ) (none : (get_or ns (3 * v + j) (record { 0 = 0 })).0 ≡ 4294967295) (is : y ≡ get_or ys j 0) where
     -- none is, but y has one
-    pub noted-known : (n : Number) → (n.0 ≡ 4294967295 → ⊥) → n.0 ≡ number_in (withFresh before counts fresh L v) y
+    pub noted_known : (n : Number) → (n.0 ≡ 4294967295 → ⊥) → n.0 ≡ number_in (with_fresh before counts fresh L v) y
         → Carried before L ys (λ M. ask M v (get_or ys j 0)) (Pair v j) (sheet counts fresh ns) (sheet counts fresh (set ns (3 * v + j) n))
-    noted-known n real found =
-        rw (plain-set ns (3 * v + j) n) (note-known before L ys (sheet counts fresh ns) v j y st hv hj (plain_at ns (3 * v + j) ∙ none) is n.0 real found)
+    noted_known n real found =
+        rw (plain_set ns (3 * v + j) n) (note_known before L ys (sheet counts fresh ns) v j y st hv hj (plain_at ns (3 * v + j) ∙ none) is n.0 real found)
 
     -- y has none, and gets one
-    module _ (missing : number_in (withFresh before counts fresh L v) y ≡ 4294967295) where
-      pub new-inside : 24 * v + (get_or counts v 0 - get_or before v 0) < 96
-      new-inside = inside before L ys (sheet counts fresh ns) v j y st hv hj (plain_at ns (3 * v + j) ∙ none) is missing
+    module _ (missing : number_in (with_fresh before counts fresh L v) y ≡ 4294967295) where
+      pub new_inside : 24 * v + (get_or counts v 0 - get_or before v 0) < 96
+      new_inside = inside before L ys (sheet counts fresh ns) v j y st hv hj (plain_at ns (3 * v + j) ∙ none) is missing
 
-      pub noted-new : Carried before L ys (λ M. ask M v (get_or ys j 0)) (Pair v j) (sheet counts fresh ns)
+      pub noted_new : Carried before L ys (λ M. ask M v (get_or ys j 0)) (Pair v j) (sheet counts fresh ns)
           (sheet (set counts v (get_or counts v 0 + 1)) (set fresh (24 * v + (get_or counts v 0 - get_or before v 0)) y) (set ns (3 * v + j) (record { 0 = get_or counts v 0 })))
-      noted-new =
-          rw (plain-set ns (3 * v + j) (record { 0 = get_or counts v 0 }))
-          (note-new before L ys (sheet counts fresh ns) v j y st hv hj (plain_at ns (3 * v + j) ∙ none) is missing)
+      noted_new =
+          rw (plain_set ns (3 * v + j) (record { 0 = get_or counts v 0 }))
+          (note_new before L ys (sheet counts fresh ns) v j y st hv hj (plain_at ns (3 * v + j) ∙ none) is missing)

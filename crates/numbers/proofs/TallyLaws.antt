@@ -9,31 +9,31 @@ use lib.Dec.{eqb}
 use lib.ListN.{length, get_or, take, drop, set, length-append, length-set, length-drop}
 use lib.Seq.{get_or-set_same, get_or-set_other, drop-set-lt, drop-set-add, take-set-le, take-suc-set}
 use borrow.Author.Tests.{eq-eqb, ne_eqb}
-use Rattle.trees.proofs.Tests.{EqCase, equal, other, eq-case, lt-or-ge}
+use Rattle.trees.proofs.Tests.{EqCase, equal, other, eq_case, lt_or_ge}
 use Rattle.meaning.specs.Numbering.{Lists, listed, ask}
-use Rattle.numbers.specs.Asking.{number_in, withFresh, Sheet, Given, Tally, vacant, vacancies, Steady, Carried, Pair}
-use Rattle.numbers.proofs.PlaceLaws.{listed_of, unlisted-of, number-snoc, ask-listed, ask-here, ask-other}
+use Rattle.numbers.specs.Asking.{number_in, with_fresh, Sheet, Given, Tally, vacant, vacancies, Steady, Carried, Pair}
+use Rattle.numbers.proofs.PlaceLaws.{listed_of, unlisted_of, number_snoc, ask_listed, ask_here, ask_other}
 
 -- two numbers are equal or not
 pub same_or_not : (m n : ℕ) → (m ≡ n) ⊎ (m ≡ n → ⊥)
-same_or_not m n = go (eqb m n) (eq-case m n)
+same_or_not m n = go (eqb m n) (eq_case m n)
   where
     go : (t : Bool) → EqCase m n t → (m ≡ n) ⊎ (m ≡ n → ⊥)
     go true (equal q) = inl q
     go false (other q) = inr q
 
 -- a number that is none counts, another does not
-vacant-none : (n : ℕ) → n ≡ 4294967295 → vacant n ≡ 1
+vacant_none : (n : ℕ) → n ≡ 4294967295 → vacant n ≡ 1
 unfolding vacant
-vacant-none n h = rw (eq-eqb n 4294967295 h)
+vacant_none n h = rw (eq-eqb n 4294967295 h)
 
-vacant-not : (n : ℕ) → (n ≡ 4294967295 → ⊥) → vacant n ≡ 0
+vacant_not : (n : ℕ) → (n ≡ 4294967295 → ⊥) → vacant n ≡ 0
 unfolding vacant
-vacant-not n h = rw (ne_eqb n 4294967295 h)
+vacant_not n h = rw (ne_eqb n 4294967295 h)
 
 -- a pair of a variable and a place is one of the others, or this one
-same-pair : (v j w i : ℕ) → Pair v j w i ⊎ (w ≡ v → i ≡ j → ⊥)
-same-pair v j w i = ⊎_elim
+same_pair : (v j w i : ℕ) → Pair v j w i ⊎ (w ≡ v → i ≡ j → ⊥)
+same_pair v j w i = ⊎_elim
     (λ p. ⊎_elim (λ q. inl (p, q)) (λ q. inr (λ e f. q f)) (same_or_not i j))
     (λ p. inr (λ e f. p e))
     (same_or_not w v)
@@ -47,25 +47,25 @@ module _ (ns : List ℕ) (v j n : ℕ) (hj : j < 3) (room : 3 * v + j < length n
   others w i h p = get_or-set_other ns (3 * v + j) (3 * w + i) n 0 (λ e. p (omega arith) (omega arith))
 
   -- which pairs have numbers then
-  some-kept : (w i : ℕ) → i < 3 → (get_or ns (3 * w + i) 0 ≡ 4294967295 → ⊥) → get_or (set ns (3 * v + j) n) (3 * w + i) 0 ≡ 4294967295 → ⊥
-  some-kept w i h g e = ⊎_elim (λ p. real (sym (stored w i p) ∙ e)) (λ p. g (sym (others w i h p) ∙ e)) (same-pair v j w i)
+  some_kept : (w i : ℕ) → i < 3 → (get_or ns (3 * w + i) 0 ≡ 4294967295 → ⊥) → get_or (set ns (3 * v + j) n) (3 * w + i) 0 ≡ 4294967295 → ⊥
+  some_kept w i h g e = ⊎_elim (λ p. real (sym (stored w i p) ∙ e)) (λ p. g (sym (others w i h p) ∙ e)) (same_pair v j w i)
 
-  some-new : (w i : ℕ) → Pair v j w i → get_or (set ns (3 * v + j) n) (3 * w + i) 0 ≡ 4294967295 → ⊥
-  some-new w i p e = real (sym (stored w i p) ∙ e)
+  some_new : (w i : ℕ) → Pair v j w i → get_or (set ns (3 * v + j) n) (3 * w + i) 0 ≡ 4294967295 → ⊥
+  some_new w i p e = real (sym (stored w i p) ∙ e)
 
-  some-only : (w i : ℕ) → i < 3 → (get_or (set ns (3 * v + j) n) (3 * w + i) 0 ≡ 4294967295 → ⊥) → (get_or ns (3 * w + i) 0 ≡ 4294967295 → ⊥) ⊎ Pair v j w i
-  some-only w i h g = ⊎_elim (λ p. inr p) (λ p. inl (λ e. g (others w i h p ∙ e))) (same-pair v j w i)
+  some_only : (w i : ℕ) → i < 3 → (get_or (set ns (3 * v + j) n) (3 * w + i) 0 ≡ 4294967295 → ⊥) → (get_or ns (3 * w + i) 0 ≡ 4294967295 → ⊥) ⊎ Pair v j w i
+  some_only w i h g = ⊎_elim (λ p. inr p) (λ p. inl (λ e. g (others w i h p ∙ e))) (same_pair v j w i)
 
   -- the variable has a vacancy less
   no_more : (i : ℕ) → i < 3 → vacant (get_or (set ns (3 * v + j) n) (3 * v + i) 0) ≤ vacant (get_or ns (3 * v + i) 0)
   no_more i h = ⊎_elim
-      (λ p. rw (stored v i p, vacant-not n real) (omega arith))
+      (λ p. rw (stored v i p, vacant_not n real) (omega arith))
       (λ p. rw (others v i h p) (omega arith))
-      (same-pair v j v i)
+      (same_pair v j v i)
 
   one_less : suc (vacancies (set ns (3 * v + j) n) v) ≤ vacancies ns v
   unfolding vacancies
-  one_less = go j hj (rw (stored v j (refl, refl)) (vacant-not n real)) (vacant-none (get_or ns (3 * v + j) 0) none)
+  one_less = go j hj (rw (stored v j (refl, refl)) (vacant_not n real)) (vacant_none (get_or ns (3 * v + j) 0) none)
     where
       go : (i : ℕ) → i < 3 → vacant (get_or (set ns (3 * v + j) n) (3 * v + i) 0) ≡ 0 → vacant (get_or ns (3 * v + i) 0) ≡ 1
           → suc (vacant (get_or (set ns (3 * v + j) n) (3 * v + 0) 0) + (vacant (get_or (set ns (3 * v + j) n) (3 * v + 1) 0) + vacant (get_or (set ns (3 * v + j) n) (3 * v + 2) 0)))
@@ -81,18 +81,18 @@ module _ (ns : List ℕ) (v j n : ℕ) (hj : j < 3) (room : 3 * v + j < length n
   as_many w h = rw (others w 0 (omega arith) (λ e f. h e), others w 1 (omega arith) (λ e f. h e), others w 2 (omega arith) (λ e f. h e))
 
 -- a store outside a part leaves the part
-part-kept : (xs : List ℕ) (m n i x : ℕ) → (i < m) ⊎ (m + n ≤ i) → take n (drop m (set xs i x)) ≡ take n (drop m xs)
-part-kept xs m n i x h = ⊎_elim
+part_kept : (xs : List ℕ) (m n i x : ℕ) → (i < m) ⊎ (m + n ≤ i) → take n (drop m (set xs i x)) ≡ take n (drop m xs)
+part_kept xs m n i x h = ⊎_elim
     (λ p. rw (drop-set-lt m xs i x p))
     (λ p. let e : m + (i - m) ≡ i = omega arith in rw (← e, drop-set-add m xs (i - m) x, take-set-le n (drop m xs) (i - m) x (omega arith)))
     h
 
 -- what is written down where the variable v asks a number for the value at place j: the number that it has, or a new one
-abbrev pub afterKnown : Sheet → ℕ → ℕ → ℕ → Sheet
-afterKnown a v j n = record { counts = a.counts; fresh = a.fresh; numbers = set a.numbers (3 * v + j) n }
+abbrev pub after_known : Sheet → ℕ → ℕ → ℕ → Sheet
+after_known a v j n = record { counts = a.counts; fresh = a.fresh; numbers = set a.numbers (3 * v + j) n }
 
-abbrev pub afterNew : List ℕ → Sheet → ℕ → ℕ → ℕ → Sheet
-afterNew before a v j y = record {
+abbrev pub after_new : List ℕ → Sheet → ℕ → ℕ → ℕ → Sheet
+after_new before a v j y = record {
   counts = set a.counts v (get_or a.counts v 0 + 1);
   fresh = set a.fresh (24 * v + (get_or a.counts v 0 - get_or before v 0)) y;
   numbers = set a.numbers (3 * v + j) (get_or a.counts v 0);
@@ -101,8 +101,8 @@ afterNew before a v j y = record {
 -- the fact has the value y at place j, and no number of v's for it is written down
 module _ (before : List ℕ) (L : Lists) (ys : List ℕ) (a : Sheet) (v j y : ℕ) (st : Steady before a) (hv : v < 4) (hj : j < 3)
     (none : get_or a.numbers (3 * v + j) 0 ≡ 4294967295) (is : y ≡ get_or ys j 0) where
-  inside-numbers : 3 * v + j < length a.numbers
-  inside-numbers = omega (arith, st.dozen)
+  inside_numbers : 3 * v + j < length a.numbers
+  inside_numbers = omega (arith, st.dozen)
 
   -- the numbers that are right stay so, where the lists only grew
   numbers_more : (n : ℕ) (M N : Lists) → (n ≡ 4294967295 → ⊥) → n ≡ number_in (N v) y
@@ -110,15 +110,15 @@ module _ (before : List ℕ) (L : Lists) (ys : List ℕ) (a : Sheet) (v j y : �
       → (w i : ℕ) → w < 4 → i < 3 → (get_or (set a.numbers (3 * v + j) n) (3 * w + i) 0 ≡ 4294967295 → ⊥)
       → get_or (set a.numbers (3 * v + j) n) (3 * w + i) 0 ≡ number_in (N w) (get_or ys i 0)
   numbers_more n M N real e old w i hw hi g = ⊎_elim
-      (λ p. stored a.numbers v j n hj inside-numbers none real w i p ∙ (e ∙ rw (p.0, p.1, is)))
-      (λ p. let o = others a.numbers v j n hj inside-numbers none real w i hi p in o ∙ old w i hw hi (λ z. g (o ∙ z)))
-      (same-pair v j w i)
+      (λ p. stored a.numbers v j n hj inside_numbers none real w i p ∙ (e ∙ rw (p.0, p.1, is)))
+      (λ p. let o = others a.numbers v j n hj inside_numbers none real w i hi p in o ∙ old w i hw hi (λ z. g (o ∙ z)))
+      (same_pair v j w i)
 
   -- the value has a number already
-  module _ (n : ℕ) (real : n ≡ 4294967295 → ⊥) (found : n ≡ number_in (withFresh before a.counts a.fresh L v) y) where
-    pub note-known : Carried before L ys (λ M. ask M v (get_or ys j 0)) (Pair v j) a (afterKnown a v j n)
-    unfolding withFresh
-    note-known = record {
+  module _ (n : ℕ) (real : n ≡ 4294967295 → ⊥) (found : n ≡ number_in (with_fresh before a.counts a.fresh L v) y) where
+    pub note_known : Carried before L ys (λ M. ask M v (get_or ys j 0)) (Pair v j) a (after_known a v j n)
+    unfolding with_fresh
+    note_known = record {
       steady = record {
         four = st.four;
         places = st.places;
@@ -126,93 +126,93 @@ module _ (before : List ℕ) (L : Lists) (ys : List ℕ) (a : Sheet) (v j y : �
         first = st.first;
         grown = st.grown;
         room = λ w h. ⊎_elim
-            (λ e. let z : w ≡ v = e in rw z (omega (arith, st.room v hv, one_less a.numbers v j n hj inside-numbers none real)))
-            (λ e. rw (as_many a.numbers v j n hj inside-numbers none real w e) (st.room w h))
+            (λ e. let z : w ≡ v = e in rw z (omega (arith, st.room v hv, one_less a.numbers v j n hj inside_numbers none real)))
+            (λ e. rw (as_many a.numbers v j n hj inside_numbers none real w e) (st.room w h))
             (same_or_not w v);
       };
       fewer = λ w h. ⊎_elim
-          (λ e. let z : w ≡ v = e in rw z (omega (arith, one_less a.numbers v j n hj inside-numbers none real)))
-          (λ e. rw (as_many a.numbers v j n hj inside-numbers none real w e) (omega arith))
+          (λ e. let z : w ≡ v = e in rw z (omega (arith, one_less a.numbers v j n hj inside_numbers none real)))
+          (λ e. rw (as_many a.numbers v j n hj inside_numbers none real w e) (omega arith))
           (same_or_not w v);
       lists = λ M t.
           let e : n ≡ number_in (M v) y = found ∙ ap (λ (xs : List ℕ). number_in xs y) (sym (t.listing.lists v hv)) in
-          let z : ask M v (get_or ys j 0) ≡ M = ask-listed M v (get_or ys j 0) (listed_of (M v) (get_or ys j 0) (λ q. real (e ∙ (rw is q)))) in
+          let z : ask M v (get_or ys j 0) ≡ M = ask_listed M v (get_or ys j 0) (listed_of (M v) (get_or ys j 0) (λ q. real (e ∙ (rw is q)))) in
           rw z (record { listing = t.listing; numbers = numbers_more n M M real e t.numbers });
-      kept = λ w i h k. some-kept a.numbers v j n hj inside-numbers none real w i k;
-      asked = λ w i h k. some-new a.numbers v j n hj inside-numbers none real w i;
-      only = λ w i h k. some-only a.numbers v j n hj inside-numbers none real w i k;
+      kept = λ w i h k. some_kept a.numbers v j n hj inside_numbers none real w i k;
+      asked = λ w i h k. some_new a.numbers v j n hj inside_numbers none real w i;
+      only = λ w i h k. some_only a.numbers v j n hj inside_numbers none real w i k;
     }
 
   -- it has none
-  module _ (missing : number_in (withFresh before a.counts a.fresh L v) y ≡ 4294967295) where
+  module _ (missing : number_in (with_fresh before a.counts a.fresh L v) y ≡ 4294967295) where
     real : get_or a.counts v 0 ≡ 4294967295 → ⊥
     real e = let r = st.room v hv in let f = st.first v hv in omega arith
 
     short : get_or a.counts v 0 < get_or before v 0 + 24
-    short = let r = st.room v hv in omega (arith, one_less a.numbers v j (get_or a.counts v 0) hj inside-numbers none real)
+    short = let r = st.room v hv in omega (arith, one_less a.numbers v j (get_or a.counts v 0) hj inside_numbers none real)
 
     pub inside : 24 * v + (get_or a.counts v 0 - get_or before v 0) < 96
     inside = omega (arith, short)
 
-    now-count : get_or (set a.counts v (get_or a.counts v 0 + 1)) v 0 ≡ get_or a.counts v 0 + 1
-    now-count = get_or-set_same a.counts v (get_or a.counts v 0 + 1) 0 (omega (arith, st.four))
+    now_count : get_or (set a.counts v (get_or a.counts v 0 + 1)) v 0 ≡ get_or a.counts v 0 + 1
+    now_count = get_or-set_same a.counts v (get_or a.counts v 0 + 1) 0 (omega (arith, st.four))
 
-    other-count : (w : ℕ) → (w ≡ v → ⊥) → get_or (set a.counts v (get_or a.counts v 0 + 1)) w 0 ≡ get_or a.counts w 0
-    other-count w h = get_or-set_other a.counts v w (get_or a.counts v 0 + 1) 0 h
+    other_count_law : (w : ℕ) → (w ≡ v → ⊥) → get_or (set a.counts v (get_or a.counts v 0 + 1)) w 0 ≡ get_or a.counts w 0
+    other_count_law w h = get_or-set_other a.counts v w (get_or a.counts v 0 + 1) 0 h
 
-    new-steady : Steady before (afterNew before a v j y)
-    new-steady = record {
+    new_steady : Steady before (after_new before a v j y)
+    new_steady = record {
       four = length-set a.counts v _ ∙ st.four;
       places = length-set a.fresh _ _ ∙ st.places;
       dozen = length-set a.numbers _ _ ∙ st.dozen;
       first = st.first;
       grown = λ w h. ⊎_elim
-          (λ e. let z : w ≡ v = e in rw (z, now-count) (omega (arith, st.grown v hv)))
-          (λ e. rw (other-count w e) (st.grown w h))
+          (λ e. let z : w ≡ v = e in rw (z, now_count) (omega (arith, st.grown v hv)))
+          (λ e. rw (other_count_law w e) (st.grown w h))
           (same_or_not w v);
       room = λ w h. ⊎_elim
-          (λ e. let z : w ≡ v = e in rw (z, now-count) (omega (arith, st.room v hv, one_less a.numbers v j (get_or a.counts v 0) hj inside-numbers none real)))
-          (λ e. rw (other-count w e, as_many a.numbers v j (get_or a.counts v 0) hj inside-numbers none real w e) (st.room w h))
+          (λ e. let z : w ≡ v = e in rw (z, now_count) (omega (arith, st.room v hv, one_less a.numbers v j (get_or a.counts v 0) hj inside_numbers none real)))
+          (λ e. rw (other_count_law w e, as_many a.numbers v j (get_or a.counts v 0) hj inside_numbers none real w e) (st.room w h))
           (same_or_not w v);
     }
 
     -- the lists before and after
     module _ (M : Lists) (t : Tally before L M ys a) where
       new : listed (M v) y ≡ false
-      new = unlisted-of (M v) y (omega (arith, t.listing.counted v hv, st.room v hv, st.first v hv)) (ap (λ (xs : List ℕ). number_in xs y) (t.listing.lists v hv) ∙ missing)
+      new = unlisted_of (M v) y (omega (arith, t.listing.counted v hv, st.room v hv, st.first v hv)) (ap (λ (xs : List ℕ). number_in xs y) (t.listing.lists v hv) ∙ missing)
 
-      new-counts : (w : ℕ) → w < 4 → length (ask M v y w) ≡ get_or (set a.counts v (get_or a.counts v 0 + 1)) w 0
-      new-counts w h = ⊎_elim
-          (λ e. let z : w ≡ v = e in rw (z, ask-here M v y new, now-count, length-append) (omega (arith, t.listing.counted v hv)))
-          (λ e. rw (ask-other M v w y e, other-count w e) (t.listing.counted w h))
+      new_counts : (w : ℕ) → w < 4 → length (ask M v y w) ≡ get_or (set a.counts v (get_or a.counts v 0 + 1)) w 0
+      new_counts w h = ⊎_elim
+          (λ e. let z : w ≡ v = e in rw (z, ask_here M v y new, now_count, length-append) (omega (arith, t.listing.counted v hv)))
+          (λ e. rw (ask_other M v w y e, other_count_law w e) (t.listing.counted w h))
           (same_or_not w v)
 
-      new-lists : (w : ℕ) → w < 4 → ask M v y w ≡ withFresh before (afterNew before a v j y).counts (afterNew before a v j y).fresh L w
-      unfolding withFresh
-      new-lists w h = ⊎_elim
+      new_lists : (w : ℕ) → w < 4 → ask M v y w ≡ with_fresh before (after_new before a v j y).counts (after_new before a v j y).fresh L w
+      unfolding with_fresh
+      new_lists w h = ⊎_elim
           (λ e.
           let z : w ≡ v = e in
           let g : get_or a.counts v 0 + 1 - get_or before v 0 ≡ suc (get_or a.counts v 0 - get_or before v 0) = omega (arith, st.grown v hv) in
           let room : get_or a.counts v 0 - get_or before v 0 < length (drop (24 * v) a.fresh) = rw (length-drop, st.places) (omega (arith, short)) in
-          rw (z, ask-here M v y new, now-count, g, drop-set-add (24 * v) a.fresh (get_or a.counts v 0 - get_or before v 0) y, take-suc-set (drop (24 * v) a.fresh) (get_or a.counts v 0 - get_or before v 0) y room, t.listing.lists v hv)
+          rw (z, ask_here M v y new, now_count, g, drop-set-add (24 * v) a.fresh (get_or a.counts v 0 - get_or before v 0) y, take-suc-set (drop (24 * v) a.fresh) (get_or a.counts v 0 - get_or before v 0) y room, t.listing.lists v hv)
           (append_assoc (L v) (take (get_or a.counts v 0 - get_or before v 0) (drop (24 * v) a.fresh)) (y ∷ [])))
           (λ e.
           let q = st.room w h in
           let away : (24 * v + (get_or a.counts v 0 - get_or before v 0) < 24 * w) ⊎ (24 * w + (get_or a.counts w 0 - get_or before w 0) ≤ 24 * v + (get_or a.counts v 0 - get_or before v 0)) =
-          ⊎_elim (λ r. inr (omega (arith, short))) (λ r. inl (omega (arith, short, e))) (lt-or-ge w v) in
-          rw (ask-other M v w y e, other-count w e, part-kept a.fresh (24 * w) (get_or a.counts w 0 - get_or before w 0) (24 * v + (get_or a.counts v 0 - get_or before v 0)) y away) (t.listing.lists w h))
+          ⊎_elim (λ r. inr (omega (arith, short))) (λ r. inl (omega (arith, short, e))) (lt_or_ge w v) in
+          rw (ask_other M v w y e, other_count_law w e, part_kept a.fresh (24 * w) (get_or a.counts w 0 - get_or before w 0) (24 * v + (get_or a.counts v 0 - get_or before v 0)) y away) (t.listing.lists w h))
           (same_or_not w v)
 
-      new-unused : (w i : ℕ) → w < 4 → i < 24 → get_or (set a.counts v (get_or a.counts v 0 + 1)) w 0 ≤ get_or before w 0 + i
+      new_unused : (w i : ℕ) → w < 4 → i < 24 → get_or (set a.counts v (get_or a.counts v 0 + 1)) w 0 ≤ get_or before w 0 + i
           → get_or (set a.fresh (24 * v + (get_or a.counts v 0 - get_or before v 0)) y) (24 * w + i) 0 ≡ 0
-      new-unused w i h k q = ⊎_elim
+      new_unused w i h k q = ⊎_elim
           (λ e.
           let z : w ≡ v = e in
-          let more : get_or a.counts v 0 + 1 ≤ get_or before v 0 + i = rw (z, now-count) at q in
+          let more : get_or a.counts v 0 + 1 ≤ get_or before v 0 + i = rw (z, now_count) at q in
           rw (z, get_or-set_other a.fresh (24 * v + (get_or a.counts v 0 - get_or before v 0)) (24 * v + i) y 0 (λ f. omega (arith, st.grown v hv))) (t.listing.unused v i hv k (omega arith)))
           (λ e.
           rw (get_or-set_other a.fresh (24 * v + (get_or a.counts v 0 - get_or before v 0)) (24 * w + i) y 0 (λ f. omega (arith, short, e)))
-          (t.listing.unused w i h k (rw (other-count w e) at q)))
+          (t.listing.unused w i h k (rw (other_count_law w e) at q)))
           (same_or_not w v)
 
       -- the numbers given before are those of other values
@@ -222,39 +222,39 @@ module _ (before : List ℕ) (L : Lists) (ys : List ℕ) (a : Sheet) (v j y : �
           let z : w ≡ v = e in
           let o : get_or a.numbers (3 * v + i) 0 ≡ number_in (M v) (get_or ys i 0) = rw z at (t.numbers w i h k g) in
           let apart : get_or ys i 0 ≡ y → ⊥ = λ f. g (rw z (o ∙ (ap (number_in (M v)) f ∙ (ap (λ (xs : List ℕ). number_in xs y) (t.listing.lists v hv) ∙ missing)))) in
-          rw (z, ask-here M v y new, number-snoc (M v) y (get_or ys i 0) new, ne_eqb (get_or ys i 0) y apart) o)
-          (λ e. rw (ask-other M v w y e) (t.numbers w i h k g))
+          rw (z, ask_here M v y new, number_snoc (M v) y (get_or ys i 0) new, ne_eqb (get_or ys i 0) y apart) o)
+          (λ e. rw (ask_other M v w y e) (t.numbers w i h k g))
           (same_or_not w v)
 
       own : get_or a.counts v 0 ≡ number_in (ask M v y v) y
-      own = rw (ask-here M v y new, number-snoc (M v) y y new, eq-eqb y y refl) (sym (t.listing.counted v hv))
+      own = rw (ask_here M v y new, number_snoc (M v) y y new, eq-eqb y y refl) (sym (t.listing.counted v hv))
 
-      new-tally : Tally before L (ask M v y) ys (afterNew before a v j y)
-      new-tally = record {
-        listing = record { start = t.listing.start; counted = new-counts; lists = new-lists; unused = new-unused };
+      new_tally : Tally before L (ask M v y) ys (after_new before a v j y)
+      new_tally = record {
+        listing = record { start = t.listing.start; counted = new_counts; lists = new_lists; unused = new_unused };
         numbers = numbers_more (get_or a.counts v 0) M (ask M v y) real own still;
       }
 
-    pub note-new : Carried before L ys (λ M. ask M v (get_or ys j 0)) (Pair v j) a (afterNew before a v j y)
-    note-new = record {
-      steady = new-steady;
+    pub note_new : Carried before L ys (λ M. ask M v (get_or ys j 0)) (Pair v j) a (after_new before a v j y)
+    note_new = record {
+      steady = new_steady;
       fewer = λ w h. ⊎_elim
-          (λ e. let z : w ≡ v = e in rw (z, now-count) (omega (arith, one_less a.numbers v j (get_or a.counts v 0) hj inside-numbers none real)))
-          (λ e. rw (other-count w e, as_many a.numbers v j (get_or a.counts v 0) hj inside-numbers none real w e) (omega arith))
+          (λ e. let z : w ≡ v = e in rw (z, now_count) (omega (arith, one_less a.numbers v j (get_or a.counts v 0) hj inside_numbers none real)))
+          (λ e. rw (other_count_law w e, as_many a.numbers v j (get_or a.counts v 0) hj inside_numbers none real w e) (omega arith))
           (same_or_not w v);
-      lists = λ M t. rw (← is) (new-tally M t);
-      kept = λ w i h k. some-kept a.numbers v j (get_or a.counts v 0) hj inside-numbers none real w i k;
-      asked = λ w i h k. some-new a.numbers v j (get_or a.counts v 0) hj inside-numbers none real w i;
-      only = λ w i h k. some-only a.numbers v j (get_or a.counts v 0) hj inside-numbers none real w i k;
+      lists = λ M t. rw (← is) (new_tally M t);
+      kept = λ w i h k. some_kept a.numbers v j (get_or a.counts v 0) hj inside_numbers none real w i k;
+      asked = λ w i h k. some_new a.numbers v j (get_or a.counts v 0) hj inside_numbers none real w i;
+      only = λ w i h k. some_only a.numbers v j (get_or a.counts v 0) hj inside_numbers none real w i k;
     }
 
 -- a value whose number is written down asks nothing
-pub note-old : (before : List ℕ) (L : Lists) (ys : List ℕ) (a : Sheet) (v j : ℕ) → Steady before a → v < 4 → j < 3 → Given a v j
+pub note_old : (before : List ℕ) (L : Lists) (ys : List ℕ) (a : Sheet) (v j : ℕ) → Steady before a → v < 4 → j < 3 → Given a v j
     → Carried before L ys (λ M. ask M v (get_or ys j 0)) (Pair v j) a a
-note-old before L ys a v j st hv hj some = record {
+note_old before L ys a v j st hv hj some = record {
   steady = st;
   fewer = λ w h. omega arith;
-  lists = λ M t. rw (ask-listed M v (get_or ys j 0) (listed_of (M v) (get_or ys j 0) (λ e. some (t.numbers v j hv hj some ∙ e)))) t;
+  lists = λ M t. rw (ask_listed M v (get_or ys j 0) (listed_of (M v) (get_or ys j 0) (λ e. some (t.numbers v j hv hj some ∙ e)))) t;
   kept = λ w i h k g. g;
   asked = λ w i h k p. let y : w ≡ v = p.0 in let z : i ≡ j = p.1 in rw (y, z) some;
   only = λ w i h k g. inl g;

@@ -6,16 +6,16 @@ use Rattle.meaning.specs.declared.Fact.{Fact as Handed}
 use Rattle.meaning.specs.declared.State.{State}
 use Rattle.meaning.specs.declared.Value.{Value}
 use Rattle.meaning.specs.Qtl.{Argument, variable, constant, Fact}
-use Rattle.meaning.specs.Rows.{Row, argumentAt, row_at, rowCount, ruleOf, right, checkRows}
-use Rattle.meaning.specs.Numbering.{Lists, place, listed, ask, askFacts}
+use Rattle.meaning.specs.Rows.{Row, argument_at, row_at, count_of_rows, rule_of, right, check_rows}
+use Rattle.meaning.specs.Numbering.{Lists, place, listed, ask, ask_facts}
 use Rattle.meaning.specs.Tables.{most, list_of}
-use Rattle.meaning.specs.Outcome.{fact_of, facts_of, countRight}
+use Rattle.meaning.specs.Outcome.{fact_of, facts_of, count_right}
 use Rattle.numbers.specs.declared.Asked.{Asked}
-use Rattle.numbers.specs.Matching.{matchesRow, argumentsIn, Readable}
+use Rattle.numbers.specs.Matching.{matches_row, arguments_in, Readable}
 
 -- a state with these counts of values: the lists depend on nothing else of it
-abbrev pub withCounts : List ℕ → State
-withCounts counts = record { k = 0; rows = 0; kept = 0; counts = counts; refs = []; sizes = [] }
+abbrev pub with_counts : List ℕ → State
+with_counts counts = record { k = 0; rows = 0; kept = 0; counts = counts; refs = []; sizes = [] }
 
 -- the number of a value: its place, or 4294967295 where it has none
 unfoldable pub number_in : List ℕ → ℕ → ℕ
@@ -29,59 +29,59 @@ abbrev pub plain : List Number → List ℕ
 plain ns = map (λ (n : Number). n.0) ns
 
 -- the lists L with the fresh values behind them, as many as the counts grew by: those of the variable v stand from 24 * v on
-unfoldable pub withFresh : List ℕ → List ℕ → List ℕ → Lists → Lists
-withFresh before counts fresh L v = L v ++ take (get_or counts v 0 - get_or before v 0) (drop (24 * v) fresh)
+unfoldable pub with_fresh : List ℕ → List ℕ → List ℕ → Lists → Lists
+with_fresh before counts fresh L v = L v ++ take (get_or counts v 0 - get_or before v 0) (drop (24 * v) fresh)
 
 -- What was asked from the lists L on shows the lists M: how many values have numbers, and the fresh values. Both are determined.
 pub record Listing (before : List ℕ) (L M : Lists) (counts fresh : List ℕ) : Type 0 where
   -- how many values have numbers: at the start, and now
   pub start : (v : ℕ) → v < 4 → length (L v) ≡ get_or before v 0
   pub counted : (v : ℕ) → v < 4 → length (M v) ≡ get_or counts v 0
-  pub lists : (v : ℕ) → v < 4 → M v ≡ withFresh before counts fresh L v
+  pub lists : (v : ℕ) → v < 4 → M v ≡ with_fresh before counts fresh L v
   -- the places past the new values
   pub unused : (v j : ℕ) → v < 4 → j < 24 → get_or counts v 0 ≤ get_or before v 0 + j → get_or fresh (24 * v + j) 0 ≡ 0
 
 -- the row matches the fact, and has the variable v at place j
 pub record AsksFor (e : Fact) (r : Row) (v j : ℕ) : Type 0 where
-  pub matches : matchesRow e r ≡ true
-  pub names : get_or (argumentsIn r) j (constant 0) ≡ variable v
+  pub matches : matches_row e r ≡ true
+  pub names : get_or (arguments_in r) j (constant 0) ≡ variable v
 
 -- one of the first n rows is such
 abbrev pub AskedBy : Fact → List ℕ → ℕ → ℕ → ℕ → Type 0
 AskedBy e raw n v j = (i : ℕ) × (i < n) × AsksFor e (row_at raw i) v j
 
 -- the fact f of an event
-unfoldable pub factAt : Event → ℕ → Fact
-factAt e f = get_or (facts_of e) f (record { predicate = 0; values = [] })
+unfoldable pub fact_at : Event → ℕ → Fact
+fact_at e f = get_or (facts_of e) f (record { predicate = 0; values = [] })
 
 -- the number that the variable v has for value j of the fact f
 unfoldable pub number_at : List ℕ → ℕ → ℕ → ℕ → ℕ
 number_at given f v j = get_or given (12 * f + (3 * v + j)) 0
 
 -- the lists before an event, and after it
-abbrev pub listsBefore : ℕ → List ℕ → List ℕ → Lists
-listsBefore k before values = list_of k (withCounts before) values
+abbrev pub lists_before : ℕ → List ℕ → List ℕ → Lists
+lists_before k before values = list_of k (with_counts before) values
 
-abbrev pub listsAfter : ℕ → List ℕ → List ℕ → List ℕ → Event → Lists
-listsAfter k before values rows e = askFacts (facts_of e) (listsBefore k before values) (ruleOf rows)
+abbrev pub lists_after : ℕ → List ℕ → List ℕ → List ℕ → Event → Lists
+lists_after k before values rows e = ask_facts (facts_of e) (lists_before k before values) (rule_of rows)
 
 -- What `ask` promises: the lists are those of the walk, fact by fact, and the numbers that matching atoms ask for are given, and no others.
 -- The counts, the fresh values and the numbers are determined.
 pub record Asks (k : ℕ) (before values rows : List ℕ) (e : Event) (a : Asked) : Type 0 where
-  pub listing : Listing before (listsBefore k before values) (listsAfter k before values rows e) a.counts (bare a.fresh)
+  pub listing : Listing before (lists_before k before values) (lists_after k before values rows e) a.counts (bare a.fresh)
   -- a fact asks up to three numbers for one variable, and an event has up to eight facts
   pub few : (v : ℕ) → v < 4 → get_or a.counts v 0 ≤ get_or before v 0 + 24
-  pub asked : (f v j : ℕ) → f < e.count → v < 4 → AskedBy (factAt e f) rows (rowCount rows) v j
-      → (j < 3) × (number_at a.given f v j ≡ place (listsAfter k before values rows e v) (get_or (factAt e f).values j 0))
-  pub only : (f v j : ℕ) → f < 8 → v < 4 → j < 3 → (number_at a.given f v j ≡ 4294967295 → ⊥) → (f < e.count) × AskedBy (factAt e f) rows (rowCount rows) v j
+  pub asked : (f v j : ℕ) → f < e.count → v < 4 → AskedBy (fact_at e f) rows (count_of_rows rows) v j
+      → (j < 3) × (number_at a.given f v j ≡ place (lists_after k before values rows e v) (get_or (fact_at e f).values j 0))
+  pub only : (f v j : ℕ) → f < 8 → v < 4 → j < 3 → (number_at a.given f v j ≡ 4294967295 → ⊥) → (f < e.count) × AskedBy (fact_at e f) rows (count_of_rows rows) v j
 
 -- what `ask` may assume
 pub record Askable (k : ℕ) (before values rows : List ℕ) (e : Event) : Type 0 where
   pub bits : k ≤ 10
   pub counts : (v : ℕ) → v < 4 → get_or before v 0 ≤ most k
   pub parts : length values ≡ 4 * most k
-  pub checked : checkRows rows ≡ right
-  pub agreed : countRight (ruleOf rows) e ≡ true
+  pub checked : check_rows rows ≡ right
+  pub agreed : count_right (rule_of rows) e ≡ true
 
 -- What is written down while a fact asks: the counts, the event's fresh values, and at 3 * v + j the number of v's for the fact's value j.
 pub record Sheet : Type 0 where
@@ -93,8 +93,8 @@ abbrev pub sheet : List ℕ → List ℕ → List Number → Sheet
 sheet counts fresh numbers = record { counts = counts; fresh = fresh; numbers = plain numbers }
 
 -- before a fact asks anything
-abbrev pub nothingGiven : List Number
-nothingGiven = replicate 12 (record { 0 = 4294967295 })
+abbrev pub nothing_given : List Number
+nothing_given = replicate 12 (record { 0 = 4294967295 })
 
 -- the fact's value j has a number of v's
 abbrev pub Given : Sheet → ℕ → ℕ → Type 0
@@ -137,15 +137,15 @@ abbrev pub Pair : ℕ → ℕ → ℕ → ℕ → Type 0
 Pair v j w i = (w ≡ v) × (i ≡ j)
 
 abbrev pub AtPlace : List ℕ → ℕ → ℕ → ℕ → ℕ → Type 0
-AtPlace raw i j v k = (argumentAt raw i j ≡ variable v) × (k ≡ j)
+AtPlace raw i j v k = (argument_at raw i j ≡ variable v) × (k ≡ j)
 
 abbrev pub AtPlaces : List ℕ → ℕ → ℕ → ℕ → ℕ → Type 0
-AtPlaces raw i n v k = (argumentAt raw i k ≡ variable v) × (k < n)
+AtPlaces raw i n v k = (argument_at raw i k ≡ variable v) × (k < n)
 
 -- one argument asks
-unfoldable pub askOne : Argument → ℕ → Lists → Lists
-askOne (variable v) y M = ask M v y
-askOne (constant c) y M = M
+unfoldable pub ask_one : Argument → ℕ → Lists → Lists
+ask_one (variable v) y M = ask M v y
+ask_one (constant c) y M = M
 
 -- the row at place i can be read, and its variables are the four
 pub record Asking (raw : List ℕ) (i : ℕ) (e : Handed) : Type 0 where
@@ -156,8 +156,8 @@ pub record Asking (raw : List ℕ) (i : ℕ) (e : Handed) : Type 0 where
 pub record NextMatch (raw : List ℕ) (e : Handed) (from r : ℕ) : Type 0 where
   pub later : from ≤ r
   pub within : from ≤ length raw / 9 → r ≤ length raw / 9
-  pub skipped : (i : ℕ) → from ≤ i → i < r → matchesRow (fact_of e) (row_at raw i) ≡ false
-  pub matches : r < length raw / 9 → matchesRow (fact_of e) (row_at raw r) ≡ true
+  pub skipped : (i : ℕ) → from ≤ i → i < r → matches_row (fact_of e) (row_at raw i) ≡ false
+  pub matches : r < length raw / 9 → matches_row (fact_of e) (row_at raw r) ≡ true
 
 -- the twelve numbers of the fact f stand at their places, and the other places are as they were
 pub record Put (f : ℕ) (numbers : List Number) (given r : List ℕ) : Type 0 where
@@ -168,7 +168,7 @@ pub record Put (f : ℕ) (numbers : List Number) (given r : List ℕ) : Type 0 w
 -- a value slice of four parts of m numbers each, with a count of values for each part
 pub record Parted (m : ℕ) (counts values : List ℕ) : Type 0 where
   pub small : m ≤ 1023
-  pub counts-fit : (v : ℕ) → v < 4 → get_or counts v 0 ≤ m
+  pub counts_fit : (v : ℕ) → v < 4 → get_or counts v 0 ≤ m
   pub whole : length values ≡ 4 * m
 
 -- the values of the part v

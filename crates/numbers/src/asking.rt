@@ -1,13 +1,13 @@
 // What an event asks: fact by fact, the walk over the rows, and the numbers that it gives out. Nothing is written to the value slice here.
 // What each function promises is in specs/Asking.antt.
 ghost use Rattle.std.specs.Prelude.{◌≡◌, ◌+◌, ◌<◌, ◌≤◌, length, get_or};
-ghost use Rattle.meaning.specs.Rows.{argumentAt, right, checkRows, rowCount, ruleOf};
+ghost use Rattle.meaning.specs.Rows.{argument_at, right, check_rows, count_of_rows, rule_of};
 ghost use Rattle.meaning.specs.Numbering;
-ghost use Rattle.meaning.specs.Numbering.{askArguments, askRows};
+ghost use Rattle.meaning.specs.Numbering.{ask_arguments, ask_rows};
 ghost use Rattle.meaning.specs.Outcome.{fact_of};
-ghost use Rattle.numbers.specs.Matching.{Sized, argumentsOf};
-ghost use Rattle.numbers.specs.Looking.{numberTold};
-ghost use Rattle.numbers.specs.Asking.{number_in, Parted, part_of, withFresh, bare, sheet, nothingGiven, Steady, Carried, Pair, askOne, AtPlace, AtPlaces, Asking, AskedBy, NextMatch, Put, Askable, Asks};
+ghost use Rattle.numbers.specs.Matching.{Sized, arguments_of};
+ghost use Rattle.numbers.specs.Looking.{number_told};
+ghost use Rattle.numbers.specs.Asking.{number_in, Parted, part_of, with_fresh, bare, sheet, nothing_given, Steady, Carried, Pair, ask_one, AtPlace, AtPlaces, Asking, AskedBy, NextMatch, Put, Askable, Asks};
 
 use super::looking::{look_in, look_part};
 use super::matching::matches;
@@ -28,7 +28,7 @@ struct Noted {
 
 // The number that looking a value up told, or `NONE`.
 fn number_told(found: Lookup) -> Number
-    ensures { result.0 ≡ numberTold found }
+    ensures { result.0 ≡ number_told found }
 {
     match found {
         Lookup::Has(n) => n,
@@ -49,7 +49,7 @@ fn known(
     y: Value,
 ) -> Number
     requires { (length fresh.now ≡ 96) × Parted m before values.now × (v < 4) × (get_or before v 0 ≤ get_or counts v 0) × (get_or counts v 0 ≤ get_or before v 0 + 24) }
-    ensures { result.0 ≡ number_in (withFresh before counts fresh.now (part_of m before values.now) v) y.0 }
+    ensures { result.0 ≡ number_in (with_fresh before counts fresh.now (part_of m before values.now) v) y.0 }
 {
     let old = number_told(look_part(m, before, values, v, y));
     if old.0 != NONE {
@@ -117,7 +117,7 @@ fn ask_argument(
     j: usize,
 ) -> Noted
     requires { Steady before (sheet a.counts fresh.old a.numbers) × Parted m before values.now × Asking rows.now i fact × (j < fact.count) }
-    ensures { Carried before (part_of m before values.now) (fact_of fact).values (askOne (argumentAt rows.now i j) (get_or (fact_of fact).values j 0)) (AtPlace rows.now i j) (sheet a.counts fresh.old a.numbers) (sheet result.counts fresh.new result.numbers) }
+    ensures { Carried before (part_of m before values.now) (fact_of fact).values (ask_one (argument_at rows.now i j) (get_or (fact_of fact).values j 0)) (AtPlace rows.now i j) (sheet a.counts fresh.old a.numbers) (sheet result.counts fresh.new result.numbers) }
 {
     if rows[9 * i + (3 + 2 * j)] != 0 {
         return a;
@@ -138,7 +138,7 @@ fn ask_arguments(
     fact: Fact,
 ) -> Noted
     requires { Steady before (sheet asked.counts fresh.old asked.numbers) × Parted m before values.now × Asking rows.now i fact }
-    ensures { Carried before (part_of m before values.now) (fact_of fact).values (λ M. askArguments M (argumentsOf rows.now i fact.count) (fact_of fact).values) (AtPlaces rows.now i fact.count) (sheet asked.counts fresh.old asked.numbers) (sheet result.counts fresh.new result.numbers) }
+    ensures { Carried before (part_of m before values.now) (fact_of fact).values (λ M. ask_arguments M (arguments_of rows.now i fact.count) (fact_of fact).values) (AtPlaces rows.now i fact.count) (sheet asked.counts fresh.old asked.numbers) (sheet result.counts fresh.new result.numbers) }
 {
     let n = fact.count as usize;
     let mut a = asked;
@@ -152,7 +152,7 @@ fn ask_arguments(
 
 // The first row from `from` on that is an atom that matches the fact, or where the rows end.
 fn next_match(rows: &[u32], from: usize, fact: Fact) -> usize
-    requires { (checkRows rows.now ≡ right) × (fact.count ≤ 3) }
+    requires { (check_rows rows.now ≡ right) × (fact.count ≤ 3) }
     ensures { NextMatch rows.now fact from result }
 {
     let n = rows.len() / 9;
@@ -177,8 +177,8 @@ fn ask_fact(
     rows: &[u32],
     fact: Fact,
 ) -> Noted
-    requires { Steady before (sheet counts fresh.old nothingGiven) × Parted m before values.now × (checkRows rows.now ≡ right) × (fact.count ≤ 3) }
-    ensures { Carried before (part_of m before values.now) (fact_of fact).values (λ M. askRows (fact_of fact) M (ruleOf rows.now)) (AskedBy (fact_of fact) rows.now (rowCount rows.now)) (sheet counts fresh.old nothingGiven) (sheet result.counts fresh.new result.numbers) }
+    requires { Steady before (sheet counts fresh.old nothing_given) × Parted m before values.now × (check_rows rows.now ≡ right) × (fact.count ≤ 3) }
+    ensures { Carried before (part_of m before values.now) (fact_of fact).values (λ M. ask_rows (fact_of fact) M (rule_of rows.now)) (AskedBy (fact_of fact) rows.now (count_of_rows rows.now)) (sheet counts fresh.old nothing_given) (sheet result.counts fresh.new result.numbers) }
 {
     let n = rows.len() / 9;
     let mut a = Noted {

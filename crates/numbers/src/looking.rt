@@ -3,7 +3,7 @@
 ghost use Rattle.std.specs.Prelude.{◌≡◌, ◌*◌, ◌<◌, ◌≤◌, length, get_or};
 ghost use Rattle.numbers.specs.Asking.{part_of};
 ghost use Rattle.numbers.specs.Looking;
-ghost use Rattle.numbers.specs.Looking.{lookedUp, lookUp};
+ghost use Rattle.numbers.specs.Looking.{looked_up, look_up};
 
 use super::{Lookup, most};
 use making::Number;
@@ -12,7 +12,7 @@ use meaning::Value;
 // Looks y up in a list that may have m values.
 pub fn look_in(list: &[u32], m: usize, y: Value) -> Lookup
     requires { length list.now ≤ 1023 }
-    ensures { result ≡ lookedUp m list.now y.0 }
+    ensures { result ≡ looked_up m list.now y.0 }
 {
     let mut i = 0;
     while i < list.len() {
@@ -30,7 +30,7 @@ pub fn look_in(list: &[u32], m: usize, y: Value) -> Lookup
 // Looks y up among the values of variable v, of which m may have numbers.
 pub fn look_part(m: usize, counts: [u32; 4], values: &[u32], v: usize, y: Value) -> Lookup
     requires { (m ≤ 1023) × (length values.now ≡ 4 * m) × (v < 4) × (get_or counts v 0 ≤ m) }
-    ensures { result ≡ lookedUp m (part_of m counts values.now v) y.0 }
+    ensures { result ≡ looked_up m (part_of m counts values.now v) y.0 }
 {
     let at = v * m;
     let end = at + counts[v] as usize;
@@ -61,7 +61,7 @@ fn readable(k: u32, counts: [u32; 4], values: &[u32], variable: u32) -> bool
 // "Is this lot new to the rule?" Whether the variable has a number for y, and whether one is left where it has none. The value slice
 // and the counts may be any: where there is nothing to look in, the answer says so.
 pub fn look_up(k: u32, counts: [u32; 4], values: &[u32], variable: u32, y: Value) -> Lookup
-    ensures { result ≡ lookUp k counts values.now variable y.0 }
+    ensures { result ≡ look_up k counts values.now variable y.0 }
 {
     if !readable(k, counts, values, variable) {
         return Lookup::Misfit;

@@ -4,15 +4,15 @@ ghost use Rattle.std.specs.Prelude.{◌≡◌, [], ◌∷◌, min, take};
 ghost use Rattle.meaning.specs.Numbering;
 ghost use Rattle.meaning.specs.Numbering.{fits};
 ghost use Rattle.meaning.specs.Outcome.{fact_of};
-ghost use Rattle.rule.specs.Decoded.{argumentOf, row_of};
-ghost use Rattle.numbers.specs.Matching.{matchesRow, sameAt, fitsFirst};
+ghost use Rattle.rule.specs.Decoded.{argument_of, row_of};
+ghost use Rattle.numbers.specs.Matching.{matches_row, same_at, fits_first};
 
 use meaning::{Fact, Value};
 use rule::{Argument, Row};
 
 // Where the argument is the variable v, its value z is y.
 fn again(v: u32, y: Value, argument: Argument, z: Value) -> bool
-    ensures { result ≡ sameAt v y.0 (argumentOf argument) z.0 }
+    ensures { result ≡ same_at v y.0 (argument_of argument) z.0 }
 {
     match argument {
         Argument::Variable(w) => {
@@ -28,7 +28,7 @@ fn again(v: u32, y: Value, argument: Argument, z: Value) -> bool
 // Where the variable v has the value y, it has it at the first n of two later places too: those of the arguments b and c, whose
 // values are z and w.
 fn repeats(v: u32, y: Value, n: u32, b: Argument, z: Value, c: Argument, w: Value) -> bool
-    ensures { result ≡ Numbering.repeats v y.0 (take n (argumentOf b ∷ argumentOf c ∷ [])) (take n (z.0 ∷ w.0 ∷ [])) }
+    ensures { result ≡ Numbering.repeats v y.0 (take n (argument_of b ∷ argument_of c ∷ [])) (take n (z.0 ∷ w.0 ∷ [])) }
 {
     if n == 0 {
         return true;
@@ -44,7 +44,7 @@ fn repeats(v: u32, y: Value, n: u32, b: Argument, z: Value, c: Argument, w: Valu
 
 // The argument a fits its value y: a constant is the value, and a variable has it at the later places too.
 fn first_fits(a: Argument, y: Value, n: u32, b: Argument, z: Value, c: Argument, w: Value) -> bool
-    ensures { result ≡ fitsFirst (argumentOf a) y.0 (take n (argumentOf b ∷ argumentOf c ∷ [])) (take n (z.0 ∷ w.0 ∷ [])) }
+    ensures { result ≡ fits_first (argument_of a) y.0 (take n (argument_of b ∷ argument_of c ∷ [])) (take n (z.0 ∷ w.0 ∷ [])) }
 {
     match a {
         Argument::Variable(v) => repeats(v, y, n, b, z, c, w),
@@ -54,7 +54,7 @@ fn first_fits(a: Argument, y: Value, n: u32, b: Argument, z: Value, c: Argument,
 
 // The first n arguments fit their values.
 fn all_fit(n: u32, a: Argument, y: Value, b: Argument, z: Value, c: Argument, w: Value) -> bool
-    ensures { result ≡ fits (take n (argumentOf a ∷ argumentOf b ∷ argumentOf c ∷ [])) (take n (y.0 ∷ z.0 ∷ w.0 ∷ [])) }
+    ensures { result ≡ fits (take n (argument_of a ∷ argument_of b ∷ argument_of c ∷ [])) (take n (y.0 ∷ z.0 ∷ w.0 ∷ [])) }
 {
     if n == 0 {
         return true;
@@ -83,7 +83,7 @@ fn few(n: u32) -> u32
 
 // The row is an atom that matches the fact.
 pub fn matches(row: Row, fact: Fact) -> bool
-    ensures { result ≡ matchesRow (fact_of fact) (row_of row) }
+    ensures { result ≡ matches_row (fact_of fact) (row_of row) }
 {
     match row {
         Row::True => false,

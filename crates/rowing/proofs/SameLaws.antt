@@ -12,12 +12,12 @@ use borrow.Author.Tests.{eq-eqb, ne_eqb}
 use Rattle.text.specs.Words.{same}
 
 -- runs of other lengths are not the same
-pub same-lengths : (a b : List ℕ) → (length a ≡ length b → ⊥) → same a b ≡ false
+pub same_lengths : (a b : List ℕ) → (length a ≡ length b → ⊥) → same a b ≡ false
 unfolding same
-same-lengths [] [] h = absurd (h refl)
-same-lengths [] (y ∷ b) h = refl
-same-lengths (x ∷ a) [] h = refl
-same-lengths (x ∷ a) (y ∷ b) h = rw (same-lengths a b (λ e. h (ap suc e))) (none (eqb x y))
+same_lengths [] [] h = absurd (h refl)
+same_lengths [] (y ∷ b) h = refl
+same_lengths (x ∷ a) [] h = refl
+same_lengths (x ∷ a) (y ∷ b) h = rw (same_lengths a b (λ e. h (ap suc e))) (none (eqb x y))
   where
     none : (p : Bool) → (p && false) ≡ false
     none true = refl
@@ -34,8 +34,8 @@ module _ (a b : List ℕ) (i : ℕ) (l : Left a b i) where
   unfolding same
   step h = l.rest ∙ rw (drop-cons a i 0 h, drop-cons b i 0 (omega (arith, l.lengths)))
 
-  pub left-more : i < length a → get_or a i 0 ≡ get_or b i 0 → Left a b (i + 1)
-  left-more h e = record {
+  pub left_more : i < length a → get_or a i 0 ≡ get_or b i 0 → Left a b (i + 1)
+  left_more h e = record {
     lengths = l.lengths;
     inside = omega arith;
     rest = rw (add-one i) (step h ∙ rw (eq-eqb (get_or a i 0) (get_or b i 0) e));
@@ -44,8 +44,8 @@ module _ (a b : List ℕ) (i : ℕ) (l : Left a b i) where
   pub left_other : i < length a → (get_or a i 0 ≡ get_or b i 0 → ⊥) → false ≡ same a b
   left_other h n = sym (step h ∙ rw (ne_eqb (get_or a i 0) (get_or b i 0) n))
 
-  pub left-all : length a ≤ i → true ≡ same a b
+  pub left_all : length a ≤ i → true ≡ same a b
   unfolding same
-  left-all h =
+  left_all h =
       let e : i ≡ length a = omega (arith, l.inside) in
       sym (l.rest ∙ rw (e, drop-length a, l.lengths, drop-length b))

@@ -1,6 +1,6 @@
 -- A table of rows, nine numbers each, and the rows that it denotes: at most 64, or more. Assumes nothing: these are definitions.
 use Rattle.std.specs.Prelude.{ℕ, zero, suc, ◌+◌, ◌*◌, ◌≤◌, ◌<◌, ◌≡◌, List, [], ◌∷◌, ◌++◌, length, take, drop}
-use Rattle.text.specs.Emit.{Rowed, makeRow}
+use Rattle.text.specs.Emit.{Rowed, make_row}
 
 -- the first n rows of a table
 unfoldable pub chunks : ℕ → List ℕ → List (List ℕ)
@@ -22,4 +22,4 @@ pub record Denotes (flat : List ℕ) (count row : ℕ) (m : Rowed) : Type 0 wher
 pub record Makes (flat : List ℕ) (n : ℕ) (nine flat' : List ℕ) (count row : ℕ) : Type 0 where
   pub sized : length flat' ≡ length flat
   pub most : count ≤ 65
-  pub makes : (rows : List (List ℕ)) (x : List ℕ) → Holds flat n rows → (n ≤ 64 → x ≡ nine) → Denotes flat' count row (makeRow rows x)
+  pub makes : (rows : List (List ℕ)) (x : List ℕ) → Holds flat n rows → (n ≤ 64 → x ≡ nine) → Denotes flat' count row (make_row rows x)

@@ -4,14 +4,14 @@
 ghost use Rattle.std.specs.Prelude.{◌≡◌, ◌≤◌, ◌<◌, length};
 ghost use Rattle.text.specs.Emit.{negated};
 ghost use Rattle.rowing.specs.Denoted.{Makes};
-ghost use Rattle.rowing.specs.Framing.{plainNine, Turns, joinedRow, nottedRow, Late, Early};
+ghost use Rattle.rowing.specs.Framing.{plain_nine, Turns, joined_row, notted_row, Late, Early};
 
 use crate::table::{Made, make};
 
 // A row that names at most a row or slot and a row.
 pub fn plain(rows: &mut [u32], n: usize, kind: u32, p: u32, q: u32) -> Made
     requires { (length rows.old ≡ 576) × (n ≤ 65) }
-    ensures { Makes rows.old n (plainNine kind p q) rows.new result.count result.row }
+    ensures { Makes rows.old n (plain_nine kind p q) rows.new result.count result.row }
 {
     let nine = [kind, p, q, 0, 0, 0, 0, 0, 0];
     make(rows, n, &nine)
@@ -28,7 +28,7 @@ pub fn negate(rows: &mut [u32], m: Made) -> Made
 // A row of the kind over what is held and the last row.
 fn joined(rows: &mut [u32], kind: u32, held: u32, m: Made) -> Made
     requires { (length rows.old ≡ 576) × (m.count ≤ 65) }
-    ensures { Turns (joinedRow kind held) rows.old m.count m.row rows.new result.count result.row }
+    ensures { Turns (joined_row kind held) rows.old m.count m.row rows.new result.count result.row }
 {
     plain(rows, m.count, kind, held, m.row)
 }
@@ -36,7 +36,7 @@ fn joined(rows: &mut [u32], kind: u32, held: u32, m: Made) -> Made
 // The negation of a row of the kind over what is held and the negation of the last row.
 fn notted(rows: &mut [u32], kind: u32, held: u32, m: Made) -> Made
     requires { (length rows.old ≡ 576) × (m.count ≤ 65) }
-    ensures { Turns (nottedRow kind held) rows.old m.count m.row rows.new result.count result.row }
+    ensures { Turns (notted_row kind held) rows.old m.count m.row rows.new result.count result.row }
 {
     let inner = negate(rows, m);
     let outer = joined(rows, kind, held, inner);

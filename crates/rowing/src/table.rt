@@ -1,7 +1,7 @@
 // A table of rows, nine numbers each: the row with these numbers is found or made.
 ghost use Rattle.std.specs.Prelude.{◌≡◌, ◌+◌, ◌*◌, ◌≤◌, ◌<◌, length};
 ghost use Rattle.text.specs.Words.{same};
-ghost use Rattle.text.specs.Emit.{findRow};
+ghost use Rattle.text.specs.Emit.{find_row};
 ghost use Rattle.rowing.specs.Denoted.{chunks, Makes};
 
 // How many rows there are, 65 for more than 64, and the row asked for.
@@ -31,7 +31,7 @@ fn same_numbers(a: &[u32], b: &[u32]) -> bool
 // The first of n rows with these numbers, or n.
 fn find_row(rows: &[u32], n: usize, nine: &[u32]) -> usize
     requires { (n ≤ 64) × (length rows.now ≡ 576) }
-    ensures { (result ≡ findRow (chunks n rows.now) nine.now) × (result ≤ n) }
+    ensures { (result ≡ find_row (chunks n rows.now) nine.now) × (result ≤ n) }
 {
     let mut i = 0;
     while i < n {

@@ -9,44 +9,44 @@ use lib.Dec.{eqb, ltb}
 use borrow.Author.Tests as Tests
 use borrow.Author.Tests.{eq-eqb, ne_eqb, eqb-true, eqb-false, lt-ltb, le-leb, lt-leb}
 use Rattle.trees.specs.Kept.{all_below}
-use Rattle.trees.proofs.Tests.{EqCase, equal, other, eq-case, lt-or-ge, false-true, not-true, and-true-l, and_true_r}
-use Rattle.trees.proofs.KeptLaws.{all-at, all_of}
-use Rattle.meaning.specs.Rows.{field, Use, useOf, fieldRight, pairsUsed, pairRight, rowRight, disagree}
-use Rattle.rule.specs.Table.{code_of, useCoded, usedPairs}
-use Rattle.rule.specs.Checking.{pairsRight, agreesBefore, atomOf, otherCount}
-use Rattle.rule.proofs.TableLaws.{code-use}
+use Rattle.trees.proofs.Tests.{EqCase, equal, other, eq_case, lt_or_ge, false_true, not_true, and_true_l, and_true_r}
+use Rattle.trees.proofs.KeptLaws.{all_at, all_of}
+use Rattle.meaning.specs.Rows.{field, Use, use_of, field_right, pairs_used, pair_right, row_right, disagree}
+use Rattle.rule.specs.Table.{code_of, use_coded, used_pairs}
+use Rattle.rule.specs.Checking.{pairs_right, agrees_before, atom_of, other_count}
+use Rattle.rule.proofs.TableLaws.{code_use}
 
 -- a pair whose mark and value were read
 pub pair_read : (raw : List ℕ) (i j : ℕ) (used : Bool) {u : Bool} {m x : ℕ} {r : Bool} → u ≡ used → m ≡ field raw i (3 + 2 * j) → x ≡ field raw i (4 + 2 * j)
-    → r ≡ pairRight u m x → r ≡ pairRight used (field raw i (3 + 2 * j)) (field raw i (4 + 2 * j))
+    → r ≡ pair_right u m x → r ≡ pair_right used (field raw i (3 + 2 * j)) (field raw i (4 + 2 * j))
 pair_read raw i j used s p q e = e ∙ rw (s, p, q)
 
 -- the three pairs
-pub pairs-are : (raw : List ℕ) (i n : ℕ) {a b c : Bool}
-    → a ≡ pairRight (ltb 0 n) (field raw i 3) (field raw i 4) → b ≡ pairRight (ltb 1 n) (field raw i 5) (field raw i 6)
-    → c ≡ pairRight (ltb 2 n) (field raw i 7) (field raw i 8) → pairsRight raw i n ≡ ((a && b) && c)
-unfolding pairsRight all_below
-pairs-are raw i n p q r = rw (p, q, r)
+pub pairs_are : (raw : List ℕ) (i n : ℕ) {a b c : Bool}
+    → a ≡ pair_right (ltb 0 n) (field raw i 3) (field raw i 4) → b ≡ pair_right (ltb 1 n) (field raw i 5) (field raw i 6)
+    → c ≡ pair_right (ltb 2 n) (field raw i 7) (field raw i 8) → pairs_right raw i n ≡ ((a && b) && c)
+unfolding pairs_right all_below
+pairs_are raw i n p q r = rw (p, q, r)
 
 -- a field whose use was looked up
-pub field-read : (i x kind f : ℕ) {u : ℕ} {r : Bool} → f < 2 → u ≡ code_of kind f → r ≡ fieldRight i (useCoded u) x → r ≡ fieldRight i (useOf kind f) x
-field-read i x kind f l h e = e ∙ ap (λ (how : Use). fieldRight i how x) (ap useCoded h ∙ code-use kind f l)
+pub field_read : (i x kind f : ℕ) {u : ℕ} {r : Bool} → f < 2 → u ≡ code_of kind f → r ≡ field_right i (use_coded u) x → r ≡ field_right i (use_of kind f) x
+field_read i x kind f l h e = e ∙ ap (λ (how : Use). field_right i how x) (ap use_coded h ∙ code_use kind f l)
 
 -- a row of kind 0
-pub row_low : (raw : List ℕ) (i : ℕ) {k : ℕ} → k ≡ field raw i 0 → k ≡ 0 → false ≡ rowRight raw i
-unfolding rowRight
+pub row_low : (raw : List ℕ) (i : ℕ) {k : ℕ} → k ≡ field raw i 0 → k ≡ 0 → false ≡ row_right raw i
+unfolding row_right
 row_low raw i e h = rw (← e, h)
 
 -- a row of a kind over 7
-pub row-high : (raw : List ℕ) (i : ℕ) {k : ℕ} → k ≡ field raw i 0 → 7 < k → false ≡ rowRight raw i
-unfolding rowRight
-row-high raw i {k} e h = rw (← e, lt-leb k 7 h, and-false (ltb 0 k))
+pub row_high : (raw : List ℕ) (i : ℕ) {k : ℕ} → k ≡ field raw i 0 → 7 < k → false ≡ row_right raw i
+unfolding row_right
+row_high raw i {k} e h = rw (← e, lt-leb k 7 h, and-false (ltb 0 k))
 
 -- a row of one of the kinds
-pub row-parts : (raw : List ℕ) (i : ℕ) {k p q : ℕ} {a b : Bool} → k ≡ field raw i 0 → p ≡ field raw i 1 → q ≡ field raw i 2 → 0 < k → k ≤ 7
-    → a ≡ fieldRight i (useOf k 0) p → b ≡ fieldRight i (useOf k 1) q → rowRight raw i ≡ ((a && b) && pairsRight raw i (usedPairs k q))
-unfolding rowRight pairsRight pairsUsed usedPairs
-row-parts raw i {k} ek ep eq l h ea eb = rw (← ek, ← ep, ← eq, lt-ltb 0 k l, le-leb k 7 h, ← ea, ← eb)
+pub row_parts : (raw : List ℕ) (i : ℕ) {k p q : ℕ} {a b : Bool} → k ≡ field raw i 0 → p ≡ field raw i 1 → q ≡ field raw i 2 → 0 < k → k ≤ 7
+    → a ≡ field_right i (use_of k 0) p → b ≡ field_right i (use_of k 1) q → row_right raw i ≡ ((a && b) && pairs_right raw i (used_pairs k q))
+unfolding row_right pairs_right pairs_used used_pairs
+row_parts raw i {k} ek ep eq l h ea eb = rw (← ek, ← ep, ← eq, lt-ltb 0 k l, le-leb k 7 h, ← ea, ← eb)
 
 -- two atoms of one predicate, with different counts
 record Differ (raw : List ℕ) (i j : ℕ) : Type 0 where
@@ -62,66 +62,66 @@ differ_of raw i j e =
     let l = eqb (field raw j 0) 2 in
     let p = eqb (field raw i 1) (field raw j 1) in
     let q = eqb (field raw i 2) (field raw j 2) in
-    let kinds = and-true-l (k && l) (p && not q) e in
+    let kinds = and_true_l (k && l) (p && not q) e in
     let rest = and_true_r (k && l) (p && not q) e in
     record {
-      one = eqb-true (field raw i 0) 2 (and-true-l k l kinds);
+      one = eqb-true (field raw i 0) 2 (and_true_l k l kinds);
       two = eqb-true (field raw j 0) 2 (and_true_r k l kinds);
-      same = eqb-true (field raw i 1) (field raw j 1) (and-true-l p (not q) rest);
-      counts = eqb-false (field raw i 2) (field raw j 2) (Tests.not-true q (and_true_r p (not q) rest));
+      same = eqb-true (field raw i 1) (field raw j 1) (and_true_l p (not q) rest);
+      counts = eqb-false (field raw i 2) (field raw j 2) (Tests.not_true q (and_true_r p (not q) rest));
     }
 
-of-differ : (raw : List ℕ) (i j : ℕ) → Differ raw i j → disagree raw i j ≡ true
+of_differ : (raw : List ℕ) (i j : ℕ) → Differ raw i j → disagree raw i j ≡ true
 unfolding disagree
-of-differ raw i j d = rw (eq-eqb (field raw i 0) 2 d.one, eq-eqb (field raw j 0) 2 d.two, eq-eqb (field raw i 1) (field raw j 1) d.same, ne_eqb (field raw i 2) (field raw j 2) d.counts)
+of_differ raw i j d = rw (eq-eqb (field raw i 0) 2 d.one, eq-eqb (field raw j 0) 2 d.two, eq-eqb (field raw i 1) (field raw j 1) d.same, ne_eqb (field raw i 2) (field raw j 2) d.counts)
 
 -- every earlier row agrees
-agrees-before : (raw : List ℕ) (i : ℕ) → ((j : ℕ) → j < i → Differ raw i j → ⊥) → true ≡ agreesBefore raw i
-unfolding agreesBefore
-agrees-before raw i h = sym (all_of i (λ j. not (disagree raw i j)) (λ j l. rw (not-true (disagree raw i j) (λ e. h j l (differ_of raw i j e)))))
+agrees_before_law : (raw : List ℕ) (i : ℕ) → ((j : ℕ) → j < i → Differ raw i j → ⊥) → true ≡ agrees_before raw i
+unfolding agrees_before
+agrees_before_law raw i h = sym (all_of i (λ j. not (disagree raw i j)) (λ j l. rw (not_true (disagree raw i j) (λ e. h j l (differ_of raw i j e)))))
 
 -- an earlier row that disagrees
-not-before : (raw : List ℕ) (i j : ℕ) → j < i → Differ raw i j → false ≡ agreesBefore raw i
-unfolding agreesBefore
-not-before raw i j l d =
-    sym (not-true (all_below i (λ j. not (disagree raw i j))) (λ e. false-true refl (rw (of-differ raw i j d) at (all-at i (λ j. not (disagree raw i j)) e j l))))
+not_before : (raw : List ℕ) (i j : ℕ) → j < i → Differ raw i j → false ≡ agrees_before raw i
+unfolding agrees_before
+not_before raw i j l d =
+    sym (not_true (all_below i (λ j. not (disagree raw i j))) (λ e. false_true refl (rw (of_differ raw i j d) at (all_at i (λ j. not (disagree raw i j)) e j l))))
 
 -- a row that is no atom
-pub no-atom : (raw : List ℕ) (i : ℕ) {k : ℕ} → k ≡ field raw i 0 → (k ≡ 2 → ⊥) → true ≡ agreesBefore raw i
-no-atom raw i e h = agrees-before raw i (λ j l d. h (e ∙ d.one))
+pub no_atom : (raw : List ℕ) (i : ℕ) {k : ℕ} → k ≡ field raw i 0 → (k ≡ 2 → ⊥) → true ≡ agrees_before raw i
+no_atom raw i e h = agrees_before_law raw i (λ j l d. h (e ∙ d.one))
 
 -- the row at place i is an atom of the predicate p, and no row from j on, before it, is one
-module _ (raw : List ℕ) (i j p : ℕ) (is : p ≡ field raw i 1) (none : (k : ℕ) → j ≤ k → k < i → atomOf raw k p ≡ false) where
+module _ (raw : List ℕ) (i j p : ℕ) (is : p ≡ field raw i 1) (none : (k : ℕ) → j ≤ k → k < i → atom_of raw k p ≡ false) where
   apart : (k : ℕ) → j ≤ k → k < i → Differ raw i k → ⊥
-  unfolding atomOf
-  apart k h l d = false-true (none k h l) (rw (eq-eqb (field raw k 0) 2 d.two, eq-eqb p (field raw k 1) (is ∙ d.same)))
+  unfolding atom_of
+  apart k h l d = false_true (none k h l) (rw (eq-eqb (field raw k 0) 2 d.two, eq-eqb p (field raw k 1) (is ∙ d.same)))
 
-  pub first-atom : j ≡ 0 → true ≡ agreesBefore raw i
-  first-atom z = agrees-before raw i (λ k l. apart k (omega arith) l)
+  pub first_atom : j ≡ 0 → true ≡ agrees_before raw i
+  first_atom z = agrees_before_law raw i (λ k l. apart k (omega arith) l)
 
 -- the nearest atom of its predicate before the row at place i decides, where that one agrees with all before it
-pub nearest-atom : (raw : List ℕ) (i j p : ℕ) {q s : ℕ} → field raw i 0 ≡ 2 → p ≡ field raw i 1 → j < i → ((k : ℕ) → j < k → k < i → atomOf raw k p ≡ false)
-    → atomOf raw j p ≡ true → agreesBefore raw j ≡ true → q ≡ field raw j 2 → s ≡ field raw i 2 → eqb q s ≡ agreesBefore raw i
-unfolding atomOf
-nearest-atom raw i j p two is l none here before eq es = rw (eq, es) (go (eqb (field raw j 2) (field raw i 2)) (eq-case (field raw j 2) (field raw i 2)))
+pub nearest_atom : (raw : List ℕ) (i j p : ℕ) {q s : ℕ} → field raw i 0 ≡ 2 → p ≡ field raw i 1 → j < i → ((k : ℕ) → j < k → k < i → atom_of raw k p ≡ false)
+    → atom_of raw j p ≡ true → agrees_before raw j ≡ true → q ≡ field raw j 2 → s ≡ field raw i 2 → eqb q s ≡ agrees_before raw i
+unfolding atom_of
+nearest_atom raw i j p two is l none here before eq es = rw (eq, es) (go (eqb (field raw j 2) (field raw i 2)) (eq_case (field raw j 2) (field raw i 2)))
   where
     kind : field raw j 0 ≡ 2
-    kind = eqb-true (field raw j 0) 2 (and-true-l (eqb (field raw j 0) 2) (eqb p (field raw j 1)) here)
+    kind = eqb-true (field raw j 0) 2 (and_true_l (eqb (field raw j 0) 2) (eqb p (field raw j 1)) here)
 
     same : p ≡ field raw j 1
     same = eqb-true p (field raw j 1) (and_true_r (eqb (field raw j 0) 2) (eqb p (field raw j 1)) here)
 
-    go : (t : Bool) → EqCase (field raw j 2) (field raw i 2) t → t ≡ agreesBefore raw i
-    go false (other h) = not-before raw i j l (record { one = two; two = kind; same = sym is ∙ same; counts = λ e. h (sym e) })
-    go true (equal e) = agrees-before raw i (λ k h d. ⊎_elim
-        (λ q. false-true (sym (not-before raw j k q (record { one = kind; two = d.two; same = sym same ∙ (is ∙ d.same); counts = λ f. d.counts (sym e ∙ f) }))) before)
+    go : (t : Bool) → EqCase (field raw j 2) (field raw i 2) t → t ≡ agrees_before raw i
+    go false (other h) = not_before raw i j l (record { one = two; two = kind; same = sym is ∙ same; counts = λ e. h (sym e) })
+    go true (equal e) = agrees_before_law raw i (λ k h d. ⊎_elim
+        (λ q. false_true (sym (not_before raw j k q (record { one = kind; two = d.two; same = sym same ∙ (is ∙ d.same); counts = λ f. d.counts (sym e ∙ f) }))) before)
         (λ q. ⊎_elim
         (λ r. apart raw i (j + 1) p is (λ m u v. none m (omega arith) v) k (omega arith) h d)
         (λ r. let z : k ≡ j = omega arith in d.counts (rw z (sym e)))
-        (lt-or-ge j k))
-        (lt-or-ge k j))
+        (lt_or_ge j k))
+        (lt_or_ge k j))
 
 -- an atom with another count
-pub other-parts : (raw : List ℕ) (i p n : ℕ) {t : Bool} {q : ℕ} → t ≡ atomOf raw i p → q ≡ field raw i 2 → otherCount raw i p n ≡ (t && not (eqb (min q 3) n))
-unfolding otherCount
-other-parts raw i p n e f = rw (e, f)
+pub other_parts : (raw : List ℕ) (i p n : ℕ) {t : Bool} {q : ℕ} → t ≡ atom_of raw i p → q ≡ field raw i 2 → other_count raw i p n ≡ (t && not (eqb (min q 3) n))
+unfolding other_count
+other_parts raw i p n e f = rw (e, f)

@@ -4,43 +4,43 @@ use Rattle.trees.specs.Kept.{all_below}
 use Rattle.meaning.specs.declared.Event.{Event}
 use Rattle.meaning.specs.declared.Fact.{Fact as Given}
 use Rattle.meaning.specs.Qtl.{free}
-use Rattle.meaning.specs.Rows.{field, pairRight, disagree, rowCount, ruleOf, formulaAt, Found, right, fault, checkRows}
-use Rattle.meaning.specs.Outcome.{factRight, countRight}
+use Rattle.meaning.specs.Rows.{field, pair_right, disagree, count_of_rows, rule_of, formula_at, Found, right, fault, check_rows}
+use Rattle.meaning.specs.Outcome.{fact_right, count_right}
 use Rattle.rule.specs.declared.Checked.{Checked}
 use Rattle.rule.specs.declared.Checked.TheVariants.{Right, Fault}
 use Rattle.rule.specs.declared.Rule.{Rule}
-use Rattle.rule.specs.Masks.{hasBit}
+use Rattle.rule.specs.Masks.{has_bit}
 
 -- the three pairs of the row at place i, of which the first n are used
-unfoldable pub pairsRight : List ℕ → ℕ → ℕ → Bool
-pairsRight raw i n = all_below 3 (λ j. pairRight (ltb j n) (field raw i (3 + 2 * j)) (field raw i (4 + 2 * j)))
+unfoldable pub pairs_right : List ℕ → ℕ → ℕ → Bool
+pairs_right raw i n = all_below 3 (λ j. pair_right (ltb j n) (field raw i (3 + 2 * j)) (field raw i (4 + 2 * j)))
 
 -- the row at place i disagrees with no earlier one
-unfoldable pub agreesBefore : List ℕ → ℕ → Bool
-agreesBefore raw i = all_below i (λ j. not (disagree raw i j))
+unfoldable pub agrees_before : List ℕ → ℕ → Bool
+agrees_before raw i = all_below i (λ j. not (disagree raw i j))
 
 -- the row at place i is an atom of the predicate p
-unfoldable pub atomOf : List ℕ → ℕ → ℕ → Bool
-atomOf raw i p = eqb (field raw i 0) 2 && eqb p (field raw i 1)
+unfoldable pub atom_of : List ℕ → ℕ → ℕ → Bool
+atom_of raw i p = eqb (field raw i 0) 2 && eqb p (field raw i 1)
 
 -- the row at place i is an atom of the predicate p, and has not n arguments
-unfoldable pub otherCount : List ℕ → ℕ → ℕ → ℕ → Bool
-otherCount raw i p n = atomOf raw i p && not (eqb (min (field raw i 2) 3) n)
+unfoldable pub other_count : List ℕ → ℕ → ℕ → ℕ → Bool
+other_count raw i p n = atom_of raw i p && not (eqb (min (field raw i 2) 3) n)
 
 -- what the check found
-unfoldable pub foundOf : Checked → Found
-foundOf Right = right
-foundOf (Fault p) = fault p
+unfoldable pub found_of : Checked → Found
+found_of Right = right
+found_of (Fault p) = fault p
 
 -- a rule with a fault at the place p
-unfoldable pub refusedAt : ℕ → Rule
-refusedAt p = record { checked = Fault p; free = replicate 64 0 }
+unfoldable pub refused_at : ℕ → Rule
+refused_at p = record { checked = Fault p; free = replicate 64 0 }
 
 -- the free variables of each row of a right rule
 pub record Free (raw masks : List ℕ) : Type 0 where
   pub small : (i : ℕ) → get_or masks i 0 < 16
-  pub bits : (i v : ℕ) → i < rowCount raw → v < 4 → hasBit (get_or masks i 0) v ≡ free (formulaAt (ruleOf raw) i) v
-  pub rest : (i : ℕ) → rowCount raw ≤ i → get_or masks i 0 ≡ 0
+  pub bits : (i v : ℕ) → i < count_of_rows raw → v < 4 → has_bit (get_or masks i 0) v ≡ free (formula_at (rule_of raw) i) v
+  pub rest : (i : ℕ) → count_of_rows raw ≤ i → get_or masks i 0 ≡ 0
 
 -- the masks that go with what was found: a faulty rule has none
 abbrev pub MasksFor : Found → List ℕ → List ℕ → Type 0
@@ -49,14 +49,14 @@ MasksFor (fault p) raw masks = masks ≡ replicate 64 0
 
 -- the check of a rule
 pub record Checks (raw : List ℕ) (r : Rule) : Type 0 where
-  pub found : foundOf r.checked ≡ checkRows raw
+  pub found : found_of r.checked ≡ check_rows raw
   pub size : length r.free ≡ 64
-  pub masks : MasksFor (checkRows raw) raw r.free
+  pub masks : MasksFor (check_rows raw) raw r.free
 
 -- the answer for a fact of this predicate and count
 pub record FactAgrees (raw : List ℕ) (predicate count : ℕ) (r : Bool) : Type 0 where
-  pub each : (f : Given) → f.predicate ≡ predicate → f.count ≡ count → r ≡ factRight (ruleOf raw) f
+  pub each : (f : Given) → f.predicate ≡ predicate → f.count ≡ count → r ≡ fact_right (rule_of raw) f
 
 -- the answer for an event
 abbrev pub Agrees : List ℕ → Event → Bool → Type 0
-Agrees raw e r = r ≡ countRight (ruleOf raw) e
+Agrees raw e r = r ≡ count_right (rule_of raw) e

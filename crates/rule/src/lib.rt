@@ -5,8 +5,8 @@ mod right;
 
 ghost use Rattle.std.specs.Prelude.{◌≡◌, ◌+◌, ◌*◌, ◌<◌, ◌≤◌, length};
 ghost use Rattle.meaning.specs.Rows.{field};
-ghost use Rattle.rule.specs.Decoded.{argumentRead, Decodes};
-ghost use Rattle.rule.specs.Checking.{refusedAt, Checks, FactAgrees, Agrees};
+ghost use Rattle.rule.specs.Decoded.{argument_read, Decodes};
+ghost use Rattle.rule.specs.Checking.{refused_at, Checks, FactAgrees, Agrees};
 
 use meaning::{Event, Value};
 
@@ -53,7 +53,7 @@ fn field_of(rows: &[u32], i: usize, f: usize) -> u32
 
 // The argument of a mark and a value.
 fn argument_of(mark: u32, value: u32) -> Argument
-    ensures { result ≡ argumentRead mark value }
+    ensures { result ≡ argument_read mark value }
 {
     if mark == 0 {
         Argument::Variable(value)
@@ -89,7 +89,7 @@ pub fn row_at(rows: &[u32], i: usize) -> Row
 // A rule with a fault at `place`.
 fn refused(place: usize) -> Rule
     requires { place < 64 }
-    ensures { result ≡ refusedAt place }
+    ensures { result ≡ refused_at place }
 {
     Rule {
         checked: Checked::Fault(place as u32),

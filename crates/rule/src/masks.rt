@@ -1,8 +1,8 @@
 // Free variables as numbers: bit v of a mask says that the variable v is free.
 ghost use Rattle.std.specs.Prelude.{◌≡◌, not, ◌&&◌, ◌||◌, [], ◌∷◌, eqb, length, get_or, take};
-ghost use Rattle.meaning.specs.Qtl.{freeArguments};
-ghost use Rattle.rule.specs.Decoded.{argumentOf, row_of};
-ghost use Rattle.rule.specs.Masks.{hasBit, mask_of, freeOfRow};
+ghost use Rattle.meaning.specs.Qtl.{free_arguments};
+ghost use Rattle.rule.specs.Decoded.{argument_of, row_of};
+ghost use Rattle.rule.specs.Masks.{has_bit, mask_of, free_of_row};
 
 use crate::{Argument, Row};
 
@@ -21,14 +21,14 @@ fn single(v: u32) -> u32
 
 // The variables of both masks together.
 fn join(a: u32, b: u32) -> u32
-    ensures { result ≡ mask_of (λ v. hasBit a v || hasBit b v) }
+    ensures { result ≡ mask_of (λ v. has_bit a v || has_bit b v) }
 {
     (a | b) % 16
 }
 
 // The variables of the mask but `x`.
 fn without(x: u32, m: u32) -> u32
-    ensures { result ≡ mask_of (λ v. not (eqb x v) && hasBit m v) }
+    ensures { result ≡ mask_of (λ v. not (eqb x v) && has_bit m v) }
 {
     m & (15 - single(x))
 }
@@ -36,7 +36,7 @@ fn without(x: u32, m: u32) -> u32
 // The mask of the row at place `p`: four bits.
 fn at(free: &[u32; 64], p: u32) -> u32
     requires { length free.now ≡ 64 }
-    ensures { result ≡ mask_of (hasBit (get_or free.now p 0)) }
+    ensures { result ≡ mask_of (has_bit (get_or free.now p 0)) }
 {
     if p < 64 {
         return free[p as usize] % 16;
@@ -46,7 +46,7 @@ fn at(free: &[u32; 64], p: u32) -> u32
 
 // The mask of an argument.
 fn of_argument(a: Argument) -> u32
-    ensures { result ≡ mask_of (freeArguments (argumentOf a ∷ [])) }
+    ensures { result ≡ mask_of (free_arguments (argument_of a ∷ [])) }
 {
     match a {
         Argument::Variable(v) => single(v),
@@ -56,7 +56,7 @@ fn of_argument(a: Argument) -> u32
 
 // The mask of the first `q` arguments.
 fn of_arguments(q: u32, a: Argument, b: Argument, c: Argument) -> u32
-    ensures { result ≡ mask_of (freeArguments (take q (argumentOf a ∷ argumentOf b ∷ argumentOf c ∷ []))) }
+    ensures { result ≡ mask_of (free_arguments (take q (argument_of a ∷ argument_of b ∷ argument_of c ∷ []))) }
 {
     if q == 0 {
         return 0;
@@ -74,7 +74,7 @@ fn of_arguments(q: u32, a: Argument, b: Argument, c: Argument) -> u32
 // The mask of a row, over those of the rows that it names.
 pub fn of_row(row: Row, free: &[u32; 64]) -> u32
     requires { length free.now ≡ 64 }
-    ensures { result ≡ mask_of (freeOfRow free.now (row_of row)) }
+    ensures { result ≡ mask_of (free_of_row free.now (row_of row)) }
 {
     match row {
         Row::True => 0,

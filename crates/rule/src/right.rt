@@ -1,8 +1,8 @@
 // When a row is right: its fields by the table, its pairs, and its count beside those of earlier atoms.
 ghost use Rattle.std.specs.Prelude.{◌≡◌, true, ℕ, ◌+◌, ◌*◌, ◌<◌, ◌≤◌, length};
-ghost use Rattle.meaning.specs.Rows.{field, fieldRight, pairRight, rowRight};
-ghost use Rattle.rule.specs.Table.{code_of, useCoded, usedPairs};
-ghost use Rattle.rule.specs.Checking.{pairsRight, agreesBefore, atomOf, otherCount};
+ghost use Rattle.meaning.specs.Rows.{field, field_right, pair_right, row_right};
+ghost use Rattle.rule.specs.Table.{code_of, use_coded, used_pairs};
+ghost use Rattle.rule.specs.Checking.{pairs_right, agrees_before, atom_of, other_count};
 
 use super::field_of;
 
@@ -29,7 +29,7 @@ fn use_of(kind: u32, f: usize) -> u8
 
 // The number `x` is right in a field of the row at place `i` that is used so.
 fn field_right(i: usize, code: u8, x: u32) -> bool
-    ensures { result ≡ fieldRight i (useCoded code) x }
+    ensures { result ≡ field_right i (use_coded code) x }
 {
     match code {
         0 => x == 0,
@@ -42,7 +42,7 @@ fn field_right(i: usize, code: u8, x: u32) -> bool
 
 // A pair is an argument where it is used, and 0 where it is not.
 fn pair_right(used: bool, mark: u32, x: u32) -> bool
-    ensures { result ≡ pairRight used mark x }
+    ensures { result ≡ pair_right used mark x }
 {
     if !used {
         if mark != 0 {
@@ -59,7 +59,7 @@ fn pair_right(used: bool, mark: u32, x: u32) -> bool
 // How many pairs a row of this kind uses, where its field q is `q`.
 fn pairs_used(kind: u32, q: u32) -> u32
     requires { (0 < kind) × (kind ≤ 7) }
-    ensures { result ≡ usedPairs kind q }
+    ensures { result ≡ used_pairs kind q }
 {
     if use_of(kind, 2) == 0 {
         return 0;
@@ -70,7 +70,7 @@ fn pairs_used(kind: u32, q: u32) -> u32
 // The three pairs of the row at place `i`, of which the first `used` are used.
 fn pairs_right(rows: &[u32], i: usize, used: u32) -> bool
     requires { 9 * i + 9 ≤ length rows.now }
-    ensures { result ≡ pairsRight rows.now i used }
+    ensures { result ≡ pairs_right rows.now i used }
 {
     if !pair_right(0 < used, field_of(rows, i, 3), field_of(rows, i, 4)) {
         return false;
@@ -84,7 +84,7 @@ fn pairs_right(rows: &[u32], i: usize, used: u32) -> bool
 // The row at place `i` keeps the row rules.
 pub fn row_right(rows: &[u32], i: usize) -> bool
     requires { 9 * i + 9 ≤ length rows.now }
-    ensures { result ≡ rowRight rows.now i }
+    ensures { result ≡ row_right rows.now i }
 {
     let kind = field_of(rows, i, 0);
     if kind == 0 {
@@ -106,7 +106,7 @@ pub fn row_right(rows: &[u32], i: usize) -> bool
 // The row at place `i` is an atom of this predicate.
 fn is_atom_of(rows: &[u32], i: usize, predicate: u32) -> bool
     requires { 9 * i + 9 ≤ length rows.now }
-    ensures { result ≡ atomOf rows.now i predicate }
+    ensures { result ≡ atom_of rows.now i predicate }
 {
     if field_of(rows, i, 0) != 2 {
         return false;
@@ -116,8 +116,8 @@ fn is_atom_of(rows: &[u32], i: usize, predicate: u32) -> bool
 
 // The row at place `i` disagrees with no earlier row, where the earlier ones agree: the nearest atom of its predicate decides.
 pub fn counts_agree(rows: &[u32], i: usize) -> bool
-    requires { (9 * i + 9 ≤ length rows.now) × ((j : ℕ) → j < i → agreesBefore rows.now j ≡ true) }
-    ensures { result ≡ agreesBefore rows.now i }
+    requires { (9 * i + 9 ≤ length rows.now) × ((j : ℕ) → j < i → agrees_before rows.now j ≡ true) }
+    ensures { result ≡ agrees_before rows.now i }
 {
     if field_of(rows, i, 0) != 2 {
         return true;
@@ -136,7 +136,7 @@ pub fn counts_agree(rows: &[u32], i: usize) -> bool
 // The row at place `i` is an atom of this predicate with another count. A count over 3 reads as 3 arguments.
 pub fn other_count(rows: &[u32], i: usize, predicate: u32, count: u32) -> bool
     requires { 9 * i + 9 ≤ length rows.now }
-    ensures { result ≡ otherCount rows.now i predicate count }
+    ensures { result ≡ other_count rows.now i predicate count }
 {
     if !is_atom_of(rows, i, predicate) {
         return false;

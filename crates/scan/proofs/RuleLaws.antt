@@ -7,20 +7,20 @@ use mathlib.Core.List.{List, [], ◌∷◌}
 use lib.ListN.{get_or}
 use Rattle.text.specs.Words.{Word, name, number, constant, prefix, binary, quantifier, opening, closing, comma, dot, once, historically, previously, negation, sinces, ands, ors, implies, universal, existential}
 use Rattle.text.specs.Shape.{Mode, operand, operator, call, slot, point, argument, separator, nowhere, Shape, halt, shut, next}
-use Rattle.spelling.specs.Codes.{code_of, modeNumber, nexts, nextMode, kind_of, modeAfter}
-use Rattle.spelling.proofs.KindLaws.{next-is}
+use Rattle.spelling.specs.Codes.{code_of, mode_number, nexts, next_mode, kind_of, mode_after}
+use Rattle.spelling.proofs.KindLaws.{next_is}
 
 -- modes have numbers below 8
-pub mode-lt : (m : Mode) → modeNumber m < 8
-unfolding modeNumber
-mode-lt operand = omega arith
-mode-lt operator = omega arith
-mode-lt call = omega arith
-mode-lt slot = omega arith
-mode-lt point = omega arith
-mode-lt argument = omega arith
-mode-lt separator = omega arith
-mode-lt nowhere = omega arith
+pub mode_lt : (m : Mode) → mode_number m < 8
+unfolding mode_number
+mode_lt operand = omega arith
+mode_lt operator = omega arith
+mode_lt call = omega arith
+mode_lt slot = omega arith
+mode_lt point = omega arith
+mode_lt argument = omega arith
+mode_lt separator = omega arith
+mode_lt nowhere = omega arith
 
 -- no parenthesis
 abbrev Plain : Word → Type 0
@@ -60,20 +60,20 @@ plain_code closing p = absurd p
 plain_code comma p = record { opened = λ e. omega arith; closed = λ e. omega arith }
 plain_code dot p = record { opened = λ e. omega arith; closed = λ e. omega arith }
 
-tabled : (m : Mode) (w : Word) → nextMode (modeNumber m) (code_of w) ≡ modeAfter (modeNumber m) w
-tabled m w = next-is (modeNumber m) w
+tabled : (m : Mode) (w : Word) → next_mode (mode_number m) (code_of w) ≡ mode_after (mode_number m) w
+tabled m w = next_is (mode_number m) w
 
 -- what a word does: it stops; it opens a parenthesis, or arguments; it closes a parenthesis, or arguments; it goes on
 pub data Rules (m : Mode) (d : ℕ) (w : Word) : Type 0 where
-  stops : nextMode (modeNumber m) (code_of w) ≡ 7 → next m d w ≡ halt → Rules m d w
-  opens : nextMode (modeNumber m) (code_of w) ≡ 0 → code_of w ≡ 14 → next m d w ≡ record { mode = operand; depth = suc d } → Rules m d w
-  calls : nextMode (modeNumber m) (code_of w) ≡ 5 → code_of w ≡ 14 → next m d w ≡ record { mode = argument; depth = d } → Rules m d w
-  closes : nextMode (modeNumber m) (code_of w) ≡ 1 → code_of w ≡ 15 → (modeNumber m ≡ 6 → ⊥) → next m d w ≡ shut d → Rules m d w
-  ends : nextMode (modeNumber m) (code_of w) ≡ 1 → code_of w ≡ 15 → modeNumber m ≡ 6 → next m d w ≡ record { mode = operator; depth = d } → Rules m d w
-  goes : (k : Mode) → nextMode (modeNumber m) (code_of w) ≡ modeNumber k → (modeNumber k ≡ 7 → ⊥) → Other w → next m d w ≡ record { mode = k; depth = d } → Rules m d w
+  stops : next_mode (mode_number m) (code_of w) ≡ 7 → next m d w ≡ halt → Rules m d w
+  opens : next_mode (mode_number m) (code_of w) ≡ 0 → code_of w ≡ 14 → next m d w ≡ record { mode = operand; depth = suc d } → Rules m d w
+  calls : next_mode (mode_number m) (code_of w) ≡ 5 → code_of w ≡ 14 → next m d w ≡ record { mode = argument; depth = d } → Rules m d w
+  closes : next_mode (mode_number m) (code_of w) ≡ 1 → code_of w ≡ 15 → (mode_number m ≡ 6 → ⊥) → next m d w ≡ shut d → Rules m d w
+  ends : next_mode (mode_number m) (code_of w) ≡ 1 → code_of w ≡ 15 → mode_number m ≡ 6 → next m d w ≡ record { mode = operator; depth = d } → Rules m d w
+  goes : (k : Mode) → next_mode (mode_number m) (code_of w) ≡ mode_number k → (mode_number k ≡ 7 → ⊥) → Other w → next m d w ≡ record { mode = k; depth = d } → Rules m d w
 
 pub rules : (m : Mode) (d : ℕ) (w : Word) → Rules m d w
-unfolding next halt modeNumber nexts kind_of modeAfter code_of
+unfolding next halt mode_number nexts kind_of mode_after code_of
 rules operand d (name x) = goes call (tabled operand (name x)) (λ e. omega arith) (plain_code (name x) tt) refl
 rules operand d (number ds) = stops (tabled operand (number ds)) refl
 rules operand d (constant b) = goes operator (tabled operand (constant b)) (λ e. omega arith) (plain_code (constant b) tt) refl

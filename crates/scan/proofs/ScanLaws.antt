@@ -9,55 +9,55 @@ use mathlib.Core.List.{List, [], ◌∷◌}
 use mathlib.Core.Logic.{◌⊎◌, inl, inr, ⊎_elim}
 use lib.ListN.{length, drop, get_or}
 use lib.Seq.{drop-cons, drop-length}
-use Rattle.trees.proofs.Tests.{false-true}
+use Rattle.trees.proofs.Tests.{false_true}
 use Rattle.text.specs.Grammar.{Reading, RuleText, HasReading, Place}
 use Rattle.text.specs.Machine.{Stage, wants, ended, named, binds, bound, argues, argued, stopped, Result, refused, reads}
-use Rattle.text.specs.Reader.{Pending, gap, letters, numerals, dash, State, at, grows, joins, counts, step, run, finish, start, read, placeFrom, place_of}
-use Rattle.text.specs.Shape.{shape, isRead, parens}
+use Rattle.text.specs.Reader.{Pending, gap, letters, numerals, dash, State, at, grows, joins, counts, step, run, finish, start, read, place_from, place_of}
+use Rattle.text.specs.Shape.{shape, is_read, parens}
 use Rattle.text.proofs.RuleTexts.{correct, complete, place}
 use Rattle.text.proofs.GoesOnLaws.{Going, Alive}
-use Rattle.text.proofs.AliveLaws.{step-next, place-going, place_here}
-use Rattle.text.proofs.FoundLaws.{stop-reads}
-use Rattle.spelling.specs.Codes.{modeNumber}
+use Rattle.text.proofs.AliveLaws.{step_next, place_going, place_here}
+use Rattle.text.proofs.FoundLaws.{stop_reads}
+use Rattle.spelling.specs.Codes.{mode_number}
 use Rattle.scan.specs.Looks.{Shaped, Sound, Looks, Steps, Ending}
 
-going-mode : (t : Stage) → (t ≡ stopped → ⊥) → modeNumber (shape t).mode < 7
-unfolding modeNumber shape
-going-mode (wants ks) n = omega arith
-going-mode (ended f ks) n = omega arith
-going-mode (named p ks) n = omega arith
-going-mode (binds q ks) n = omega arith
-going-mode (bound q x ks) n = omega arith
-going-mode (argues p gs ks) n = omega arith
-going-mode (argued p gs ks) n = omega arith
-going-mode stopped n = absurd (n refl)
+going_mode : (t : Stage) → (t ≡ stopped → ⊥) → mode_number (shape t).mode < 7
+unfolding mode_number shape
+going_mode (wants ks) n = omega arith
+going_mode (ended f ks) n = omega arith
+going_mode (named p ks) n = omega arith
+going_mode (binds q ks) n = omega arith
+going_mode (bound q x ks) n = omega arith
+going_mode (argues p gs ks) n = omega arith
+going_mode (argued p gs ks) n = omega arith
+going_mode stopped n = absurd (n refl)
 
 no_joins : joins stopped ≡ true → ⊥
 unfolding joins
-no_joins e = false-true refl e
+no_joins e = false_true refl e
 
-no-grows : grows stopped ≡ true → ⊥
+no_grows : grows stopped ≡ true → ⊥
 unfolding grows
-no-grows e = false-true refl e
+no_grows e = false_true refl e
 
-no-counts : counts stopped ≡ true → ⊥
+no_counts : counts stopped ≡ true → ⊥
 unfolding counts
-no-counts e = false-true refl e
+no_counts e = false_true refl e
 
 -- a state that can go on has a mode below 7, and a stopped one has not
-alive-mode : (text : List ℕ) (i pending from mode depth : ℕ) (s : State) → Looks text i pending from mode depth s → Alive s → mode < 7
-alive-mode text i pending from mode depth (at gap t) l a = rw l.1.mode-is (going-mode t (λ e. subst-going t e a))
+alive_mode : (text : List ℕ) (i pending from mode depth : ℕ) (s : State) → Looks text i pending from mode depth s → Alive s → mode < 7
+alive_mode text i pending from mode depth (at gap t) l a = rw l.1.mode_is (going_mode t (λ e. subst_going t e a))
   where
-    subst-going : (t : Stage) → t ≡ stopped → Going t → ⊥
-    subst-going t e g = rw e at g
-alive-mode text i pending from mode depth (at (letters w) t) l a =
-    rw l.1.mode-is (going-mode t (λ e. ⊎_elim (λ g. no-grows (rw e at g)) (λ g. no_joins (rw e at g.0)) a))
-alive-mode text i pending from mode depth (at (numerals w) t) l a = rw l.1.mode-is (going-mode t (λ e. no-counts (rw e at a)))
-alive-mode text i pending from mode depth (at dash t) l a = rw l.1.mode-is (going-mode t (λ e. no_joins (rw e at a)))
+    subst_going : (t : Stage) → t ≡ stopped → Going t → ⊥
+    subst_going t e g = rw e at g
+alive_mode text i pending from mode depth (at (letters w) t) l a =
+    rw l.1.mode_is (going_mode t (λ e. ⊎_elim (λ g. no_grows (rw e at g)) (λ g. no_joins (rw e at g.0)) a))
+alive_mode text i pending from mode depth (at (numerals w) t) l a = rw l.1.mode_is (going_mode t (λ e. no_counts (rw e at a)))
+alive_mode text i pending from mode depth (at dash t) l a = rw l.1.mode_is (going_mode t (λ e. no_joins (rw e at a)))
 
-stopped-mode : (text : List ℕ) (i pending from mode depth : ℕ) → Looks text i pending from mode depth (at gap stopped) → mode ≡ 7
-unfolding shape modeNumber
-stopped-mode text i pending from mode depth l = l.1.mode-is
+stopped_mode : (text : List ℕ) (i pending from mode depth : ℕ) → Looks text i pending from mode depth (at gap stopped) → mode ≡ 7
+unfolding shape mode_number
+stopped_mode text i pending from mode depth l = l.1.mode_is
 
 -- the bytes passed have led to a state that can go on, and what is left decides
 pub record Scanning (text : List ℕ) (i pending from mode depth : ℕ) : Type 0 where
@@ -67,18 +67,18 @@ pub record Scanning (text : List ℕ) (i pending from mode depth : ℕ) : Type 0
   pub looks : Looks text i pending from mode depth state
   pub alive : Alive state
   pub reading : read text ≡ finish (run state (drop i text))
-  pub placing : place_of text ≡ i + placeFrom state (drop i text)
+  pub placing : place_of text ≡ i + place_from state (drop i text)
 
 pub scan_begins : (text : List ℕ) → Scanning text 0 0 0 0 0
-unfolding read place_of start shape modeNumber parens
+unfolding read place_of start shape mode_number parens
 scan_begins text = record {
   inside = omega arith;
   sound = record { low = omega arith; shallow = omega arith; past = omega arith };
   state = at gap (wants []);
-  looks = (refl, record { mode-is = refl; depth_is = refl });
+  looks = (refl, record { mode_is = refl; depth_is = refl });
   alive = tt;
   reading = refl;
-  placing = sym (zero-add (placeFrom (at gap (wants [])) text));
+  placing = sym (zero-add (place_from (at gap (wants [])) text));
 }
 
 none_read : (text : List ℕ) → ((f : Reading) → read text ≡ reads f → ⊥) → (f : Reading) → RuleText text f → ⊥
@@ -89,61 +89,61 @@ module _ (text : List ℕ) (i pending from mode depth : ℕ) (c : Scanning text 
     after : Looks text (i + 1) pending' from' mode' depth' (step c.state (get_or text i 0))
     after = s.shows c.state c.looks
 
-    reading-on : read text ≡ finish (run (step c.state (get_or text i 0)) (drop (suc i) text))
+    reading_on : read text ≡ finish (run (step c.state (get_or text i 0)) (drop (suc i) text))
     unfolding run
-    reading-on = c.reading ∙ rw (drop-cons text i 0 h)
+    reading_on = c.reading ∙ rw (drop-cons text i 0 h)
 
-    pub scan-stops : mode' ≡ 7 → ((f : Reading) → RuleText text f → ⊥) × Place text i
-    scan-stops e = ⊎_elim
-        (λ a. absurd (omega (arith, alive-mode text (i + 1) pending' from' mode' depth' (step c.state (get_or text i 0)) after a)))
+    pub scan_stops : mode' ≡ 7 → ((f : Reading) → RuleText text f → ⊥) × Place text i
+    scan_stops e = ⊎_elim
+        (λ a. absurd (omega (arith, alive_mode text (i + 1) pending' from' mode' depth' (step c.state (get_or text i 0)) after a)))
         (λ z.
         let p : place_of text ≡ i =
         c.placing ∙ rw (drop-cons text i 0 h, place_here c.state (get_or text i 0) (drop (suc i) text) z) (omega arith) in
-        (none_read text (λ f r. stop-reads (drop (suc i) text) f (rw (← z) (sym reading-on ∙ r))), rw p at (place text)))
-        (step-next c.state (get_or text i 0) c.alive)
+        (none_read text (λ f r. stop_reads (drop (suc i) text) f (rw (← z) (sym reading_on ∙ r))), rw p at (place text)))
+        (step_next c.state (get_or text i 0) c.alive)
 
-    pub scan-more : (mode' ≡ 7 → ⊥) → Scanning text (i + 1) pending' from' mode' depth'
-    scan-more n = ⊎_elim
+    pub scan_more : (mode' ≡ 7 → ⊥) → Scanning text (i + 1) pending' from' mode' depth'
+    scan_more n = ⊎_elim
         (λ a. record {
           inside = omega arith;
           sound = s.sound;
           state = step c.state (get_or text i 0);
           looks = after;
           alive = a;
-          reading = rw (add-one i) reading-on;
-          placing = c.placing ∙ rw (drop-cons text i 0 h, place-going c.state (get_or text i 0) (drop (suc i) text) a, add-one i) (omega arith);
+          reading = rw (add-one i) reading_on;
+          placing = c.placing ∙ rw (drop-cons text i 0 h, place_going c.state (get_or text i 0) (drop (suc i) text) a, add-one i) (omega arith);
         })
-        (λ z. absurd (n (stopped-mode text (i + 1) pending' from' mode' depth' (rw z at after))))
-        (step-next c.state (get_or text i 0) c.alive)
+        (λ z. absurd (n (stopped_mode text (i + 1) pending' from' mode' depth' (rw z at after))))
+        (step_next c.state (get_or text i 0) c.alive)
 
   module _ (h : length text ≤ i) (r : Bool) (e : Ending text pending from mode depth r) where
-    at-end : i ≡ length text
-    at-end = omega (arith, c.inside)
+    at_end : i ≡ length text
+    at_end = omega (arith, c.inside)
 
     none_left : drop i text ≡ []
-    none_left = rw at-end (drop-length text)
+    none_left = rw at_end (drop-length text)
 
     read_all : read text ≡ finish c.state
     unfolding run
     read_all = c.reading ∙ rw none_left
 
-    told : r ≡ isRead (read text)
-    told = rw read_all (e c.state (rw at-end at c.looks))
+    told : r ≡ is_read (read text)
+    told = rw read_all (e c.state (rw at_end at c.looks))
 
-    reads-some : (q : Result) → read text ≡ q → isRead q ≡ true → HasReading text
-    unfolding isRead
-    reads-some refused z y = absurd (false-true refl y)
-    reads-some (reads f) z y = record { reading = f; text = correct text f z }
+    reads_some : (q : Result) → read text ≡ q → is_read q ≡ true → HasReading text
+    unfolding is_read
+    reads_some refused z y = absurd (false_true refl y)
+    reads_some (reads f) z y = record { reading = f; text = correct text f z }
 
-    reads_none : (q : Result) (f : Reading) → q ≡ reads f → isRead q ≡ false → ⊥
-    unfolding isRead
+    reads_none : (q : Result) (f : Reading) → q ≡ reads f → is_read q ≡ false → ⊥
+    unfolding is_read
     reads_none refused f z y = let x : ◌≡◌ {A = ℕ} 0 1 = cc in omega arith
-    reads_none (reads g) f z y = false-true y refl
+    reads_none (reads g) f z y = false_true y refl
 
-    pub scan-whole : r ≡ true → HasReading text
-    scan-whole z = reads-some (read text) refl (sym told ∙ z)
+    pub scan_whole : r ≡ true → HasReading text
+    scan_whole z = reads_some (read text) refl (sym told ∙ z)
 
-    pub scan-short : r ≡ false → ((f : Reading) → RuleText text f → ⊥) × Place text i
-    scan-short z =
-        let p : place_of text ≡ i = c.placing ∙ rw none_left (unfold placeFrom in omega arith) in
+    pub scan_short : r ≡ false → ((f : Reading) → RuleText text f → ⊥) × Place text i
+    scan_short z =
+        let p : place_of text ≡ i = c.placing ∙ rw none_left (unfold place_from in omega arith) in
         (none_read text (λ f y. reads_none (read text) f y (sym told ∙ z)), rw p at (place text))

@@ -9,60 +9,60 @@ use lib.Dec.{eqb}
 use lib.ListN.{length, take, drop, get_or, length-drop}
 use lib.Seq.{take-suc, get_or-drop}
 use borrow.Author.Tests.{ne_eqb}
-use Rattle.trees.proofs.Tests.{false-true, not-true}
-use Rattle.text.specs.Words.{isWordByte, isDigit, Word, number, binary, implies, word_of}
+use Rattle.trees.proofs.Tests.{false_true, not_true}
+use Rattle.text.specs.Words.{is_word_byte, is_digit, Word, number, binary, implies, word_of}
 use Rattle.text.specs.Machine.{Stage, stopped, give, result, refused}
 use Rattle.text.specs.Reader.{Pending, gap, letters, numerals, dash, State, at, Class, digit, class_of, grows, begin, step, finish}
-use Rattle.text.specs.Shape.{shape, isRead}
-use Rattle.text.proofs.ClassLaws.{IsClass, is-letter, is_digit, is-blank, is-minus, is-sign, is-foreign, classed, class-digit}
-use Rattle.spelling.specs.Codes.{code_of, classNumber, modeNumber}
+use Rattle.text.specs.Shape.{shape, is_read}
+use Rattle.text.proofs.ClassLaws.{IsClass, is_letter_law, is_digit_law, is_blank, is_minus, is_sign, is_foreign, classed, class_digit}
+use Rattle.spelling.specs.Codes.{code_of, class_number, mode_number}
 use Rattle.scan.specs.Looks.{Shaped, Sound, Looks, Gives, Begins, Steps, Grows, MayEnd, Ending}
-use Rattle.scan.proofs.BeginLaws.{digit-class}
+use Rattle.scan.proofs.BeginLaws.{digit_class}
 
 -- the machine's step, equation by equation
-step-gap : (t : Stage) (b : ℕ) → step (at gap t) b ≡ begin t b (class_of b)
+step_gap : (t : Stage) (b : ℕ) → step (at gap t) b ≡ begin t b (class_of b)
 unfolding step
-step-gap t b = refl
+step_gap t b = refl
 
-step-grown : (w : List ℕ) (t : Stage) (b : ℕ) → isWordByte b ≡ true → grows t ≡ true → step (at (letters w) t) b ≡ at (letters (w ++ (b ∷ []))) t
+step_grown : (w : List ℕ) (t : Stage) (b : ℕ) → is_word_byte b ≡ true → grows t ≡ true → step (at (letters w) t) b ≡ at (letters (w ++ (b ∷ []))) t
 unfolding step
-step-grown w t b e g = rw (e, g, step)
+step_grown w t b e g = rw (e, g, step)
 
-step-ungrown : (w : List ℕ) (t : Stage) (b : ℕ) → isWordByte b ≡ true → grows t ≡ false → step (at (letters w) t) b ≡ at gap stopped
+step_ungrown : (w : List ℕ) (t : Stage) (b : ℕ) → is_word_byte b ≡ true → grows t ≡ false → step (at (letters w) t) b ≡ at gap stopped
 unfolding step
-step-ungrown w t b e g = rw (e, g, step)
+step_ungrown w t b e g = rw (e, g, step)
 
-step-ended : (w : List ℕ) (t : Stage) (b : ℕ) → isWordByte b ≡ false → step (at (letters w) t) b ≡ begin (give t (word_of w)) b (class_of b)
+step_ended : (w : List ℕ) (t : Stage) (b : ℕ) → is_word_byte b ≡ false → step (at (letters w) t) b ≡ begin (give t (word_of w)) b (class_of b)
 unfolding step
-step-ended w t b e = rw (e, step)
+step_ended w t b e = rw (e, step)
 
-step-digit : (w : List ℕ) (t : Stage) (b : ℕ) → isWordByte b ≡ true → isDigit b ≡ true → step (at (numerals w) t) b ≡ at (numerals (w ++ (b ∷ []))) t
+step_digit : (w : List ℕ) (t : Stage) (b : ℕ) → is_word_byte b ≡ true → is_digit b ≡ true → step (at (numerals w) t) b ≡ at (numerals (w ++ (b ∷ []))) t
 unfolding step
-step-digit w t b e g = rw (e, g, step)
+step_digit w t b e g = rw (e, g, step)
 
-step-undigit : (w : List ℕ) (t : Stage) (b : ℕ) → isWordByte b ≡ true → isDigit b ≡ false → step (at (numerals w) t) b ≡ at gap stopped
+step_undigit : (w : List ℕ) (t : Stage) (b : ℕ) → is_word_byte b ≡ true → is_digit b ≡ false → step (at (numerals w) t) b ≡ at gap stopped
 unfolding step
-step-undigit w t b e g = rw (e, g, step)
+step_undigit w t b e g = rw (e, g, step)
 
-step-counted : (w : List ℕ) (t : Stage) (b : ℕ) → isWordByte b ≡ false → step (at (numerals w) t) b ≡ begin (give t (number w)) b (class_of b)
+step_counted : (w : List ℕ) (t : Stage) (b : ℕ) → is_word_byte b ≡ false → step (at (numerals w) t) b ≡ begin (give t (number w)) b (class_of b)
 unfolding step
-step-counted w t b e = rw (e, step)
+step_counted w t b e = rw (e, step)
 
-step-arrow : (t : Stage) (b : ℕ) → b ≡ 62 → step (at dash t) b ≡ at gap (give t (binary implies))
+step_arrow : (t : Stage) (b : ℕ) → b ≡ 62 → step (at dash t) b ≡ at gap (give t (binary implies))
 unfolding step
-step-arrow t b e = rw e
+step_arrow t b e = rw e
 
-step-no-arrow : (t : Stage) (b : ℕ) → (b ≡ 62 → ⊥) → step (at dash t) b ≡ at gap stopped
+step_no_arrow : (t : Stage) (b : ℕ) → (b ≡ 62 → ⊥) → step (at dash t) b ≡ at gap stopped
 unfolding step
-step-no-arrow t b n = rw (ne_eqb b 62 n, step)
+step_no_arrow t b n = rw (ne_eqb b 62 n, step)
 
-number-code : (w : List ℕ) → code_of (number w) ≡ 1
+number_code : (w : List ℕ) → code_of (number w) ≡ 1
 unfolding code_of
-number-code w = refl
+number_code w = refl
 
-arrow-code : code_of (binary implies) ≡ 11
+arrow_code : code_of (binary implies) ≡ 11
 unfolding code_of
-arrow-code = refl
+arrow_code = refl
 
 module _ (text : List ℕ) (i pending from mode depth : ℕ) (h : i < length text) (s : Sound i from mode depth) where
   stays : Sound (i + 1) from mode depth
@@ -72,8 +72,8 @@ module _ (text : List ℕ) (i pending from mode depth : ℕ) (h : i < length tex
   stops = record { low = omega arith; shallow = omega arith; past = omega arith }
 
   halted : Looks text (i + 1) 0 i 7 0 (at gap stopped)
-  unfolding shape modeNumber
-  halted = (refl, record { mode-is = refl; depth_is = refl })
+  unfolding shape mode_number
+  halted = (refl, record { mode_is = refl; depth_is = refl })
 
   more : (w : List ℕ) → take (i - from) (drop from text) ≡ w → take ((i + 1) - from) (drop from text) ≡ w ++ (get_or text i 0 ∷ [])
   more w e =
@@ -83,99 +83,99 @@ module _ (text : List ℕ) (i pending from mode depth : ℕ) (h : i < length tex
       rw (n, take-suc (drop from text) (i - from) 0 l, get_or-drop from text (i - from) 0, m, e)
 
   -- nothing is pending
-  pub gap-steps : (pending' from' mode' depth' : ℕ) → pending ≡ 0 → Begins text i mode depth pending' from' mode' depth'
+  pub gap_steps : (pending' from' mode' depth' : ℕ) → pending ≡ 0 → Begins text i mode depth pending' from' mode' depth'
       → Steps text i pending from mode depth pending' from' mode' depth'
-  gap-steps pending' from' mode' depth' e b = record { sound = b.sound; shows = by }
+  gap_steps pending' from' mode' depth' e b = record { sound = b.sound; shows = by }
     where
       by : (u : State) → Looks text i pending from mode depth u → Looks text (i + 1) pending' from' mode' depth' (step u (get_or text i 0))
-      by (at gap t) l = rw (step-gap t (get_or text i 0)) (b.shows t l.1)
+      by (at gap t) l = rw (step_gap t (get_or text i 0)) (b.shows t l.1)
       by (at (letters w) t) l = absurd (omega (arith, l.0))
       by (at (numerals w) t) l = absurd (omega (arith, l.0))
       by (at dash t) l = absurd (omega (arith, l.0))
 
   -- letters
-  pub letters-more : (r : Bool) → pending ≡ 1 → isWordByte (get_or text i 0) ≡ true → Grows mode r → r ≡ true → Steps text i pending from mode depth pending from mode depth
-  letters-more r e b g z = record { sound = stays; shows = by }
+  pub letters_more : (r : Bool) → pending ≡ 1 → is_word_byte (get_or text i 0) ≡ true → Grows mode r → r ≡ true → Steps text i pending from mode depth pending from mode depth
+  letters_more r e b g z = record { sound = stays; shows = by }
     where
       by : (u : State) → Looks text i pending from mode depth u → Looks text (i + 1) pending from mode depth (step u (get_or text i 0))
       by (at gap t) l = absurd (omega (arith, l.0))
       by (at (letters w) t) l =
-          rw (step-grown w t (get_or text i 0) b (sym (g t l.1.mode-is) ∙ z)) (e, l.1, more w l.2)
+          rw (step_grown w t (get_or text i 0) b (sym (g t l.1.mode_is) ∙ z)) (e, l.1, more w l.2)
       by (at (numerals w) t) l = absurd (omega (arith, l.0))
       by (at dash t) l = absurd (omega (arith, l.0))
 
-  pub letters-stop : (r : Bool) → pending ≡ 1 → isWordByte (get_or text i 0) ≡ true → Grows mode r → r ≡ false → Steps text i pending from mode depth 0 i 7 0
-  letters-stop r e b g z = record { sound = stops; shows = by }
+  pub letters_stop : (r : Bool) → pending ≡ 1 → is_word_byte (get_or text i 0) ≡ true → Grows mode r → r ≡ false → Steps text i pending from mode depth 0 i 7 0
+  letters_stop r e b g z = record { sound = stops; shows = by }
     where
       by : (u : State) → Looks text i pending from mode depth u → Looks text (i + 1) 0 i 7 0 (step u (get_or text i 0))
       by (at gap t) l = absurd (omega (arith, l.0))
-      by (at (letters w) t) l = rw (step-ungrown w t (get_or text i 0) b (sym (g t l.1.mode-is) ∙ z)) halted
+      by (at (letters w) t) l = rw (step_ungrown w t (get_or text i 0) b (sym (g t l.1.mode_is) ∙ z)) halted
       by (at (numerals w) t) l = absurd (omega (arith, l.0))
       by (at dash t) l = absurd (omega (arith, l.0))
 
-  pub letters-end : (word mode₁ depth₁ pending' from' mode' depth' : ℕ) → pending ≡ 1 → isWordByte (get_or text i 0) ≡ false
+  pub letters_end : (word mode₁ depth₁ pending' from' mode' depth' : ℕ) → pending ≡ 1 → is_word_byte (get_or text i 0) ≡ false
       → word ≡ code_of (word_of (take (i - from) (drop from text))) → Gives mode depth word mode₁ depth₁ → Begins text i mode₁ depth₁ pending' from' mode' depth'
       → Steps text i pending from mode depth pending' from' mode' depth'
-  letters-end word mode₁ depth₁ pending' from' mode' depth' e b c g k = record { sound = k.sound; shows = by }
+  letters_end word mode₁ depth₁ pending' from' mode' depth' e b c g k = record { sound = k.sound; shows = by }
     where
       by : (u : State) → Looks text i pending from mode depth u → Looks text (i + 1) pending' from' mode' depth' (step u (get_or text i 0))
       by (at gap t) l = absurd (omega (arith, l.0))
       by (at (letters w) t) l =
-          rw (step-ended w t (get_or text i 0) b) (k.shows (give t (word_of w)) (g.gives t (word_of w) l.1 (c ∙ ap (λ (x : List ℕ). code_of (word_of x)) l.2)))
+          rw (step_ended w t (get_or text i 0) b) (k.shows (give t (word_of w)) (g.gives t (word_of w) l.1 (c ∙ ap (λ (x : List ℕ). code_of (word_of x)) l.2)))
       by (at (numerals w) t) l = absurd (omega (arith, l.0))
       by (at dash t) l = absurd (omega (arith, l.0))
 
   -- digits
-  pub digits_more : pending ≡ 2 → isWordByte (get_or text i 0) ≡ true → classNumber (class_of (get_or text i 0)) ≡ 1 → Steps text i pending from mode depth pending from mode depth
+  pub digits_more : pending ≡ 2 → is_word_byte (get_or text i 0) ≡ true → class_number (class_of (get_or text i 0)) ≡ 1 → Steps text i pending from mode depth pending from mode depth
   digits_more e b z = record { sound = stays; shows = by }
     where
       by : (u : State) → Looks text i pending from mode depth u → Looks text (i + 1) pending from mode depth (step u (get_or text i 0))
       by (at gap t) l = absurd (omega (arith, l.0))
       by (at (letters w) t) l = absurd (omega (arith, l.0))
-      by (at (numerals w) t) l = rw (step-digit w t (get_or text i 0) b (digit-class (get_or text i 0) z)) (e, l.1)
+      by (at (numerals w) t) l = rw (step_digit w t (get_or text i 0) b (digit_class (get_or text i 0) z)) (e, l.1)
       by (at dash t) l = absurd (omega (arith, l.0))
 
-  pub digits-stop : pending ≡ 2 → isWordByte (get_or text i 0) ≡ true → (classNumber (class_of (get_or text i 0)) ≡ 1 → ⊥) → Steps text i pending from mode depth 0 i 7 0
-  digits-stop e b z = record { sound = stops; shows = by }
+  pub digits_stop : pending ≡ 2 → is_word_byte (get_or text i 0) ≡ true → (class_number (class_of (get_or text i 0)) ≡ 1 → ⊥) → Steps text i pending from mode depth 0 i 7 0
+  digits_stop e b z = record { sound = stops; shows = by }
     where
-      none : isDigit (get_or text i 0) ≡ false
-      none = not-true (isDigit (get_or text i 0)) (λ y. z (ap classNumber (class-digit (get_or text i 0) y) ∙ unfold classNumber in refl))
+      none : is_digit (get_or text i 0) ≡ false
+      none = not_true (is_digit (get_or text i 0)) (λ y. z (ap class_number (class_digit (get_or text i 0) y) ∙ unfold class_number in refl))
 
       by : (u : State) → Looks text i pending from mode depth u → Looks text (i + 1) 0 i 7 0 (step u (get_or text i 0))
       by (at gap t) l = absurd (omega (arith, l.0))
       by (at (letters w) t) l = absurd (omega (arith, l.0))
-      by (at (numerals w) t) l = rw (step-undigit w t (get_or text i 0) b none) halted
+      by (at (numerals w) t) l = rw (step_undigit w t (get_or text i 0) b none) halted
       by (at dash t) l = absurd (omega (arith, l.0))
 
-  pub digits-end : (mode₁ depth₁ pending' from' mode' depth' : ℕ) → pending ≡ 2 → isWordByte (get_or text i 0) ≡ false
+  pub digits_end : (mode₁ depth₁ pending' from' mode' depth' : ℕ) → pending ≡ 2 → is_word_byte (get_or text i 0) ≡ false
       → Gives mode depth 1 mode₁ depth₁ → Begins text i mode₁ depth₁ pending' from' mode' depth' → Steps text i pending from mode depth pending' from' mode' depth'
-  digits-end mode₁ depth₁ pending' from' mode' depth' e b g k = record { sound = k.sound; shows = by }
+  digits_end mode₁ depth₁ pending' from' mode' depth' e b g k = record { sound = k.sound; shows = by }
     where
       by : (u : State) → Looks text i pending from mode depth u → Looks text (i + 1) pending' from' mode' depth' (step u (get_or text i 0))
       by (at gap t) l = absurd (omega (arith, l.0))
       by (at (letters w) t) l = absurd (omega (arith, l.0))
-      by (at (numerals w) t) l = rw (step-counted w t (get_or text i 0) b) (k.shows (give t (number w)) (g.gives t (number w) l.1 (sym (number-code w))))
+      by (at (numerals w) t) l = rw (step_counted w t (get_or text i 0) b) (k.shows (give t (number w)) (g.gives t (number w) l.1 (sym (number_code w))))
       by (at dash t) l = absurd (omega (arith, l.0))
 
   -- `-`
-  pub arrow-steps : (mode' depth' : ℕ) → (pending ≡ 0 → ⊥) → (pending ≡ 1 → ⊥) → (pending ≡ 2 → ⊥) → get_or text i 0 ≡ 62 → Gives mode depth 11 mode' depth'
+  pub arrow_steps : (mode' depth' : ℕ) → (pending ≡ 0 → ⊥) → (pending ≡ 1 → ⊥) → (pending ≡ 2 → ⊥) → get_or text i 0 ≡ 62 → Gives mode depth 11 mode' depth'
       → Steps text i pending from mode depth 0 i mode' depth'
-  arrow-steps mode' depth' p q r e g = record { sound = record { low = g.low; shallow = omega (arith, g.near, s.shallow); past = omega arith }; shows = by }
+  arrow_steps mode' depth' p q r e g = record { sound = record { low = g.low; shallow = omega (arith, g.near, s.shallow); past = omega arith }; shows = by }
     where
       by : (u : State) → Looks text i pending from mode depth u → Looks text (i + 1) 0 i mode' depth' (step u (get_or text i 0))
       by (at gap t) l = absurd (p l.0)
       by (at (letters w) t) l = absurd (q l.0)
       by (at (numerals w) t) l = absurd (r l.0)
-      by (at dash t) l = rw (step-arrow t (get_or text i 0) e) (refl, g.gives t (binary implies) l.1 (sym arrow-code))
+      by (at dash t) l = rw (step_arrow t (get_or text i 0) e) (refl, g.gives t (binary implies) l.1 (sym arrow_code))
 
-  pub arrow-stops : (pending ≡ 0 → ⊥) → (pending ≡ 1 → ⊥) → (pending ≡ 2 → ⊥) → (get_or text i 0 ≡ 62 → ⊥) → Steps text i pending from mode depth 0 i 7 0
-  arrow-stops p q r n = record { sound = stops; shows = by }
+  pub arrow_stops : (pending ≡ 0 → ⊥) → (pending ≡ 1 → ⊥) → (pending ≡ 2 → ⊥) → (get_or text i 0 ≡ 62 → ⊥) → Steps text i pending from mode depth 0 i 7 0
+  arrow_stops p q r n = record { sound = stops; shows = by }
     where
       by : (u : State) → Looks text i pending from mode depth u → Looks text (i + 1) 0 i 7 0 (step u (get_or text i 0))
       by (at gap t) l = absurd (p l.0)
       by (at (letters w) t) l = absurd (q l.0)
       by (at (numerals w) t) l = absurd (r l.0)
-      by (at dash t) l = rw (step-no-arrow t (get_or text i 0) n) halted
+      by (at dash t) l = rw (step_no_arrow t (get_or text i 0) n) halted
 
 -- the end
 module _ (text : List ℕ) (pending from mode depth : ℕ) where
@@ -186,25 +186,25 @@ module _ (text : List ℕ) (pending from mode depth : ℕ) where
   gap_ends r e m (at (numerals w) t) l = absurd (omega (arith, l.0))
   gap_ends r e m (at dash t) l = absurd (omega (arith, l.0))
 
-  pub letters-ends : (r : Bool) (word mode' depth' : ℕ) → pending ≡ 1 → word ≡ code_of (word_of (take (length text - from) (drop from text)))
+  pub letters_ends : (r : Bool) (word mode' depth' : ℕ) → pending ≡ 1 → word ≡ code_of (word_of (take (length text - from) (drop from text)))
       → Gives mode depth word mode' depth' → MayEnd mode' depth' r → Ending text pending from mode depth r
   unfolding finish
-  letters-ends r word mode' depth' e c g m (at gap t) l = absurd (omega (arith, l.0))
-  letters-ends r word mode' depth' e c g m (at (letters w) t) l =
+  letters_ends r word mode' depth' e c g m (at gap t) l = absurd (omega (arith, l.0))
+  letters_ends r word mode' depth' e c g m (at (letters w) t) l =
       m (give t (word_of w)) (g.gives t (word_of w) l.1 (c ∙ ap (λ (x : List ℕ). code_of (word_of x)) l.2))
-  letters-ends r word mode' depth' e c g m (at (numerals w) t) l = absurd (omega (arith, l.0))
-  letters-ends r word mode' depth' e c g m (at dash t) l = absurd (omega (arith, l.0))
+  letters_ends r word mode' depth' e c g m (at (numerals w) t) l = absurd (omega (arith, l.0))
+  letters_ends r word mode' depth' e c g m (at dash t) l = absurd (omega (arith, l.0))
 
-  pub digits-ends : (r : Bool) (mode' depth' : ℕ) → pending ≡ 2 → Gives mode depth 1 mode' depth' → MayEnd mode' depth' r → Ending text pending from mode depth r
+  pub digits_ends : (r : Bool) (mode' depth' : ℕ) → pending ≡ 2 → Gives mode depth 1 mode' depth' → MayEnd mode' depth' r → Ending text pending from mode depth r
   unfolding finish
-  digits-ends r mode' depth' e g m (at gap t) l = absurd (omega (arith, l.0))
-  digits-ends r mode' depth' e g m (at (letters w) t) l = absurd (omega (arith, l.0))
-  digits-ends r mode' depth' e g m (at (numerals w) t) l = m (give t (number w)) (g.gives t (number w) l.1 (sym (number-code w)))
-  digits-ends r mode' depth' e g m (at dash t) l = absurd (omega (arith, l.0))
+  digits_ends r mode' depth' e g m (at gap t) l = absurd (omega (arith, l.0))
+  digits_ends r mode' depth' e g m (at (letters w) t) l = absurd (omega (arith, l.0))
+  digits_ends r mode' depth' e g m (at (numerals w) t) l = m (give t (number w)) (g.gives t (number w) l.1 (sym (number_code w)))
+  digits_ends r mode' depth' e g m (at dash t) l = absurd (omega (arith, l.0))
 
-  pub dash-ends : (pending ≡ 0 → ⊥) → (pending ≡ 1 → ⊥) → (pending ≡ 2 → ⊥) → Ending text pending from mode depth false
-  unfolding finish isRead
-  dash-ends p q r (at gap t) l = absurd (p l.0)
-  dash-ends p q r (at (letters w) t) l = absurd (q l.0)
-  dash-ends p q r (at (numerals w) t) l = absurd (r l.0)
-  dash-ends p q r (at dash t) l = refl
+  pub dash_ends : (pending ≡ 0 → ⊥) → (pending ≡ 1 → ⊥) → (pending ≡ 2 → ⊥) → Ending text pending from mode depth false
+  unfolding finish is_read
+  dash_ends p q r (at gap t) l = absurd (p l.0)
+  dash_ends p q r (at (letters w) t) l = absurd (q l.0)
+  dash_ends p q r (at (numerals w) t) l = absurd (r l.0)
+  dash_ends p q r (at dash t) l = refl

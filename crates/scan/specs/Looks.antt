@@ -3,12 +3,12 @@ use Rattle.std.specs.Prelude.{ℕ, ◌+◌, ◌-◌, ◌*◌, ◌≤◌, ◌<◌
 use Rattle.text.specs.Words.{Word}
 use Rattle.text.specs.Machine.{Stage, stopped, give, result}
 use Rattle.text.specs.Reader.{Pending, gap, letters, numerals, dash, State, at, class_of, grows, joins, begin, lead, step, finish, letter}
-use Rattle.text.specs.Shape.{shape, isRead}
-use Rattle.spelling.specs.Codes.{code_of, modeNumber}
+use Rattle.text.specs.Shape.{shape, is_read}
+use Rattle.spelling.specs.Codes.{code_of, mode_number}
 
 -- the mode and the depth of a stage
 pub record Shaped (mode depth : ℕ) (t : Stage) : Type 0 where
-  pub mode-is : mode ≡ modeNumber (shape t).mode
+  pub mode_is : mode ≡ mode_number (shape t).mode
   pub depth_is : depth ≡ (shape t).depth
 
 -- the numbers are in their ranges after so many bytes; with one byte two words may come
@@ -42,18 +42,18 @@ pub record Steps (text : List ℕ) (i pending from mode depth pending' from' mod
 
 -- what may come at a stage with the mode: an operator; a word of letters; one that begins with the letter; the end
 abbrev pub Joins : ℕ → Bool → Type 0
-Joins mode r = (t : Stage) → mode ≡ modeNumber (shape t).mode → r ≡ joins t
+Joins mode r = (t : Stage) → mode ≡ mode_number (shape t).mode → r ≡ joins t
 
 abbrev pub Grows : ℕ → Bool → Type 0
-Grows mode r = (t : Stage) → mode ≡ modeNumber (shape t).mode → r ≡ grows t
+Grows mode r = (t : Stage) → mode ≡ mode_number (shape t).mode → r ≡ grows t
 
 pub record Leads (mode b : ℕ) (r : Bool) : Type 0 where
-  pub yes : (t : Stage) → mode ≡ modeNumber (shape t).mode → r ≡ true → begin t b letter ≡ at (letters (b ∷ [])) t
-  pub no : (t : Stage) → mode ≡ modeNumber (shape t).mode → r ≡ false → begin t b letter ≡ at gap stopped
+  pub yes : (t : Stage) → mode ≡ mode_number (shape t).mode → r ≡ true → begin t b letter ≡ at (letters (b ∷ [])) t
+  pub no : (t : Stage) → mode ≡ mode_number (shape t).mode → r ≡ false → begin t b letter ≡ at gap stopped
 
 abbrev pub MayEnd : ℕ → ℕ → Bool → Type 0
-MayEnd mode depth r = (t : Stage) → Shaped mode depth t → r ≡ isRead (result t)
+MayEnd mode depth r = (t : Stage) → Shaped mode depth t → r ≡ is_read (result t)
 
 -- the end comes
 abbrev pub Ending : List ℕ → ℕ → ℕ → ℕ → ℕ → Bool → Type 0
-Ending text pending from mode depth r = (s : State) → Looks text (length text) pending from mode depth s → r ≡ isRead (finish s)
+Ending text pending from mode depth r = (s : State) → Looks text (length text) pending from mode depth s → r ≡ is_read (finish s)

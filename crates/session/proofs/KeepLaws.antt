@@ -18,7 +18,7 @@ use Rattle.session.specs.declared.Part.TheVariants.{First, Rows, Events, Over}
 use Rattle.session.specs.declared.Session.{Session}
 use Rattle.session.specs.declared.After.{After}
 use Rattle.session.specs.Sessions.{Sound}
-use Rattle.session.specs.Lefts.{badAs, sizesAs, rowAs, begunAs, beginLeft, Begun, readyAs, happenLeft, happened, eventAs, eventLeft, lineLeft}
+use Rattle.session.specs.Lefts.{bad_as, sizes_as, row_as, begun_as, begin_left, Begun, ready_as, happen_left, happened, event_as, event_left, line_left}
 
 -- a line that reads has a C of at most 512
 abbrev pub Small : Line → Type 0
@@ -27,11 +27,11 @@ Small (line.Row a b c d e f g h i) = Unit {0}
 Small (line.Event p n a b c d) = Unit {0}
 Small line.Bad = Unit {0}
 
-pub reads-small : (bytes : List ℕ) (l : Line) → Reads bytes l → Small l
-reads-small bytes (line.Sizes k c) r = r.right.1
-reads-small bytes (line.Row a b c d e f g h i) r = tt
-reads-small bytes (line.Event p n a b c d) r = tt
-reads-small bytes line.Bad r = tt
+pub reads_small : (bytes : List ℕ) (l : Line) → Reads bytes l → Small l
+reads_small bytes (line.Sizes k c) r = r.right.1
+reads_small bytes (line.Row a b c d e f g h i) r = tt
+reads_small bytes (line.Event p n a b c d) r = tt
+reads_small bytes line.Bad r = tt
 
 -- what is no event leaves a sound session, and counts none
 pub record Stays (s : Session) (r : After) : Type 0 where
@@ -43,60 +43,60 @@ pub record Leaves (s : Session) (r : After) : Type 0 where
   pub sound : Sound r.session
   pub counted : r.session.ordinal ≤ s.ordinal + 1
 
-bad-stays : (p : Part) (s : Session) → Sound s → Stays s (badAs p s)
-unfolding badAs
-bad-stays First s h = record { sound = record { nodes-few = h.nodes-few; rows_few = h.rows_few }; same = refl }
-bad-stays Rows s h = record { sound = record { nodes-few = h.nodes-few; rows_few = h.rows_few }; same = refl }
-bad-stays Events s h = record { sound = record { nodes-few = h.nodes-few; rows_few = h.rows_few }; same = refl }
-bad-stays Over s h = record { sound = h; same = refl }
+bad_stays : (p : Part) (s : Session) → Sound s → Stays s (bad_as p s)
+unfolding bad_as
+bad_stays First s h = record { sound = record { nodes_few = h.nodes_few; rows_few = h.rows_few }; same = refl }
+bad_stays Rows s h = record { sound = record { nodes_few = h.nodes_few; rows_few = h.rows_few }; same = refl }
+bad_stays Events s h = record { sound = record { nodes_few = h.nodes_few; rows_few = h.rows_few }; same = refl }
+bad_stays Over s h = record { sound = h; same = refl }
 
-sizes-stays : (p : Part) (s : Session) (k c : ℕ) → Sound s → c ≤ 512 → Stays s (sizesAs p s k c)
-unfolding sizesAs
-sizes-stays First s k c h few = record { sound = record { nodes-few = few; rows_few = omega arith }; same = refl }
-sizes-stays Rows s k c h few = bad-stays Rows s h
-sizes-stays Events s k c h few = bad-stays Events s h
-sizes-stays Over s k c h few = bad-stays Over s h
+sizes_stays : (p : Part) (s : Session) (k c : ℕ) → Sound s → c ≤ 512 → Stays s (sizes_as p s k c)
+unfolding sizes_as
+sizes_stays First s k c h few = record { sound = record { nodes_few = few; rows_few = omega arith }; same = refl }
+sizes_stays Rows s k c h few = bad_stays Rows s h
+sizes_stays Events s k c h few = bad_stays Events s h
+sizes_stays Over s k c h few = bad_stays Over s h
 
-row_stays : (p : Part) (s : Session) (nine rows : List ℕ) → Sound s → Stays s (rowAs p s nine rows).after
-unfolding rowAs
-row_stays First s nine rows h = bad-stays First s h
+row_stays : (p : Part) (s : Session) (nine rows : List ℕ) → Sound s → Stays s (row_as p s nine rows).after
+unfolding row_as
+row_stays First s nine rows h = bad_stays First s h
 row_stays Rows s nine rows h = go (ltb 576 s.rows) refl
   where
-    go : (q : Bool) → ltb 576 s.rows ≡ q → Stays s (rowAs Rows s nine rows).after
-    go true e = rw e (bad-stays Rows s h)
-    go false e = rw e (record { sound = record { nodes-few = h.nodes-few; rows_few = omega (arith, ltb-false 576 s.rows e) }; same = refl })
-row_stays Events s nine rows h = bad-stays Events s h
-row_stays Over s nine rows h = bad-stays Over s h
+    go : (q : Bool) → ltb 576 s.rows ≡ q → Stays s (row_as Rows s nine rows).after
+    go true e = rw e (bad_stays Rows s h)
+    go false e = rw e (record { sound = record { nodes_few = h.nodes_few; rows_few = omega (arith, ltb-false 576 s.rows e) }; same = refl })
+row_stays Events s nine rows h = bad_stays Events s h
+row_stays Over s nine rows h = bad_stays Over s h
 
-begun-stays : (a : Answer) (s : Session) (o : StartOutcome) → Sound s → Stays s (begunAs a s o)
-unfolding begunAs
-begun-stays Started s o h = record { sound = record { nodes-few = h.nodes-few; rows_few = h.rows_few }; same = refl }
-begun-stays (Verdict holds kept room) s o h = record { sound = record { nodes-few = h.nodes-few; rows_few = h.rows_few }; same = refl }
-begun-stays (Refused number place) s o h = record { sound = record { nodes-few = h.nodes-few; rows_few = h.rows_few }; same = refl }
+begun_stays : (a : Answer) (s : Session) (o : StartOutcome) → Sound s → Stays s (begun_as a s o)
+unfolding begun_as
+begun_stays Started s o h = record { sound = record { nodes_few = h.nodes_few; rows_few = h.rows_few }; same = refl }
+begun_stays (Verdict holds kept room) s o h = record { sound = record { nodes_few = h.nodes_few; rows_few = h.rows_few }; same = refl }
+begun_stays (Refused number place) s o h = record { sound = record { nodes_few = h.nodes_few; rows_few = h.rows_few }; same = refl }
 
-pub ready-stays : (p : Part) (s : Session) (rows nodes values : List ℕ) → Sound s → Stays s (readyAs p s rows nodes values).after
-unfolding readyAs beginLeft
-ready-stays First s rows nodes values h = bad-stays First s h
-ready-stays Rows s rows nodes values h = begun-stays _ s _ h
-ready-stays Events s rows nodes values h = record { sound = h; same = refl }
-ready-stays Over s rows nodes values h = record { sound = h; same = refl }
+pub ready_stays : (p : Part) (s : Session) (rows nodes values : List ℕ) → Sound s → Stays s (ready_as p s rows nodes values).after
+unfolding ready_as begin_left
+ready_stays First s rows nodes values h = bad_stays First s h
+ready_stays Rows s rows nodes values h = begun_stays _ s _ h
+ready_stays Events s rows nodes values h = record { sound = h; same = refl }
+ready_stays Over s rows nodes values h = record { sound = h; same = refl }
 
 -- what stays leaves
-stays-leaves : {s : Session} {r : After} → Stays s r → Leaves s r
-stays-leaves h = record { sound = h.sound; counted = omega (arith, h.same) }
+stays_leaves : {s : Session} {r : After} → Stays s r → Leaves s r
+stays_leaves h = record { sound = h.sound; counted = omega (arith, h.same) }
 
-event-leaves : (p : Part) (s : Session) (b : Begun) (e : Event) (rows work : List ℕ) → Stays s b.after → Leaves s (eventAs p b e rows work).after
-unfolding eventAs happened happenLeft
-event-leaves First s b e rows work h = stays-leaves h
-event-leaves Rows s b e rows work h = stays-leaves h
-event-leaves Events s b e rows work h =
-    record { sound = record { nodes-few = h.sound.nodes-few; rows_few = h.sound.rows_few }; counted = omega (arith, h.same) }
-event-leaves Over s b e rows work h = stays-leaves h
+event_leaves : (p : Part) (s : Session) (b : Begun) (e : Event) (rows work : List ℕ) → Stays s b.after → Leaves s (event_as p b e rows work).after
+unfolding event_as happened happen_left
+event_leaves First s b e rows work h = stays_leaves h
+event_leaves Rows s b e rows work h = stays_leaves h
+event_leaves Events s b e rows work h =
+    record { sound = record { nodes_few = h.sound.nodes_few; rows_few = h.sound.rows_few }; counted = omega (arith, h.same) }
+event_leaves Over s b e rows work h = stays_leaves h
 
-pub line-leaves : (s : Session) (l : Line) (rows nodes values work : List ℕ) → Sound s → Small l → Leaves s (lineLeft s l rows nodes values work).after
-unfolding lineLeft eventLeft
-line-leaves s (line.Sizes k c) rows nodes values work h small = stays-leaves (sizes-stays s.part s k c h small)
-line-leaves s (line.Row a b c d e f g x i) rows nodes values work h small =
-    stays-leaves (row_stays s.part s (a ∷ b ∷ c ∷ d ∷ e ∷ f ∷ g ∷ x ∷ i ∷ []) rows h)
-line-leaves s (line.Event p n a b c d) rows nodes values work h small = event-leaves _ s _ _ rows work (ready-stays s.part s rows nodes values h)
-line-leaves s line.Bad rows nodes values work h small = stays-leaves (bad-stays s.part s h)
+pub line_leaves : (s : Session) (l : Line) (rows nodes values work : List ℕ) → Sound s → Small l → Leaves s (line_left s l rows nodes values work).after
+unfolding line_left event_left
+line_leaves s (line.Sizes k c) rows nodes values work h small = stays_leaves (sizes_stays s.part s k c h small)
+line_leaves s (line.Row a b c d e f g x i) rows nodes values work h small =
+    stays_leaves (row_stays s.part s (a ∷ b ∷ c ∷ d ∷ e ∷ f ∷ g ∷ x ∷ i ∷ []) rows h)
+line_leaves s (line.Event p n a b c d) rows nodes values work h small = event_leaves _ s _ _ rows work (ready_stays s.part s rows nodes values h)
+line_leaves s line.Bad rows nodes values work h small = stays_leaves (bad_stays s.part s h)

@@ -7,31 +7,31 @@ use lib.ListN.{length, get_or, take, drop, take-append-drop}
 use lib.Seq.{take_all}
 use borrow.Author.Tests.{lt-ltb}
 use Rattle.meaning.specs.Tables.{most}
-use Rattle.transcript.specs.Output.{valuesAsked}
+use Rattle.transcript.specs.Output.{values_asked}
 use Rattle.answers.proofs.PutLaws.{Putting}
 
 -- a k past 10 asks for no values
-pub listed-none : (k : ℕ) → 10 < k → 0 ≡ valuesAsked k
-unfolding valuesAsked
-listed-none k h = rw (lt-ltb 10 k h) refl
+pub listed_none : (k : ℕ) → 10 < k → 0 ≡ values_asked k
+unfolding values_asked
+listed_none k h = rw (lt-ltb 10 k h) refl
 
 -- the table of the source
-pub listed-entry : (k : ℕ) → k ≤ 10
-    → (get_or (0 ∷ 4 ∷ 12 ∷ 28 ∷ 60 ∷ 124 ∷ 252 ∷ 508 ∷ 1020 ∷ 2044 ∷ 4092 ∷ []) k 0 ≡ valuesAsked k)
+pub listed_entry : (k : ℕ) → k ≤ 10
+    → (get_or (0 ∷ 4 ∷ 12 ∷ 28 ∷ 60 ∷ 124 ∷ 252 ∷ 508 ∷ 1020 ∷ 2044 ∷ 4092 ∷ []) k 0 ≡ values_asked k)
     × (get_or (0 ∷ 4 ∷ 12 ∷ 28 ∷ 60 ∷ 124 ∷ 252 ∷ 508 ∷ 1020 ∷ 2044 ∷ 4092 ∷ []) k 0 ≤ 4092)
-unfolding valuesAsked most
-listed-entry zero h = (refl, omega arith)
-listed-entry (suc zero) h = (refl, omega arith)
-listed-entry (suc (suc zero)) h = (refl, omega arith)
-listed-entry (suc (suc (suc zero))) h = (refl, omega arith)
-listed-entry (suc (suc (suc (suc zero)))) h = (refl, omega arith)
-listed-entry (suc (suc (suc (suc (suc zero))))) h = (refl, omega arith)
-listed-entry (suc (suc (suc (suc (suc (suc zero)))))) h = (refl, omega arith)
-listed-entry (suc (suc (suc (suc (suc (suc (suc zero))))))) h = (refl, omega arith)
-listed-entry (suc (suc (suc (suc (suc (suc (suc (suc zero)))))))) h = (refl, omega arith)
-listed-entry (suc (suc (suc (suc (suc (suc (suc (suc (suc zero))))))))) h = (refl, omega arith)
-listed-entry (suc (suc (suc (suc (suc (suc (suc (suc (suc (suc zero)))))))))) h = (refl, omega arith)
-listed-entry (suc (suc (suc (suc (suc (suc (suc (suc (suc (suc (suc k))))))))))) h = absurd (omega arith)
+unfolding values_asked most
+listed_entry zero h = (refl, omega arith)
+listed_entry (suc zero) h = (refl, omega arith)
+listed_entry (suc (suc zero)) h = (refl, omega arith)
+listed_entry (suc (suc (suc zero))) h = (refl, omega arith)
+listed_entry (suc (suc (suc (suc zero)))) h = (refl, omega arith)
+listed_entry (suc (suc (suc (suc (suc zero))))) h = (refl, omega arith)
+listed_entry (suc (suc (suc (suc (suc (suc zero)))))) h = (refl, omega arith)
+listed_entry (suc (suc (suc (suc (suc (suc (suc zero))))))) h = (refl, omega arith)
+listed_entry (suc (suc (suc (suc (suc (suc (suc (suc zero)))))))) h = (refl, omega arith)
+listed_entry (suc (suc (suc (suc (suc (suc (suc (suc (suc zero))))))))) h = (refl, omega arith)
+listed_entry (suc (suc (suc (suc (suc (suc (suc (suc (suc (suc zero)))))))))) h = (refl, omega arith)
+listed_entry (suc (suc (suc (suc (suc (suc (suc (suc (suc (suc (suc k))))))))))) h = absurd (omega arith)
 
 -- nine numbers are there
 pub row_put : {before : List ℕ} {at : ℕ} {nine after : List ℕ} {i : ℕ} → length nine ≡ 9 → Putting before at nine after i → 9 ≤ i

@@ -12,91 +12,91 @@ use Rattle.meaning.specs.declared.Turn.{Turn}
 use Rattle.meaning.specs.declared.Answer.{Answer}
 use Rattle.meaning.specs.declared.Answer.TheVariants.{Started, Verdict, Refused}
 use Rattle.meaning.specs.contracts.Answer.{the_type}
-use Rattle.meaning.specs.Outcome.{StartOutcome, startOutcome, EventOutcome, eventOutcome}
+use Rattle.meaning.specs.Outcome.{StartOutcome, start_outcome, EventOutcome, event_outcome}
 use Rattle.monitor.specs.Calls.{Starts, machine, Happens}
 use Rattle.answers.specs.declared.Said.TheVariants as said
-use Rattle.transcript.specs.Output.{valuesAsked}
+use Rattle.transcript.specs.Output.{values_asked}
 use Rattle.session.specs.declared.Part.TheVariants.{Events, Over}
 use Rattle.session.specs.declared.Session.{Session}
 use Rattle.session.specs.declared.After.{After}
 use Rattle.session.specs.declared.Lent.{Lent}
 use Rattle.session.specs.Sessions.{Sized, machine_of}
-use Rattle.session.specs.Lefts.{turnedTo, saying, started, begunAs, beginLeft, Begins, happenLeft, happened, Judges}
+use Rattle.session.specs.Lefts.{turned_to, saying, started, begun_as, begin_left, Begins, happen_left, happened, Judges}
 
 -- a start that is refused
-begun-refused : (a : Answer) (s : Session) (o : StartOutcome) (number place : ℕ) → Refused number place ≡ a
-    → saying (turnedTo s Over) false (said.NoStart number place) ≡ begunAs a s o
-unfolding begunAs
-begun-refused a s o number place e = rw (← e)
+begun_refused : (a : Answer) (s : Session) (o : StartOutcome) (number place : ℕ) → Refused number place ≡ a
+    → saying (turned_to s Over) false (said.NoStart number place) ≡ begun_as a s o
+unfolding begun_as
+begun_refused a s o number place e = rw (← e)
 
 -- any other start
-begun-other : (a : Answer) (s : Session) (o : StartOutcome) → OneOf (0 ∷ 1 ∷ []) (tag_of the_type a)
-    → saying (record { part = Events; k = s.k; c = s.c; rows = s.rows; ordinal = s.ordinal; state = o.state }) true said.Nothing ≡ begunAs a s o
-unfolding begunAs
-begun-other Started s o m = refl
-begun-other (Verdict holds kept room) s o m = refl
-begun-other (Refused number place) s o m = absurd (miss (0 ∷ 1 ∷ []) 2 tt m)
+begun_other : (a : Answer) (s : Session) (o : StartOutcome) → OneOf (0 ∷ 1 ∷ []) (tag_of the_type a)
+    → saying (record { part = Events; k = s.k; c = s.c; rows = s.rows; ordinal = s.ordinal; state = o.state }) true said.Nothing ≡ begun_as a s o
+unfolding begun_as
+begun_other Started s o m = refl
+begun_other (Verdict holds kept room) s o m = refl
+begun_other (Refused number place) s o m = absurd (miss (0 ∷ 1 ∷ []) 2 tt m)
 
 module _ (s : Session) (lent : Lent) (sized : Sized s lent) where
-  rows-lent : lent.rows - 0 ≡ s.rows
-  rows-lent = sub-zero lent.rows ∙ sized.rows_are
+  rows_lent : lent.rows - 0 ≡ s.rows
+  rows_lent = sub-zero lent.rows ∙ sized.rows_are
 
-  nodes-lent : lent.nodes - 0 ≡ 3 * s.c
-  nodes-lent = sub-zero lent.nodes ∙ sized.nodes-are
+  nodes_lent : lent.nodes - 0 ≡ 3 * s.c
+  nodes_lent = sub-zero lent.nodes ∙ sized.nodes_are
 
-  values-lent : lent.values - 0 ≡ valuesAsked s.k
-  values-lent = sub-zero lent.values ∙ sized.values-are
+  values_lent : lent.values - 0 ≡ values_asked s.k
+  values_lent = sub-zero lent.values ∙ sized.values_are
 
-  work-lent : lent.work - 0 ≡ 16 * s.c + 1024
-  work-lent = sub-zero lent.work ∙ sized.work-is
+  work_lent : lent.work - 0 ≡ 16 * s.c + 1024
+  work_lent = sub-zero lent.work ∙ sized.work_is
 
-  start-lent : (rows nodes values : List ℕ)
-      → startOutcome s.k (take (lent.rows - 0) rows) (take (lent.nodes - 0) nodes) (take (lent.values - 0) values) ≡ started s rows nodes values
+  start_lent : (rows nodes values : List ℕ)
+      → start_outcome s.k (take (lent.rows - 0) rows) (take (lent.nodes - 0) nodes) (take (lent.values - 0) values) ≡ started s rows nodes values
   unfolding started
-  start-lent rows nodes values = λ i. startOutcome s.k (take (rows-lent i) rows) (take (nodes-lent i) nodes) (take (values-lent i) values)
+  start_lent rows nodes values = λ i. start_outcome s.k (take (rows_lent i) rows) (take (nodes_lent i) nodes) (take (values_lent i) values)
 
-  event-lent : (e : Event) (rows nodes values work : List ℕ)
-      → eventOutcome (take (lent.rows - 0) rows) (machine s.state (take (lent.nodes - 0) nodes) (take (lent.values - 0) values) (take (lent.work - 0) work)) e
-      ≡ eventOutcome (take s.rows rows) (machine_of s nodes values work) e
+  event_lent : (e : Event) (rows nodes values work : List ℕ)
+      → event_outcome (take (lent.rows - 0) rows) (machine s.state (take (lent.nodes - 0) nodes) (take (lent.values - 0) values) (take (lent.work - 0) work)) e
+      ≡ event_outcome (take s.rows rows) (machine_of s nodes values work) e
   unfolding machine_of
-  event-lent e rows nodes values work =
-      λ i. eventOutcome (take (rows-lent i) rows) (machine s.state (take (nodes-lent i) nodes) (take (values-lent i) values) (take (work-lent i) work)) e
+  event_lent e rows nodes values work =
+      λ i. event_outcome (take (rows_lent i) rows) (machine s.state (take (nodes_lent i) nodes) (take (values_lent i) values) (take (work_lent i) work)) e
 
   module _ (rows nodes values : List ℕ) (t : Turn) (ns vs : List ℕ)
       (starts : Starts s.k (take (lent.rows - 0) rows) (take (lent.nodes - 0) nodes) (take (lent.values - 0) values) t ns vs) where
-    begin-left : (r : After) → r ≡ begunAs (started s rows nodes values).answer s (started s rows nodes values)
-        → Begins (beginLeft s (started s rows nodes values) nodes values) r (ns ++ drop (lent.nodes - 0) nodes) (vs ++ drop (lent.values - 0) values)
-    unfolding beginLeft
-    begin-left r e =
-        let same = start-lent rows nodes values in
+    begin_left_law : (r : After) → r ≡ begun_as (started s rows nodes values).answer s (started s rows nodes values)
+        → Begins (begin_left s (started s rows nodes values) nodes values) r (ns ++ drop (lent.nodes - 0) nodes) (vs ++ drop (lent.values - 0) values)
+    unfolding begin_left
+    begin_left_law r e =
+        let same = start_lent rows nodes values in
         record {
           after_is = e;
-          nodes-are = λ i. (starts.nodes-are ∙ ap (λ (o : StartOutcome). o.nodes) same) i ++ drop (nodes-lent i) nodes;
-          values-are = λ i. (starts.values-are ∙ ap (λ (o : StartOutcome). o.values) same) i ++ drop (values-lent i) values;
+          nodes_are = λ i. (starts.nodes_are ∙ ap (λ (o : StartOutcome). o.nodes) same) i ++ drop (nodes_lent i) nodes;
+          values_are = λ i. (starts.values_are ∙ ap (λ (o : StartOutcome). o.values) same) i ++ drop (values_lent i) values;
         }
 
-    pub begin-refused : {u : Session} {number place : ℕ} → t.answer ≡ Refused number place → u ≡ turnedTo s Over
-        → Begins (beginLeft s (started s rows nodes values) nodes values) (saying u false (said.NoStart number place)) (ns ++ drop (lent.nodes - 0) nodes) (vs ++ drop (lent.values - 0) values)
-    begin-refused {u} {number} {place} e q =
-        let answer = sym e ∙ starts.answer ∙ ap (λ (o : StartOutcome). o.answer) (start-lent rows nodes values) in
-        begin-left (saying u false (said.NoStart number place))
+    pub begin_refused : {u : Session} {number place : ℕ} → t.answer ≡ Refused number place → u ≡ turned_to s Over
+        → Begins (begin_left s (started s rows nodes values) nodes values) (saying u false (said.NoStart number place)) (ns ++ drop (lent.nodes - 0) nodes) (vs ++ drop (lent.values - 0) values)
+    begin_refused {u} {number} {place} e q =
+        let answer = sym e ∙ starts.answer ∙ ap (λ (o : StartOutcome). o.answer) (start_lent rows nodes values) in
+        begin_left_law (saying u false (said.NoStart number place))
         (ap (λ (x : Session). saying x false (said.NoStart number place)) q
-        ∙ begun-refused (started s rows nodes values).answer s (started s rows nodes values) number place answer)
+        ∙ begun_refused (started s rows nodes values).answer s (started s rows nodes values) number place answer)
 
-    pub begin-started : (r : After) → OneOf (0 ∷ 1 ∷ []) (tag_of the_type t.answer)
+    pub begin_started : (r : After) → OneOf (0 ∷ 1 ∷ []) (tag_of the_type t.answer)
         → r ≡ saying (record { part = Events; k = s.k; c = s.c; rows = lent.rows; ordinal = s.ordinal; state = t.state }) true said.Nothing
-        → Begins (beginLeft s (started s rows nodes values) nodes values) r (ns ++ drop (lent.nodes - 0) nodes) (vs ++ drop (lent.values - 0) values)
-    begin-started r m q =
-        let same = start-lent rows nodes values in
+        → Begins (begin_left s (started s rows nodes values) nodes values) r (ns ++ drop (lent.nodes - 0) nodes) (vs ++ drop (lent.values - 0) values)
+    begin_started r m q =
+        let same = start_lent rows nodes values in
         let answer = starts.answer ∙ ap (λ (o : StartOutcome). o.answer) same in
         let state = starts.state ∙ ap (λ (o : StartOutcome). o.state) same in
         let rows_are = sized.rows_are in
-        begin-left r
+        begin_left_law r
         (q
         ∙ (λ i. saying (record { part = Events; k = s.k; c = s.c; rows = rows_are i; ordinal = s.ordinal; state = state i }) true said.Nothing)
-        ∙ begun-other (started s rows nodes values).answer s (started s rows nodes values) (rw (← answer) m))
+        ∙ begun_other (started s rows nodes values).answer s (started s rows nodes values) (rw (← answer) m))
 
-  pub happen-left : (h : Bool) (e : Event) (rows nodes values work : List ℕ) (t : Turn) (ns vs ws : List ℕ)
+  pub happen_left_law : (h : Bool) (e : Event) (rows nodes values work : List ℕ) (t : Turn) (ns vs ws : List ℕ)
       → Happens (take (lent.rows - 0) rows) (machine s.state (take (lent.nodes - 0) nodes) (take (lent.values - 0) values) (take (lent.work - 0) work)) e t ns vs ws
       → Judges
       (happened s h e rows nodes values work)
@@ -104,15 +104,15 @@ module _ (s : Session) (lent : Lent) (sized : Sized s lent) where
       (ns ++ drop (lent.nodes - 0) nodes)
       (vs ++ drop (lent.values - 0) values)
       (ws ++ drop (lent.work - 0) work)
-  unfolding happened happenLeft
-  happen-left h e rows nodes values work t ns vs ws p =
-      let same = event-lent e rows nodes values work in
+  unfolding happened happen_left
+  happen_left_law h e rows nodes values work t ns vs ws p =
+      let same = event_lent e rows nodes values work in
       let answer = p.answer ∙ ap (λ (o : EventOutcome). o.answer) same in
       let state = p.state ∙ ap (λ (o : EventOutcome). o.left.state) same in
       let rows_are = sized.rows_are in
       record {
         after_is = λ i. saying (record { part = Events; k = s.k; c = s.c; rows = rows_are i; ordinal = s.ordinal + 1; state = state i }) h (said.Event (s.ordinal + 1) (answer i));
-        nodes-are = λ i. (p.nodes-are ∙ ap (λ (o : EventOutcome). o.left.nodes) same) i ++ drop (nodes-lent i) nodes;
-        values-are = λ i. (p.values-are ∙ ap (λ (o : EventOutcome). o.left.values) same) i ++ drop (values-lent i) values;
-        work-is = λ i. (p.work-is ∙ ap (λ (o : EventOutcome). o.left.work) same) i ++ drop (work-lent i) work;
+        nodes_are = λ i. (p.nodes_are ∙ ap (λ (o : EventOutcome). o.left.nodes) same) i ++ drop (nodes_lent i) nodes;
+        values_are = λ i. (p.values_are ∙ ap (λ (o : EventOutcome). o.left.values) same) i ++ drop (values_lent i) values;
+        work_is = λ i. (p.work_is ∙ ap (λ (o : EventOutcome). o.left.work) same) i ++ drop (work_lent i) work;
       }

@@ -5,10 +5,10 @@ use Rattle.lines.specs.declared.Line.TheVariants as line
 use Rattle.meaning.specs.declared.Event.{Event}
 use Rattle.meaning.specs.declared.Answer.{Answer}
 use Rattle.meaning.specs.declared.Answer.TheVariants.{Started, Verdict, Refused}
-use Rattle.meaning.specs.Outcome.{state_of, StartOutcome, startOutcome, EventOutcome, eventOutcome}
+use Rattle.meaning.specs.Outcome.{state_of, StartOutcome, start_outcome, EventOutcome, event_outcome}
 use Rattle.answers.specs.declared.Said.{Said}
 use Rattle.answers.specs.declared.Said.TheVariants as said
-use Rattle.transcript.specs.Output.{eventOf, valuesAsked}
+use Rattle.transcript.specs.Output.{event_of, values_asked}
 use Rattle.session.specs.declared.Part.{Part}
 use Rattle.session.specs.declared.Part.TheVariants.{First, Rows, Events, Over}
 use Rattle.session.specs.declared.Session.{Session}
@@ -16,8 +16,8 @@ use Rattle.session.specs.declared.After.{After}
 use Rattle.session.specs.Sessions.{machine_of}
 
 -- the session before the first line
-unfoldable pub openedSession : Session
-openedSession = record { part = First; k = 0; c = 0; rows = 0; ordinal = 0; state = state_of 0 0 }
+unfoldable pub opened_session : Session
+opened_session = record { part = First; k = 0; c = 0; rows = 0; ordinal = 0; state = state_of 0 0 }
 
 -- the run has ended
 abbrev pub is_over : Part → Bool
@@ -27,30 +27,30 @@ is_over Events = false
 is_over Over = true
 
 -- the session with another part
-abbrev pub turnedTo : Session → Part → Session
-turnedTo s p = record { part = p; k = s.k; c = s.c; rows = s.rows; ordinal = s.ordinal; state = s.state }
+abbrev pub turned_to : Session → Part → Session
+turned_to s p = record { part = p; k = s.k; c = s.c; rows = s.rows; ordinal = s.ordinal; state = s.state }
 
 -- a session, with or without the header, and with what is said
 abbrev pub saying : Session → Bool → Said → After
 saying s h said = record { session = s; told = record { header = h; said = said } }
 
 -- nothing is put out
-abbrev pub quietOf : Session → After
-quietOf s = saying s false said.Nothing
+abbrev pub quiet_of : Session → After
+quiet_of s = saying s false said.Nothing
 
 -- a line that does not read, by the part
-unfoldable pub badAs : Part → Session → After
-badAs First s = saying (turnedTo s Over) false said.Bad
-badAs Rows s = saying (turnedTo s Over) false said.Bad
-badAs Events s = saying (turnedTo s Over) false said.Bad
-badAs Over s = quietOf s
+unfoldable pub bad_as : Part → Session → After
+bad_as First s = saying (turned_to s Over) false said.Bad
+bad_as Rows s = saying (turned_to s Over) false said.Bad
+bad_as Events s = saying (turned_to s Over) false said.Bad
+bad_as Over s = quiet_of s
 
 -- the sizes, by the part
-unfoldable pub sizesAs : Part → Session → ℕ → ℕ → After
-sizesAs First s k c = quietOf (record { part = Rows; k = k; c = c; rows = 0; ordinal = s.ordinal; state = s.state })
-sizesAs Rows s k c = badAs Rows s
-sizesAs Events s k c = badAs Events s
-sizesAs Over s k c = badAs Over s
+unfoldable pub sizes_as : Part → Session → ℕ → ℕ → After
+sizes_as First s k c = quiet_of (record { part = Rows; k = k; c = c; rows = 0; ordinal = s.ordinal; state = s.state })
+sizes_as Rows s k c = bad_as Rows s
+sizes_as Events s k c = bad_as Events s
+sizes_as Over s k c = bad_as Over s
 
 -- what a row leaves
 pub record Rowed : Type 0 where
@@ -58,18 +58,18 @@ pub record Rowed : Type 0 where
   pub rows : List ℕ
 
 -- a row: one more, if there are fewer than 65
-unfoldable pub rowAs : Part → Session → List ℕ → List ℕ → Rowed
-rowAs First s nine rows = record { after = badAs First s; rows = rows }
-rowAs Rows s nine rows =
+unfoldable pub row_as : Part → Session → List ℕ → List ℕ → Rowed
+row_as First s nine rows = record { after = bad_as First s; rows = rows }
+row_as Rows s nine rows =
     cond
     (ltb 576 s.rows)
-    (record { after = badAs Rows s; rows = rows })
+    (record { after = bad_as Rows s; rows = rows })
     (record {
-      after = quietOf (record { part = Rows; k = s.k; c = s.c; rows = s.rows + 9; ordinal = s.ordinal; state = s.state });
+      after = quiet_of (record { part = Rows; k = s.k; c = s.c; rows = s.rows + 9; ordinal = s.ordinal; state = s.state });
       rows = take s.rows rows ++ (nine ++ drop (s.rows + 9) rows);
     })
-rowAs Events s nine rows = record { after = badAs Events s; rows = rows }
-rowAs Over s nine rows = record { after = badAs Over s; rows = rows }
+row_as Events s nine rows = record { after = bad_as Events s; rows = rows }
+row_as Over s nine rows = record { after = bad_as Over s; rows = rows }
 
 -- what a start leaves
 pub record Begun : Type 0 where
@@ -79,26 +79,26 @@ pub record Begun : Type 0 where
 
 -- the outcome of start on the parts of the tables that the sizes ask for
 unfoldable pub started : Session → List ℕ → List ℕ → List ℕ → StartOutcome
-started s rows nodes values = startOutcome s.k (take s.rows rows) (take (3 * s.c) nodes) (take (valuesAsked s.k) values)
+started s rows nodes values = start_outcome s.k (take s.rows rows) (take (3 * s.c) nodes) (take (values_asked s.k) values)
 
 -- the header, or the line that says why not
-unfoldable pub begunAs : Answer → Session → StartOutcome → After
-begunAs (Refused number place) s o = saying (turnedTo s Over) false (said.NoStart number place)
-begunAs Started s o =
+unfoldable pub begun_as : Answer → Session → StartOutcome → After
+begun_as (Refused number place) s o = saying (turned_to s Over) false (said.NoStart number place)
+begun_as Started s o =
     saying (record { part = Events; k = s.k; c = s.c; rows = s.rows; ordinal = s.ordinal; state = o.state }) true said.Nothing
-begunAs (Verdict holds kept room) s o =
+begun_as (Verdict holds kept room) s o =
     saying (record { part = Events; k = s.k; c = s.c; rows = s.rows; ordinal = s.ordinal; state = o.state }) true said.Nothing
 
-unfoldable pub beginLeft : Session → StartOutcome → List ℕ → List ℕ → Begun
-beginLeft s o nodes values =
-    record { after = begunAs o.answer s o; nodes = o.nodes ++ drop (3 * s.c) nodes; values = o.values ++ drop (valuesAsked s.k) values }
+unfoldable pub begin_left : Session → StartOutcome → List ℕ → List ℕ → Begun
+begin_left s o nodes values =
+    record { after = begun_as o.answer s o; nodes = o.nodes ++ drop (3 * s.c) nodes; values = o.values ++ drop (values_asked s.k) values }
 
 -- what is due before an event and at the end, by the part
-unfoldable pub readyAs : Part → Session → List ℕ → List ℕ → List ℕ → Begun
-readyAs First s rows nodes values = record { after = badAs First s; nodes = nodes; values = values }
-readyAs Rows s rows nodes values = beginLeft s (started s rows nodes values) nodes values
-readyAs Events s rows nodes values = record { after = quietOf s; nodes = nodes; values = values }
-readyAs Over s rows nodes values = record { after = quietOf s; nodes = nodes; values = values }
+unfoldable pub ready_as : Part → Session → List ℕ → List ℕ → List ℕ → Begun
+ready_as First s rows nodes values = record { after = bad_as First s; nodes = nodes; values = values }
+ready_as Rows s rows nodes values = begin_left s (started s rows nodes values) nodes values
+ready_as Events s rows nodes values = record { after = quiet_of s; nodes = nodes; values = values }
+ready_as Over s rows nodes values = record { after = quiet_of s; nodes = nodes; values = values }
 
 -- what an event leaves
 pub record Happened : Type 0 where
@@ -108,31 +108,31 @@ pub record Happened : Type 0 where
   pub work : List ℕ
 
 -- an event of a rule that has started, with the outcome of the event on the parts of the tables that the sizes ask for
-unfoldable pub happenLeft : Session → Bool → EventOutcome → List ℕ → List ℕ → List ℕ → Happened
-happenLeft s h o nodes values work =
+unfoldable pub happen_left : Session → Bool → EventOutcome → List ℕ → List ℕ → List ℕ → Happened
+happen_left s h o nodes values work =
     record {
       after = saying
           (record { part = Events; k = s.k; c = s.c; rows = s.rows; ordinal = s.ordinal + 1; state = o.left.state })
           h
           (said.Event (s.ordinal + 1) o.answer);
       nodes = o.left.nodes ++ drop (3 * s.c) nodes;
-      values = o.left.values ++ drop (valuesAsked s.k) values;
+      values = o.left.values ++ drop (values_asked s.k) values;
       work = o.left.work ++ drop (16 * s.c + 1024) work;
     }
 
 unfoldable pub happened : Session → Bool → Event → List ℕ → List ℕ → List ℕ → List ℕ → Happened
-happened s h e rows nodes values work = happenLeft s h (eventOutcome (take s.rows rows) (machine_of s nodes values work) e) nodes values work
+happened s h e rows nodes values work = happen_left s h (event_outcome (take s.rows rows) (machine_of s nodes values work) e) nodes values work
 
 -- an event after what was due: it is judged if the rule has started
-unfoldable pub eventAs : Part → Begun → Event → List ℕ → List ℕ → Happened
-eventAs First b e rows work = record { after = b.after; nodes = b.nodes; values = b.values; work = work }
-eventAs Rows b e rows work = record { after = b.after; nodes = b.nodes; values = b.values; work = work }
-eventAs Events b e rows work = happened b.after.session b.after.told.header e rows b.nodes b.values work
-eventAs Over b e rows work = record { after = b.after; nodes = b.nodes; values = b.values; work = work }
+unfoldable pub event_as : Part → Begun → Event → List ℕ → List ℕ → Happened
+event_as First b e rows work = record { after = b.after; nodes = b.nodes; values = b.values; work = work }
+event_as Rows b e rows work = record { after = b.after; nodes = b.nodes; values = b.values; work = work }
+event_as Events b e rows work = happened b.after.session b.after.told.header e rows b.nodes b.values work
+event_as Over b e rows work = record { after = b.after; nodes = b.nodes; values = b.values; work = work }
 
-unfoldable pub eventLeft : Session → Event → List ℕ → List ℕ → List ℕ → List ℕ → Happened
-eventLeft s e rows nodes values work =
-    eventAs (readyAs s.part s rows nodes values).after.session.part (readyAs s.part s rows nodes values) e rows work
+unfoldable pub event_left : Session → Event → List ℕ → List ℕ → List ℕ → List ℕ → Happened
+event_left s e rows nodes values work =
+    event_as (ready_as s.part s rows nodes values).after.session.part (ready_as s.part s rows nodes values) e rows work
 
 -- what a line leaves
 pub record Left : Type 0 where
@@ -142,31 +142,31 @@ pub record Left : Type 0 where
   pub values : List ℕ
   pub work : List ℕ
 
-unfoldable pub lineLeft : Session → Line → List ℕ → List ℕ → List ℕ → List ℕ → Left
-lineLeft s (line.Sizes k c) rows nodes values work = record { after = sizesAs s.part s k c; rows = rows; nodes = nodes; values = values; work = work }
-lineLeft s (line.Row a b c d e f g h i) rows nodes values work =
-    let r = rowAs s.part s (a ∷ b ∷ c ∷ d ∷ e ∷ f ∷ g ∷ h ∷ i ∷ []) rows in
+unfoldable pub line_left : Session → Line → List ℕ → List ℕ → List ℕ → List ℕ → Left
+line_left s (line.Sizes k c) rows nodes values work = record { after = sizes_as s.part s k c; rows = rows; nodes = nodes; values = values; work = work }
+line_left s (line.Row a b c d e f g h i) rows nodes values work =
+    let r = row_as s.part s (a ∷ b ∷ c ∷ d ∷ e ∷ f ∷ g ∷ h ∷ i ∷ []) rows in
     record { after = r.after; rows = r.rows; nodes = nodes; values = values; work = work }
-lineLeft s (line.Event p n a b c d) rows nodes values work =
-    let h = eventLeft s (eventOf p n a b c) rows nodes values work in
+line_left s (line.Event p n a b c d) rows nodes values work =
+    let h = event_left s (event_of p n a b c) rows nodes values work in
     record { after = h.after; rows = rows; nodes = h.nodes; values = h.values; work = h.work }
-lineLeft s line.Bad rows nodes values work = record { after = badAs s.part s; rows = rows; nodes = nodes; values = values; work = work }
+line_left s line.Bad rows nodes values work = record { after = bad_as s.part s; rows = rows; nodes = nodes; values = values; work = work }
 
 -- a call gave this back and left these tables
 pub record Begins (b : Begun) (r : After) (nodes values : List ℕ) : Type 0 where
   pub after_is : r ≡ b.after
-  pub nodes-are : nodes ≡ b.nodes
-  pub values-are : values ≡ b.values
+  pub nodes_are : nodes ≡ b.nodes
+  pub values_are : values ≡ b.values
 
 pub record Judges (h : Happened) (r : After) (nodes values work : List ℕ) : Type 0 where
   pub after_is : r ≡ h.after
-  pub nodes-are : nodes ≡ h.nodes
-  pub values-are : values ≡ h.values
-  pub work-is : work ≡ h.work
+  pub nodes_are : nodes ≡ h.nodes
+  pub values_are : values ≡ h.values
+  pub work_is : work ≡ h.work
 
 pub record Does (l : Left) (r : After) (rows nodes values work : List ℕ) : Type 0 where
   pub after_is : r ≡ l.after
   pub rows_are : rows ≡ l.rows
-  pub nodes-are : nodes ≡ l.nodes
-  pub values-are : values ≡ l.values
-  pub work-is : work ≡ l.work
+  pub nodes_are : nodes ≡ l.nodes
+  pub values_are : values ≡ l.values
+  pub work_is : work ≡ l.work

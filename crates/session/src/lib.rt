@@ -1,9 +1,9 @@
 // What each line of the input does: the parts come in order, and what does not read in its part ends the run.
 // What a line leaves, and what is put out for it, is in specs/Lefts.antt.
 ghost use Rattle.std.specs.Prelude.{◌≡◌, ◌+◌, ◌≤◌, ◌<◌, ◌++◌, length, take, drop};
-ghost use Rattle.transcript.specs.Output.{eventOf, valuesAsked};
+ghost use Rattle.transcript.specs.Output.{event_of, values_asked};
 ghost use Rattle.session.specs.Sessions.{Sound, Sized, Tables};
-ghost use Rattle.session.specs.Lefts.{openedSession, is_over, turnedTo, quietOf, badAs, sizesAs, rowAs, started, beginLeft, readyAs, happened, eventLeft, lineLeft, Begins, Judges, Does};
+ghost use Rattle.session.specs.Lefts.{opened_session, is_over, turned_to, quiet_of, bad_as, sizes_as, row_as, started, begin_left, ready_as, happened, event_left, line_left, Begins, Judges, Does};
 
 use answers::{Said, Told};
 use lines::Line;
@@ -48,7 +48,7 @@ const LISTED: [usize; 11] = [0, 4, 12, 28, 60, 124, 252, 508, 1020, 2044, 4092];
 
 // The length of the value slice. A k past 10 is refused before the slice is looked at.
 fn listed(k: u32) -> usize
-    ensures value { result ≡ valuesAsked k }
+    ensures value { result ≡ values_asked k }
     ensures upper_bound { result ≤ 4092 }
 {
     if 10 < k {
@@ -82,7 +82,7 @@ fn lend(s: Session) -> Lent
 
 // The session before the first line.
 pub fn opened() -> Session
-    ensures { result ≡ openedSession }
+    ensures { result ≡ opened_session }
 {
     Session {
         part: Part::First,
@@ -114,7 +114,7 @@ pub fn over(s: Session) -> bool
 
 // The session with another part.
 fn turned(s: Session, part: Part) -> Session
-    ensures { result ≡ turnedTo s part }
+    ensures { result ≡ turned_to s part }
 {
     let state = s.state;
     Session {
@@ -129,7 +129,7 @@ fn turned(s: Session, part: Part) -> Session
 
 // Nothing is put out.
 fn quiet(s: Session) -> After
-    ensures { result ≡ quietOf s }
+    ensures { result ≡ quiet_of s }
 {
     After {
         session: s,
@@ -142,7 +142,7 @@ fn quiet(s: Session) -> After
 
 // A line that does not read ends the run. Nothing is said of the lines after it.
 fn bad(s: Session) -> After
-    ensures { result ≡ badAs s.part s }
+    ensures { result ≡ bad_as s.part s }
 {
     let part = s.part;
     if let Part::Over = part {
@@ -159,7 +159,7 @@ fn bad(s: Session) -> After
 
 // The first line.
 fn sizes(s: Session, k: u32, c: u32) -> After
-    ensures { result ≡ sizesAs s.part s k c }
+    ensures { result ≡ sizes_as s.part s k c }
 {
     let part = s.part;
     let Part::First = part else {
@@ -190,7 +190,7 @@ fn put_row(rows: &mut [u32], at: usize, nine: [u32; 9])
 
 // One row more. A rule has up to 65 lines: 64 rows are the most that start takes.
 fn row(s: Session, nine: [u32; 9], rows: &mut [u32; 585]) -> After
-    ensures { (result ≡ (rowAs s.part s nine rows.old).after) × (rows.new ≡ (rowAs s.part s nine rows.old).rows) }
+    ensures { (result ≡ (row_as s.part s nine rows.old).after) × (rows.new ≡ (row_as s.part s nine rows.old).rows) }
 {
     let part = s.part;
     let Part::Rows = part else {
@@ -216,7 +216,7 @@ fn row(s: Session, nine: [u32; 9], rows: &mut [u32; 585]) -> After
 fn begin(s: Session, rows: &[u32], nodes: &mut [u32], values: &mut [u32]) -> After
     requires sound { Sound s }
     requires rows_len { (length rows.now ≡ 585) × (length nodes.old ≡ 1536) × (length values.old ≡ 4092) }
-    ensures { Begins (beginLeft s (started s rows.now nodes.old values.old) nodes.old values.old) result nodes.new values.new }
+    ensures { Begins (begin_left s (started s rows.now nodes.old values.old) nodes.old values.old) result nodes.new values.new }
 {
     let lent = lend(s);
     let n = lent.rows;
@@ -258,7 +258,7 @@ pub fn ready(
     values: &mut [u32; 4092],
 ) -> After
     requires { Sound s }
-    ensures { Begins (readyAs s.part s rows.now nodes.old values.old) result nodes.new values.new }
+    ensures { Begins (ready_as s.part s rows.now nodes.old values.old) result nodes.new values.new }
 {
     let part = s.part;
     match part {
@@ -318,7 +318,7 @@ fn happen(
 
 // The event of a line: one fact. The fourth value only makes the count 4, which is refused.
 fn event_of(predicate: u32, count: u32, a: u32, b: u32, c: u32) -> Event
-    ensures { result ≡ eventOf predicate count a b c }
+    ensures { result ≡ event_of predicate count a b c }
 {
     let fact = Fact {
         predicate,
@@ -341,7 +341,7 @@ fn event(
     work: &mut [u32; 9216],
 ) -> After
     requires { Sound s × (s.ordinal < 18446744073709551615) }
-    ensures { Judges (eventLeft s event rows.now nodes.old values.old work.old) result nodes.new values.new work.new }
+    ensures { Judges (event_left s event rows.now nodes.old values.old work.old) result nodes.new values.new work.new }
 {
     let begun = ready(s, rows, nodes, values);
     let started = begun.session;
@@ -363,7 +363,7 @@ pub fn line(
     work: &mut [u32; 9216],
 ) -> After
     requires { Sound s × (s.ordinal < 18446744073709551615) }
-    ensures { Does (lineLeft s found rows.old nodes.old values.old work.old) result rows.new nodes.new values.new work.new }
+    ensures { Does (line_left s found rows.old nodes.old values.old work.old) result rows.new nodes.new values.new work.new }
 {
     match found {
         Line::Sizes(k, c) => sizes(s, k, c),

@@ -13,16 +13,16 @@ module _ (a : ℕ) (w : List ℕ) (fits : a ≤ length w) where
   lent_length = mid_len 0 a w fits ∙ omega arith
 
   -- the slice is as long as it was
-  pub back-length : (ys : List ℕ) → length ys ≡ length (take (a - 0) (drop 0 w)) → length (put_mid 0 (a - 0) w ys) ≡ length w
-  back-length ys e = same_len_mid 0 (a - 0) w ys e
+  pub back_length : (ys : List ℕ) → length ys ≡ length (take (a - 0) (drop 0 w)) → length (put_mid 0 (a - 0) w ys) ≡ length w
+  back_length ys e = same_len_mid 0 (a - 0) w ys e
 
   -- behind the part nothing changes
-  pub lent-rest : (ys : List ℕ) → length ys ≡ length (take (a - 0) (drop 0 w)) → Rest a w (put_mid 0 (a - 0) w ys)
-  lent-rest ys e = record {
+  pub lent_rest : (ys : List ℕ) → length ys ≡ length (take (a - 0) (drop 0 w)) → Rest a w (put_mid 0 (a - 0) w ys)
+  lent_rest ys e = record {
     eq = λ i h.
         let z : a + (i - a) ≡ i = omega arith in
         rw (← z) (rw (← get_or-drop a (put_mid 0 (a - 0) w ys) (i - a) 0, ← get_or-drop a w (i - a) 0, drop_put 0 a w ys (omega arith) fits (e ∙ mid_len 0 a w fits)) refl);
   }
 
-pub rest-two : {k : ℕ} {xs ys zs : List ℕ} → Rest k xs ys → Rest k ys zs → Rest k xs zs
-rest-two p q = record { eq = λ i h. q.eq i h ∙ p.eq i h }
+pub rest_two : {k : ℕ} {xs ys zs : List ℕ} → Rest k xs ys → Rest k ys zs → Rest k xs zs
+rest_two p q = record { eq = λ i h. q.eq i h ∙ p.eq i h }

@@ -6,10 +6,10 @@ use mathlib.Core.Bool.{Bool, true, false}
 use mathlib.Core.List.{List}
 use Rattle.trees.specs.Kept.{diagrams}
 use Rattle.nodes.specs.Nodes.{Decides}
-use Rattle.trees.specs.Sizes.{sizesOf}
+use Rattle.trees.specs.Sizes.{sizes_of}
 
-pub one-sizes : (ns : List ℕ) (kept : ℕ) (refs : List ℕ) (count : ℕ) (xs ys : List ℕ) → xs ≡ sizesOf (diagrams ns kept refs count) → ys ≡ sizesOf (diagrams ns kept refs count) → xs ≡ ys
-one-sizes ns kept refs count xs ys p q = p ∙ sym q
+pub one_sizes : (ns : List ℕ) (kept : ℕ) (refs : List ℕ) (count : ℕ) (xs ys : List ℕ) → xs ≡ sizes_of (diagrams ns kept refs count) → ys ≡ sizes_of (diagrams ns kept refs count) → xs ≡ ys
+one_sizes ns kept refs count xs ys p q = p ∙ sym q
 
 pub one_answer : (P : Type 0) (a b : Bool) → Decides P a → Decides P b → a ≡ b
 one_answer P true true p q = refl

@@ -8,17 +8,17 @@ use native.Mathlib.Omega.{arith}
 use lib.Pow.{pow-lt}
 use lib.ListN.{length, get_or, length-map, get_or-eq_default}
 use Rattle.trees.specs.Bits.{bit}
-use Rattle.trees.proofs.Tests.{lt-or-ge}
+use Rattle.trees.proofs.Tests.{lt_or_ge}
 use Rattle.nodes.specs.Nodes.{Table, Zeroed}
-use Rattle.visits.proofs.CountLaws.{countBelow, count_most}
+use Rattle.visits.proofs.CountLaws.{count_below, count_most}
 use Rattle.sizes.specs.Words.{Word, none, has_row, give, given, sides, down, marked, Counts, Pushed, Sized}
-use Rattle.sizes.proofs.WordLaws.{rows_none, rows-only, words-at}
-use Rattle.sizes.proofs.GiveLaws.{down-past}
-use Rattle.sizes.proofs.Sized.{sized, sized-none}
+use Rattle.sizes.proofs.WordLaws.{rows_none, rows_only, words_at}
+use Rattle.sizes.proofs.GiveLaws.{down_past}
+use Rattle.sizes.proofs.Sized.{sized, sized_none}
 
-pub given-none : (ws : List Word) (refs : List ℕ) (base : ℕ) → ws ≡ given ws refs base 0
+pub given_none : (ws : List Word) (refs : List ℕ) (base : ℕ) → ws ≡ given ws refs base 0
 unfolding given
-given-none ws refs base = refl
+given_none ws refs base = refl
 
 -- a bit moved up stays whole below 32
 pub shifted : (t : ℕ) → t < 32 → 1 * 2 ^ t % 4294967296 ≡ 2 ^ t
@@ -28,18 +28,18 @@ shifted t h = whole (2 ^ t) (pow-lt h)
     whole x h = omega arith
 
 -- one root more
-pub given-more : (base t w : ℕ) (refs vs ws us : List ℕ) → w ≡ 2 ^ t → map (has_row base) ws ≡ given (map (has_row base) vs) refs base t
+pub given_more : (base t w : ℕ) (refs vs ws us : List ℕ) → w ≡ 2 ^ t → map (has_row base) ws ≡ given (map (has_row base) vs) refs base t
     → map (has_row base) us ≡ give (map (has_row base) ws) (get_or refs (base + t) 0) (has_row base w)
     → map (has_row base) us ≡ given (map (has_row base) vs) refs base (t + 1)
 unfolding given
-given-more base t w refs vs ws us z e f =
+given_more base t w refs vs ws us z e f =
     let n : t + 1 ≡ suc t = omega arith in
-    rw n (f ∙ ap₂ (λ (x : List Word) (y : Word). give x (get_or refs (base + t) 0) y) e (fun_ext (λ i. ap (λ (x : ℕ). has_row base x i) z ∙ rows-only base t i)))
+    rw n (f ∙ ap₂ (λ (x : List Word) (y : Word). give x (get_or refs (base + t) 0) y) e (fun_ext (λ i. ap (λ (x : ℕ). has_row base x i) z ∙ rows_only base t i)))
 
 -- the first node but n counts its rows, and the pass over those before it the others
 marked_step : (ns : List ℕ) (m : ℕ) → Table ns m → (n : ℕ) → n < m → (ws : List Word) (i : ℕ) → marked ns (suc n) ws i ≡ bit (get_or ws n none i) + marked ns n (sides ns n ws) i
-unfolding marked countBelow down
-marked_step ns m t n h ws i = ap (λ (x : Word). bit (x i) + countBelow n (λ j. get_or (down ns n (sides ns n ws)) j none i)) (down-past ns m t.back (suc n) ws n h (omega arith))
+unfolding marked count_below down
+marked_step ns m t n h ws i = ap (λ (x : Word). bit (x i) + count_below n (λ j. get_or (down ns n (sides ns n ws)) j none i)) (down_past ns m t.back (suc n) ws n h (omega arith))
 
 -- the first n nodes are still to be counted: with them the sizes ys are those of all
 pub record Pushing (ns : List ℕ) (kept base : ℕ) (vs xs : List ℕ) (n : ℕ) (ws ys : List ℕ) : Type 0 where
@@ -48,34 +48,34 @@ pub record Pushing (ns : List ℕ) (kept base : ℕ) (vs xs : List ℕ) (n : ℕ
   pub size : length ys ≡ length xs
   pub each : (i : ℕ) → i < length xs → get_or ys i 0 + marked ns n (map (has_row base) ws) i ≡ get_or xs i 0 + marked ns kept (map (has_row base) vs) i
 
-pub pushing-all : {ns : List ℕ} {kept base : ℕ} {vs xs : List ℕ} → length vs ≡ kept → Pushing ns kept base vs xs kept vs xs
-pushing-all e = record { few = omega arith; long = e; size = refl; each = λ i h. refl }
+pub pushing_all : {ns : List ℕ} {kept base : ℕ} {vs xs : List ℕ} → length vs ≡ kept → Pushing ns kept base vs xs kept vs xs
+pushing_all e = record { few = omega arith; long = e; size = refl; each = λ i h. refl }
 
-pub pushing-none : {ns : List ℕ} {kept base : ℕ} {vs xs ws ys : List ℕ} {n : ℕ} → n ≤ 0 → Pushing ns kept base vs xs n ws ys → Pushed ns kept (map (has_row base) vs) xs ys
-unfolding marked countBelow
-pushing-none {n = zero} z p = record { size = p.size; each = λ i h. omega (arith, p.each i h) }
-pushing-none {n = suc n} z p = absurd (omega arith)
+pub pushing_none : {ns : List ℕ} {kept base : ℕ} {vs xs ws ys : List ℕ} {n : ℕ} → n ≤ 0 → Pushing ns kept base vs xs n ws ys → Pushed ns kept (map (has_row base) vs) xs ys
+unfolding marked count_below
+pushing_none {n = zero} z p = record { size = p.size; each = λ i h. omega (arith, p.each i h) }
+pushing_none {n = suc n} z p = absurd (omega arith)
 
-marked-most : (ns : List ℕ) (n : ℕ) (ws : List Word) (i : ℕ) → marked ns n ws i ≤ n
+marked_most : (ns : List ℕ) (n : ℕ) (ws : List Word) (i : ℕ) → marked ns n ws i ≤ n
 unfolding marked
-marked-most ns n ws i = count_most n _
+marked_most ns n ws i = count_most n _
 
 -- no size is more than the nodes above what it was
-pub pushing-small : {ns : List ℕ} {kept base : ℕ} {vs xs ws ys : List ℕ} {n : ℕ} → Table ns kept → ((i : ℕ) → get_or xs i 0 ≤ 4096) → Pushing ns kept base vs xs n ws ys → (i : ℕ) → get_or ys i 0 ≤ 8192
-pushing-small {ns} {kept} {base} {vs} {xs} {ws} {ys} t few p i = ⊎_elim
-    (λ h. omega (arith, p.each i h, few i, t.small, t.fits, marked-most ns kept (map (has_row base) vs) i))
+pub pushing_small : {ns : List ℕ} {kept base : ℕ} {vs xs ws ys : List ℕ} {n : ℕ} → Table ns kept → ((i : ℕ) → get_or xs i 0 ≤ 4096) → Pushing ns kept base vs xs n ws ys → (i : ℕ) → get_or ys i 0 ≤ 8192
+pushing_small {ns} {kept} {base} {vs} {xs} {ws} {ys} t few p i = ⊎_elim
+    (λ h. omega (arith, p.each i h, few i, t.small, t.fits, marked_most ns kept (map (has_row base) vs) i))
     (λ h. let e = get_or-eq_default ys 0 {n = i} (omega (arith, p.size)) in omega arith)
-    (lt-or-ge i (length xs))
+    (lt_or_ge i (length xs))
 
 -- one node more: its word given to its low side and to its high side, and its rows counted
-pub pushing-more : {ns : List ℕ} {kept base : ℕ} {vs xs ws ys : List ℕ} (n m : ℕ) → m ≡ suc n → Table ns kept → Pushing ns kept base vs xs m ws ys
+pub pushing_more : {ns : List ℕ} {kept base : ℕ} {vs xs ws ys : List ℕ} (n m : ℕ) → m ≡ suc n → Table ns kept → Pushing ns kept base vs xs m ws ys
     → (us₁ us₂ : List ℕ) {zs : List ℕ} → length us₂ ≡ kept
     → map (has_row base) us₁ ≡ give (map (has_row base) ws) (get_or ns (3 * n + 1) 0) (has_row base (get_or ws n 0))
     → map (has_row base) us₂ ≡ give (map (has_row base) us₁) (get_or ns (3 * n + 2) 0) (has_row base (get_or ws n 0))
     → Counts (has_row base (get_or ws n 0)) ys zs
     → Pushing ns kept base vs xs n us₂ zs
 unfolding sides
-pushing-more {ns} {kept} {base} {vs} {xs} {ws} {ys} n m z t p us₁ us₂ {zs} len e f c = record {
+pushing_more {ns} {kept} {base} {vs} {xs} {ws} {ys} n m z t p us₁ us₂ {zs} len e f c = record {
   few = omega (arith, p.few);
   long = len;
   size = c.size ∙ p.size;
@@ -83,10 +83,10 @@ pushing-more {ns} {kept} {base} {vs} {xs} {ws} {ys} n m z t p us₁ us₂ {zs} l
 }
   where
     own : has_row base (get_or ws n 0) ≡ get_or (map (has_row base) ws) n none
-    own = sym (words-at base ws n)
+    own = sym (words_at base ws n)
 
-    given-down : map (has_row base) us₂ ≡ sides ns n (map (has_row base) ws)
-    given-down =
+    given_down : map (has_row base) us₂ ≡ sides ns n (map (has_row base) ws)
+    given_down =
         f
         ∙ ap₂ (λ (x : List Word) (y : Word). give x (get_or ns (3 * n + 2) 0) y) e own
         ∙ ap (λ (y : Word). give (give (map (has_row base) ws) (get_or ns (3 * n + 1) 0) y) (get_or ns (3 * n + 2) 0) (get_or (map (has_row base) ws) n none)) own
@@ -97,32 +97,32 @@ pushing-more {ns} {kept} {base} {vs} {xs} {ws} {ys} n m z t p us₁ us₂ {zs} l
         let b = rw z at (p.each i h) in
         let k = marked_step ns kept t n (omega (arith, p.few)) (map (has_row base) ws) i in
         let q : bit (get_or (map (has_row base) ws) n none i) ≡ bit (has_row base (get_or ws n 0) i) = ap (λ (x : Word). bit (x i)) (sym own) in
-        rw given-down (omega (arith, a, b, k, q))
+        rw given_down (omega (arith, a, b, k, q))
 
 -- the whole pass, from words that are 0
-pub pass-sized : {ns : List ℕ} {kept : ℕ} {refs : List ℕ} {base n : ℕ} {us xs ys : List ℕ} (vs ws : List ℕ) → Table ns kept → ((t : ℕ) → t < n → get_or refs (base + t) 0 < kept + 2)
+pub pass_sized : {ns : List ℕ} {kept : ℕ} {refs : List ℕ} {base n : ℕ} {us xs ys : List ℕ} (vs ws : List ℕ) → Table ns kept → ((t : ℕ) → t < n → get_or refs (base + t) 0 < kept + 2)
     → base + n ≤ length xs → Zeroed 0 (length us) us vs → length us ≡ kept → map (has_row base) ws ≡ given (map (has_row base) vs) refs base n → Pushed ns kept (map (has_row base) ws) xs ys
     → Sized ns kept refs base n xs ys
-pass-sized {ns} {kept} {refs} {base} {n} {us} {xs} {ys} vs ws t inside wide z len g p = record {
+pass_sized {ns} {kept} {refs} {base} {n} {us} {xs} {ys} vs ws t inside wide z len g p = record {
   size = p.size;
   each = λ u h. p.each (base + u) (omega arith) ∙ ap (λ (x : ℕ). get_or xs (base + u) 0 + x) (ap (λ (x : List Word). marked ns kept x (base + u)) g ∙ sized ns kept t.back t.one refs base n u h (inside u h) (map (has_row base) vs) long empty);
   before = λ i h. p.each i (omega arith) ∙ more i (inl h);
   after = λ i h. ⊎_elim
       (λ l. p.each i l ∙ more i (inr h))
       (λ l. get_or-eq_default ys 0 (omega (arith, p.size)) ∙ sym (get_or-eq_default xs 0 l))
-      (lt-or-ge i (length xs));
+      (lt_or_ge i (length xs));
 }
   where
     long : kept ≤ length (map (has_row base) vs)
     long = rw length-map (omega (arith, z.size))
 
-    zero-at : (j : ℕ) → get_or vs j 0 ≡ 0
-    zero-at j = ⊎_elim (λ h. z.zero j (omega arith) h) (λ h. get_or-eq_default vs 0 (omega (arith, z.size))) (lt-or-ge j (length us))
+    zero_at : (j : ℕ) → get_or vs j 0 ≡ 0
+    zero_at j = ⊎_elim (λ h. z.zero j (omega arith) h) (λ h. get_or-eq_default vs 0 (omega (arith, z.size))) (lt_or_ge j (length us))
 
     empty : (j k : ℕ) → get_or (map (has_row base) vs) j none k ≡ false
-    empty j k = ap (λ (x : Word). x k) (words-at base vs j) ∙ ap (λ (x : ℕ). has_row base x k) (zero-at j) ∙ rows_none base k
+    empty j k = ap (λ (x : Word). x k) (words_at base vs j) ∙ ap (λ (x : ℕ). has_row base x k) (zero_at j) ∙ rows_none base k
 
     more : (i : ℕ) → (i < base) ⊎ (base + n ≤ i) → get_or xs i 0 + marked ns kept (map (has_row base) ws) i ≡ get_or xs i 0
     more i h =
-        let e = ap (λ (x : List Word). marked ns kept x i) g ∙ sized-none ns kept t.back refs base n i h (map (has_row base) vs) long empty in
+        let e = ap (λ (x : List Word). marked ns kept x i) g ∙ sized_none ns kept t.back refs base n i h (map (has_row base) vs) long empty in
         omega arith

@@ -8,27 +8,27 @@ use native.Mathlib.Omega.{arith}
 use lib.ListN.{length, get_or, take, replicate, length-map, length-replicate, get_or-replicate, get_or-eq_default, get_or-map}
 use lib.Seq.{ext_get_or, get_or-take, length-take-le}
 use Rattle.trees.specs.Tree.{Tree, off}
-use Rattle.trees.specs.Table.{addTree, at, treesOf}
+use Rattle.trees.specs.Table.{add_tree, at, trees_of}
 use Rattle.trees.specs.Kept.{diagrams}
-use Rattle.trees.proofs.Tests.{lt-or-ge}
-use Rattle.trees.proofs.CanonicalLaws.{zeros-at}
-use Rattle.trees.proofs.SizesLaws.{sizes-length, sizes-at, sizes-past}
+use Rattle.trees.proofs.Tests.{lt_or_ge}
+use Rattle.trees.proofs.CanonicalLaws.{zeros_at}
+use Rattle.trees.proofs.SizesLaws.{sizes_length, sizes_at, sizes_past}
 use Rattle.nodes.specs.Nodes.{Table}
-use Rattle.trees.specs.Sizes.{nodeCount, sizesOf}
+use Rattle.trees.specs.Sizes.{node_count, sizes_of}
 use Rattle.visits.proofs.CountLaws.{count_most}
 use Rattle.sizes.specs.Leading.{Leading}
 use Rattle.sizes.specs.Words.{Word, none, given, down, marked, Sized}
 use Rattle.sizes.proofs.Sized.{sized}
 
 -- a leaf has no nodes
-pub leaf-none : (r : ℕ) (ts : List Tree) → r < 2 → nodeCount (at ts r) ≡ 0
-unfolding at addTree
-leaf-none zero ts h = refl
-leaf-none (suc zero) ts h = refl
-leaf-none (suc (suc r)) ts h = absurd (omega arith)
+pub leaf_none : (r : ℕ) (ts : List Tree) → r < 2 → node_count (at ts r) ≡ 0
+unfolding at add_tree
+leaf_none zero ts h = refl
+leaf_none (suc zero) ts h = refl
+leaf_none (suc (suc r)) ts h = absurd (omega arith)
 
 -- no diagram has more nodes than are kept
-pub at_most : (ns : List ℕ) (kept : ℕ) → Table ns kept → (r : ℕ) → r < kept + 2 → nodeCount (at (treesOf ns kept) r) ≤ kept
+pub at_most : (ns : List ℕ) (kept : ℕ) → Table ns kept → (r : ℕ) → r < kept + 2 → node_count (at (trees_of ns kept) r) ≤ kept
 unfolding marked
 at_most ns kept t r h =
     let ws = replicate kept none in
@@ -37,7 +37,7 @@ at_most ns kept t r h =
     omega arith
   where
     empty : (j k : ℕ) → get_or (replicate kept none) j none k ≡ false
-    empty j k = ⊎_elim (λ h. ap (λ (x : Word). x k) (get_or-replicate kept j none none h)) (λ h. ap (λ (x : Word). x k) (get_or-eq_default (replicate kept none) none (rw length-replicate h))) (lt-or-ge j kept)
+    empty j k = ⊎_elim (λ h. ap (λ (x : Word). x k) (get_or-replicate kept j none none h)) (λ h. ap (λ (x : Word). x k) (get_or-eq_default (replicate kept none) none (rw length-replicate h))) (lt_or_ge j kept)
 
 module _ (ns : List ℕ) (kept : ℕ) (refs : List ℕ) (count : ℕ) (l : Leading refs count kept) where
   ds : List Tree
@@ -47,31 +47,31 @@ module _ (ns : List ℕ) (kept : ℕ) (refs : List ℕ) (count : ℕ) (l : Leadi
   unfolding ds diagrams
   rows = rw (length-map, length-take-le count refs (omega (arith, l.few, l.wide)))
 
-  row : (i : ℕ) → i < count → get_or ds i off ≡ at (treesOf ns kept) (get_or refs i 0)
+  row : (i : ℕ) → i < count → get_or ds i off ≡ at (trees_of ns kept) (get_or refs i 0)
   unfolding ds diagrams at
-  row i h = get_or-map (at (treesOf ns kept)) (take count refs) i 0 ∙ ap (at (treesOf ns kept)) (get_or-take count refs i 0 h)
+  row i h = get_or-map (at (trees_of ns kept)) (take count refs) i 0 ∙ ap (at (trees_of ns kept)) (get_or-take count refs i 0 h)
 
-  pub sizes-wide : length (sizesOf (diagrams ns kept refs count)) ≡ 64
+  pub sizes_wide : length (sizes_of (diagrams ns kept refs count)) ≡ 64
   unfolding ds
-  sizes-wide = sizes-length ds (omega (arith, rows, l.few))
+  sizes_wide = sizes_length ds (omega (arith, rows, l.few))
 
   -- 64 numbers that are the sizes row by row
-  pub sizes-are : (xs : List ℕ) → length xs ≡ 64 → ((i : ℕ) → i < count → get_or xs i 0 ≡ nodeCount (at (treesOf ns kept) (get_or refs i 0))) → ((i : ℕ) → count ≤ i → get_or xs i 0 ≡ 0)
-      → xs ≡ sizesOf (diagrams ns kept refs count)
+  pub sizes_are : (xs : List ℕ) → length xs ≡ 64 → ((i : ℕ) → i < count → get_or xs i 0 ≡ node_count (at (trees_of ns kept) (get_or refs i 0))) → ((i : ℕ) → count ≤ i → get_or xs i 0 ≡ 0)
+      → xs ≡ sizes_of (diagrams ns kept refs count)
   unfolding ds
-  sizes-are xs e each past = ext_get_or 0 xs (sizesOf ds) (e ∙ sym sizes-wide) (λ i h. ⊎_elim
-      (λ k. each i k ∙ sym (sizes-at ds i (omega (arith, rows)) ∙ ap nodeCount (row i k)))
-      (λ k. past i k ∙ sym (sizes-past ds i (omega (arith, rows))))
-      (lt-or-ge i count))
+  sizes_are xs e each past = ext_get_or 0 xs (sizes_of ds) (e ∙ sym sizes_wide) (λ i h. ⊎_elim
+      (λ k. each i k ∙ sym (sizes_at ds i (omega (arith, rows)) ∙ ap node_count (row i k)))
+      (λ k. past i k ∙ sym (sizes_past ds i (omega (arith, rows))))
+      (lt_or_ge i count))
 
   -- the sizes after a pass over all rows, from 0
-  pub sized-one : (xs ys : List ℕ) → xs ≡ replicate 64 0 → Sized ns kept refs 0 count xs ys → ys ≡ sizesOf (diagrams ns kept refs count)
-  sized-one xs ys z s = sizes-are ys (s.size ∙ rw z refl) each past
+  pub sized_one : (xs ys : List ℕ) → xs ≡ replicate 64 0 → Sized ns kept refs 0 count xs ys → ys ≡ sizes_of (diagrams ns kept refs count)
+  sized_one xs ys z s = sizes_are ys (s.size ∙ rw z refl) each past
     where
       start : (i : ℕ) → get_or xs i 0 ≡ 0
-      start i = rw z (zeros-at 64 i)
+      start i = rw z (zeros_at 64 i)
 
-      each : (i : ℕ) → i < count → get_or ys i 0 ≡ nodeCount (at (treesOf ns kept) (get_or refs i 0))
+      each : (i : ℕ) → i < count → get_or ys i 0 ≡ node_count (at (trees_of ns kept) (get_or refs i 0))
       each i h =
           let e : 0 + i ≡ i = omega arith in
           let q = rw e at (s.each i h) in
@@ -81,19 +81,19 @@ module _ (ns : List ℕ) (kept : ℕ) (refs : List ℕ) (count : ℕ) (l : Leadi
       past i h = s.after i (omega arith) ∙ start i
 
   -- the same after a pass over the first 32 and one over the others
-  pub sized-two : (xs ys zs : List ℕ) → 32 < count → xs ≡ replicate 64 0 → Sized ns kept refs 0 32 xs ys → Sized ns kept refs 32 (count - 32) ys zs → zs ≡ sizesOf (diagrams ns kept refs count)
-  sized-two xs ys zs more z s t = sizes-are zs (t.size ∙ s.size ∙ rw z refl) (λ i h. ⊎_elim (front i) (back i h) (lt-or-ge i 32)) past
+  pub sized_two : (xs ys zs : List ℕ) → 32 < count → xs ≡ replicate 64 0 → Sized ns kept refs 0 32 xs ys → Sized ns kept refs 32 (count - 32) ys zs → zs ≡ sizes_of (diagrams ns kept refs count)
+  sized_two xs ys zs more z s t = sizes_are zs (t.size ∙ s.size ∙ rw z refl) (λ i h. ⊎_elim (front i) (back i h) (lt_or_ge i 32)) past
     where
       start : (i : ℕ) → get_or xs i 0 ≡ 0
-      start i = rw z (zeros-at 64 i)
+      start i = rw z (zeros_at 64 i)
 
-      front : (i : ℕ) → i < 32 → get_or zs i 0 ≡ nodeCount (at (treesOf ns kept) (get_or refs i 0))
+      front : (i : ℕ) → i < 32 → get_or zs i 0 ≡ node_count (at (trees_of ns kept) (get_or refs i 0))
       front i h =
           let e : 0 + i ≡ i = omega arith in
           let q = rw e at (s.each i h) in
           omega (arith, q, start i, t.before i h)
 
-      back : (i : ℕ) → i < count → 32 ≤ i → get_or zs i 0 ≡ nodeCount (at (treesOf ns kept) (get_or refs i 0))
+      back : (i : ℕ) → i < count → 32 ≤ i → get_or zs i 0 ≡ node_count (at (trees_of ns kept) (get_or refs i 0))
       back i h k =
           let e : 32 + (i - 32) ≡ i = omega arith in
           let q = rw e at (t.each (i - 32) (omega arith)) in
@@ -110,16 +110,16 @@ module _ (ns : List ℕ) (kept : ℕ) (refs : List ℕ) (count : ℕ) (l : Leadi
       let q = rw e at (s.each i h) in
       omega (arith, q, start, at_most ns kept tb (get_or refs i 0) (l.inside i (omega arith)), tb.small, tb.fits))
       (λ h. omega (arith, start, s.after i h))
-      (lt-or-ge i 32)
+      (lt_or_ge i 32)
     where
       start : get_or xs i 0 ≡ 0
-      start = rw z (zeros-at 64 i)
+      start = rw z (zeros_at 64 i)
 
 -- sizes that are 0
-pub zero-small : (xs : List ℕ) → xs ≡ replicate 64 0 → (i : ℕ) → get_or xs i 0 ≤ 4096
-zero-small xs z i = let e : get_or xs i 0 ≡ 0 = rw z (zeros-at 64 i) in omega arith
+pub zero_small : (xs : List ℕ) → xs ≡ replicate 64 0 → (i : ℕ) → get_or xs i 0 ≤ 4096
+zero_small xs z i = let e : get_or xs i 0 ≡ 0 = rw z (zeros_at 64 i) in omega arith
 
 -- where no node is kept every size is 0, as after start
-pub sizes-none : (ns refs : List ℕ) (count : ℕ) → Leading refs count 0 → sizesOf (diagrams ns 0 refs count) ≡ replicate 64 0
-sizes-none ns refs count l =
-    sym (sizes-are ns 0 refs count l (replicate 64 0) refl (λ i h. zeros-at 64 i ∙ sym (leaf-none (get_or refs i 0) (treesOf ns 0) (l.inside i h))) (λ i h. zeros-at 64 i))
+pub sizes_none : (ns refs : List ℕ) (count : ℕ) → Leading refs count 0 → sizes_of (diagrams ns 0 refs count) ≡ replicate 64 0
+sizes_none ns refs count l =
+    sym (sizes_are ns 0 refs count l (replicate 64 0) refl (λ i h. zeros_at 64 i ∙ sym (leaf_none (get_or refs i 0) (trees_of ns 0) (l.inside i h))) (λ i h. zeros_at 64 i))

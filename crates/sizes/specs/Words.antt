@@ -1,9 +1,9 @@
 -- One pass over the kept nodes that finds sizes: each node has a word, the rows whose diagrams it belongs to. Assumes nothing: these are definitions.
 use Rattle.std.specs.Prelude.{ℕ, zero, suc, ◌+◌, ◌*◌, ◌/◌, ◌%◌, ◌≤◌, ◌<◌, ◌≡◌, Bool, false, ◌||◌, List, eqb, length, get_or, set}
 use Rattle.trees.specs.Bits.{bit}
-use Rattle.trees.specs.Table.{at, treesOf}
-use Rattle.trees.specs.Sizes.{nodeCount}
-use Rattle.visits.proofs.CountLaws.{countBelow}
+use Rattle.trees.specs.Table.{at, trees_of}
+use Rattle.trees.specs.Sizes.{node_count}
+use Rattle.visits.proofs.CountLaws.{count_below}
 
 -- a word of rows: whether row i is in it
 abbrev pub Word : Type 0
@@ -16,13 +16,13 @@ abbrev pub only : ℕ → Word
 only k i = eqb i k
 
 -- bit i of a number, the least first
-unfoldable pub hasBit : ℕ → Word
-hasBit n zero = eqb (n % 2) 1
-hasBit n (suc i) = hasBit (n / 2) i
+unfoldable pub has_bit : ℕ → Word
+has_bit n zero = eqb (n % 2) 1
+has_bit n (suc i) = has_bit (n / 2) i
 
 -- the word that a number is, its least bit being the row base
 unfoldable pub has_row : ℕ → ℕ → Word
-has_row zero n i = hasBit n i
+has_row zero n i = has_bit n i
 has_row (suc base) n zero = false
 has_row (suc base) n (suc i) = has_row base n i
 
@@ -48,7 +48,7 @@ down ns (suc j) ws = down ns j (sides ns j ws)
 
 -- how many of the first n nodes have row i after the pass over them
 unfoldable pub marked : List ℕ → ℕ → List Word → ℕ → ℕ
-marked ns n ws i = countBelow n (λ j. get_or (down ns n ws) j none i)
+marked ns n ws i = count_below n (λ j. get_or (down ns n ws) j none i)
 
 -- the sizes of the rows in w are one more
 pub record Counts (w : Word) (xs ys : List ℕ) : Type 0 where
@@ -63,6 +63,6 @@ pub record Pushed (ns : List ℕ) (kept : ℕ) (ws : List Word) (xs ys : List �
 -- the sizes of the n rows from base on are more by the counts of their diagrams' different nodes, and the others as they were
 pub record Sized (ns : List ℕ) (kept : ℕ) (refs : List ℕ) (base n : ℕ) (xs ys : List ℕ) : Type 0 where
   pub size : length ys ≡ length xs
-  pub each : (t : ℕ) → t < n → get_or ys (base + t) 0 ≡ get_or xs (base + t) 0 + nodeCount (at (treesOf ns kept) (get_or refs (base + t) 0))
+  pub each : (t : ℕ) → t < n → get_or ys (base + t) 0 ≡ get_or xs (base + t) 0 + node_count (at (trees_of ns kept) (get_or refs (base + t) 0))
   pub before : (i : ℕ) → i < base → get_or ys i 0 ≡ get_or xs i 0
   pub after : (i : ℕ) → base + n ≤ i → get_or ys i 0 ≡ get_or xs i 0

@@ -4,7 +4,7 @@
 // before 32 and those from 32 on take a pass each. Assumes nothing.
 ghost use Rattle.std.specs.Prelude.{◌≡◌, map, ℕ, ◌+◌, ◌*◌, ◌-◌, ◌<◌, ◌≤◌, length, get_or, replicate};
 ghost use Rattle.trees.specs.Kept.{diagrams};
-ghost use Rattle.trees.specs.Sizes.{sizesOf};
+ghost use Rattle.trees.specs.Sizes.{sizes_of};
 ghost use Rattle.nodes.specs.Nodes.{Table, Rest, Decides};
 ghost use Rattle.sizes.specs.Leading.{Leading};
 ghost use Rattle.sizes.specs.Words.{has_row, give, given, Counts, Pushed, Sized};
@@ -112,7 +112,7 @@ pub fn sizes(
 )
     requires table { Table nodes.now kept × Leading refs.now count kept }
     requires kept_in_bounds { (kept ≤ length work.old) × (length sizes.old ≡ 64) }
-    ensures sizes_after { sizes.new ≡ sizesOf (diagrams nodes.now kept refs.now count) }
+    ensures sizes_after { sizes.new ≡ sizes_of (diagrams nodes.now kept refs.now count) }
     ensures rest { Rest kept work.old work.new }
 {
     clear(sizes);
@@ -151,7 +151,7 @@ pub fn sizes_right(
 ) -> bool
     requires table { Table nodes.now kept × Leading refs.now count kept }
     requires kept_in_bounds { (kept ≤ length work.old) × (length told.now ≡ 64) }
-    ensures decides { Decides (told.now ≡ sizesOf (diagrams nodes.now kept refs.now count)) result }
+    ensures decides { Decides (told.now ≡ sizes_of (diagrams nodes.now kept refs.now count)) result }
     ensures rest { Rest kept work.old work.new }
 {
     let mut own = [0; 64];

@@ -6,9 +6,9 @@ use mathlib.Core.Bool.{Bool, true, false, ◌||◌}
 use mathlib.Core.List.{List, [], ◌∷◌}
 use lib.Dec.{T, eqb, ltb, eqb→eq}
 use lib.ListN.{length, get_or}
-use Rattle.text.specs.Words.{isLetter, isDigit, isWordByte, same, bytes_of}
-use Rattle.text.specs.Reader.{class_of, signAmong, signs}
-use Rattle.spelling.specs.Codes.{classNumber, code_of}
+use Rattle.text.specs.Words.{is_letter, is_digit, is_word_byte, same, bytes_of}
+use Rattle.text.specs.Reader.{class_of, sign_among, signs}
+use Rattle.spelling.specs.Codes.{class_number, code_of}
 use Rattle.spelling.proofs.Tables.{at}
 
 unfoldable pub classes : List ℕ
@@ -23,12 +23,12 @@ classes =
     19 ∷ 19 ∷ 19 ∷ 19 ∷ 19 ∷ 19 ∷ 19 ∷ 19 ∷ 19 ∷ 19 ∷ 19 ∷ 19 ∷ 19 ∷ 19 ∷ 19 ∷ 19 ∷ 19 ∷ 19 ∷ 19 ∷ 19 ∷ 19 ∷ 19 ∷ 19 ∷ 19 ∷ 19 ∷ 19 ∷ 19 ∷ 19 ∷ 19 ∷ 19 ∷ 19 ∷ 19 ∷ []
 
 right : ℕ → ℕ → Bool
-right b x = eqb x (classNumber (class_of b))
+right b x = eqb x (class_number (class_of b))
 
 -- the table holds the number of each byte's class
-pub class-right : (b : ℕ) → b < 256 → get_or classes b 0 ≡ classNumber (class_of b)
-unfolding classes right classNumber code_of class_of signAmong signs isLetter isDigit same bytes_of
-class-right b h = eqb→eq (get_or classes b 0) (classNumber (class_of b)) (at right classes tt b h)
+pub class_right : (b : ℕ) → b < 256 → get_or classes b 0 ≡ class_number (class_of b)
+unfolding classes right class_number code_of class_of sign_among signs is_letter is_digit same bytes_of
+class_right b h = eqb→eq (get_or classes b 0) (class_number (class_of b)) (at right classes tt b h)
 
 alike : Bool → Bool → Bool
 alike true b = b
@@ -42,13 +42,13 @@ alike_same true false t = absurd t
 alike_same false true t = absurd t
 alike_same false false t = refl
 
-wordy-right : ℕ → ℕ → Bool
-wordy-right b x = alike (isWordByte b) (ltb x 2 || eqb b 95)
+wordy_right : ℕ → ℕ → Bool
+wordy_right b x = alike (is_word_byte b) (ltb x 2 || eqb b 95)
 
-tested : (b : ℕ) → b < 256 → T (alike (isWordByte b) (ltb (get_or classes b 0) 2 || eqb b 95))
-unfolding classes wordy-right alike isWordByte isLetter isDigit
-tested b h = at wordy-right classes tt b h
+tested : (b : ℕ) → b < 256 → T (alike (is_word_byte b) (ltb (get_or classes b 0) 2 || eqb b 95))
+unfolding classes wordy_right alike is_word_byte is_letter is_digit
+tested b h = at wordy_right classes tt b h
 
 -- the bytes of words are letters, digits and `_`
-pub word-right : (b : ℕ) → b < 256 → isWordByte b ≡ (ltb (classNumber (class_of b)) 2 || eqb b 95)
-word-right b h = rw (← (class-right b h)) (alike_same (isWordByte b) (ltb (get_or classes b 0) 2 || eqb b 95) (tested b h))
+pub word_right : (b : ℕ) → b < 256 → is_word_byte b ≡ (ltb (class_number (class_of b)) 2 || eqb b 95)
+word_right b h = rw (← (class_right b h)) (alike_same (is_word_byte b) (ltb (get_or classes b 0) 2 || eqb b 95) (tested b h))

@@ -6,37 +6,37 @@ use mathlib.Core.Bool.{Bool, true, false, ◌&&◌}
 use mathlib.Core.List.{List, [], ◌∷◌, ◌++◌}
 use lib.ListN.{length, take, drop, get_or, length-append, length-drop}
 use lib.Seq.{drop-cons, drop-length, drop-drop, take-append_seam, drop-append_seam}
-use Rattle.trees.proofs.Tests.{false-true, and-true-l, and_true_r}
-use Rattle.text.specs.Words.{isLetter, isDigit, isWordByte, all, same, Word, name, number, constant, prefix, binary, quantifier, opening, closing, comma, dot, once, historically, previously, negation, sinces, ands, ors, implies, universal, existential, bytes_of, pick, reserved, word_of, led, Name, some, Digits, Proper, wordy, Spelled, nothing, space, word}
-use Rattle.text.specs.Reader.{class_of, signAmong, signs}
-use Rattle.text.proofs.ClassLaws.{class-letter, class-digit, digit-in-word}
+use Rattle.trees.proofs.Tests.{false_true, and_true_l, and_true_r}
+use Rattle.text.specs.Words.{is_letter, is_digit, is_word_byte, all, same, Word, name, number, constant, prefix, binary, quantifier, opening, closing, comma, dot, once, historically, previously, negation, sinces, ands, ors, implies, universal, existential, bytes_of, pick, reserved, word_of, led, Name, some, Digits, Proper, wordy, Spelled, nothing, space, word}
+use Rattle.text.specs.Reader.{class_of, sign_among, signs}
+use Rattle.text.proofs.ClassLaws.{class_letter, class_digit, digit_in_word}
 use Rattle.text.proofs.LexLaws
-use Rattle.spelling.specs.Codes.{code_of, classNumber, Stops, Ends, Spells, Skips, First, Next}
-use Rattle.spelling.proofs.RunLaws.{run-same}
+use Rattle.spelling.specs.Codes.{code_of, class_number, Stops, Ends, Spells, Skips, First, Next}
+use Rattle.spelling.proofs.RunLaws.{run_same}
 
 -- what the first byte says: a word of letters, a constant, `->`, a word of one sign
 pub data Begins (w : Word) (b : ℕ) : Type 0 where
-  lettered : classNumber (class_of b) ≡ 0 → wordy w ≡ true → all isWordByte (bytes_of w) ≡ true → word_of (bytes_of w) ≡ w → Begins w b
-  numeral : classNumber (class_of b) ≡ 1 → code_of w ≡ 1 → wordy w ≡ true → all isWordByte (bytes_of w) ≡ true → Begins w b
-  arrow : classNumber (class_of b) ≡ 11 → code_of w ≡ 11 → length (bytes_of w) ≡ 2 → Begins w b
-  single : classNumber (class_of b) ≡ code_of w → 2 ≤ code_of w → (code_of w ≡ 11 → ⊥) → length (bytes_of w) ≡ 1 → Begins w b
+  lettered : class_number (class_of b) ≡ 0 → wordy w ≡ true → all is_word_byte (bytes_of w) ≡ true → word_of (bytes_of w) ≡ w → Begins w b
+  numeral : class_number (class_of b) ≡ 1 → code_of w ≡ 1 → wordy w ≡ true → all is_word_byte (bytes_of w) ≡ true → Begins w b
+  arrow : class_number (class_of b) ≡ 11 → code_of w ≡ 11 → length (bytes_of w) ≡ 2 → Begins w b
+  single : class_number (class_of b) ≡ code_of w → 2 ≤ code_of w → (code_of w ≡ 11 → ⊥) → length (bytes_of w) ≡ 1 → Begins w b
 
-all_digits : (ds : List ℕ) → all isDigit ds ≡ true → all isWordByte ds ≡ true
+all_digits : (ds : List ℕ) → all is_digit ds ≡ true → all is_word_byte ds ≡ true
 unfolding all
 all_digits [] h = refl
 all_digits (d ∷ ds) h =
-    rw (digit-in-word d (and-true-l (isDigit d) (all isDigit ds) h)) (all_digits ds (and_true_r (isDigit d) (all isDigit ds) h))
+    rw (digit_in_word d (and_true_l (is_digit d) (all is_digit ds) h)) (all_digits ds (and_true_r (is_digit d) (all is_digit ds) h))
 
 begins : (w : Word) (rest : List ℕ) (b : ℕ) (bs : List ℕ) → Proper w → bytes_of w ++ rest ≡ b ∷ bs → Begins w b
-unfolding bytes_of led all isLetter isDigit isWordByte some class_of signAmong signs same classNumber code_of word_of pick reserved wordy
-begins (name []) rest b bs p e = absurd (false-true refl p.letter)
+unfolding bytes_of led all is_letter is_digit is_word_byte some class_of sign_among signs same class_number code_of word_of pick reserved wordy
+begins (name []) rest b bs p e = absurd (false_true refl p.letter)
 begins (name (x ∷ xs)) rest b bs p e =
     let z : x ≡ b = cc in
-    rw (← z) (lettered (ap classNumber (class-letter x p.letter)) refl p.rest p.unreserved)
-begins (number []) rest b bs p e = absurd (false-true refl p.one)
+    rw (← z) (lettered (ap class_number (class_letter x p.letter)) refl p.rest p.unreserved)
+begins (number []) rest b bs p e = absurd (false_true refl p.one)
 begins (number (x ∷ xs)) rest b bs p e =
     let z : x ≡ b = cc in
-    rw (← z) (numeral (ap classNumber (class-digit x (and-true-l (isDigit x) (all isDigit xs) p.digits))) refl refl (all_digits (x ∷ xs) p.digits))
+    rw (← z) (numeral (ap class_number (class_digit x (and_true_l (is_digit x) (all is_digit xs) p.digits))) refl refl (all_digits (x ∷ xs) p.digits))
 begins (constant true) rest b bs p e = let z : 116 ≡ b = cc in rw (← z) (lettered refl refl refl refl)
 begins (constant false) rest b bs p e = let z : 102 ≡ b = cc in rw (← z) (lettered refl refl refl refl)
 begins (prefix once) rest b bs p e = let z : 80 ≡ b = cc in rw (← z) (lettered refl refl refl refl)
@@ -54,28 +54,28 @@ begins closing rest b bs p e = let z : 41 ≡ b = cc in rw (← z) (single refl 
 begins comma rest b bs p e = let z : 44 ≡ b = cc in rw (← z) (single refl (omega arith) (λ y. omega arith) refl)
 begins dot rest b bs p e = let z : 46 ≡ b = cc in rw (← z) (single refl (omega arith) (λ y. omega arith) refl)
 
-long-word : (w : Word) → Proper w → 1 ≤ length (bytes_of w)
+long_word : (w : Word) → Proper w → 1 ≤ length (bytes_of w)
 unfolding bytes_of led some
-long-word (name []) p = absurd (false-true refl p.letter)
-long-word (name (x ∷ xs)) p = omega arith
-long-word (number []) p = absurd (false-true refl p.one)
-long-word (number (x ∷ xs)) p = omega arith
-long-word (constant true) p = omega arith
-long-word (constant false) p = omega arith
-long-word (prefix once) p = omega arith
-long-word (prefix historically) p = omega arith
-long-word (prefix previously) p = omega arith
-long-word (prefix negation) p = omega arith
-long-word (binary sinces) p = omega arith
-long-word (binary ands) p = omega arith
-long-word (binary ors) p = omega arith
-long-word (binary implies) p = omega arith
-long-word (quantifier universal) p = omega arith
-long-word (quantifier existential) p = omega arith
-long-word opening p = omega arith
-long-word closing p = omega arith
-long-word comma p = omega arith
-long-word dot p = omega arith
+long_word (name []) p = absurd (false_true refl p.letter)
+long_word (name (x ∷ xs)) p = omega arith
+long_word (number []) p = absurd (false_true refl p.one)
+long_word (number (x ∷ xs)) p = omega arith
+long_word (constant true) p = omega arith
+long_word (constant false) p = omega arith
+long_word (prefix once) p = omega arith
+long_word (prefix historically) p = omega arith
+long_word (prefix previously) p = omega arith
+long_word (prefix negation) p = omega arith
+long_word (binary sinces) p = omega arith
+long_word (binary ands) p = omega arith
+long_word (binary ors) p = omega arith
+long_word (binary implies) p = omega arith
+long_word (quantifier universal) p = omega arith
+long_word (quantifier existential) p = omega arith
+long_word opening p = omega arith
+long_word closing p = omega arith
+long_word comma p = omega arith
+long_word dot p = omega arith
 
 -- the first word of the bytes, and the rest
 pub record Head (ws : List Word) (l : List ℕ) (b : ℕ) : Type 0 where
@@ -83,7 +83,7 @@ pub record Head (ws : List Word) (l : List ℕ) (b : ℕ) : Type 0 where
   pub others : List Word
   pub rest : List ℕ
   pub words_are : ws ≡ first ∷ others
-  pub bytes-are : l ≡ bytes_of first ++ rest
+  pub bytes_are : l ≡ bytes_of first ++ rest
   pub long : 1 ≤ length (bytes_of first)
   pub begun : Begins first b
   pub spelled : Spelled (wordy first) others rest
@@ -96,8 +96,8 @@ head (word w {ws = ws} {bs = rest} p a s) b bs e n = record {
   others = ws;
   rest = rest;
   words_are = refl;
-  bytes-are = refl;
-  long = long-word w p;
+  bytes_are = refl;
+  long = long_word w p;
   begun = begins w rest b bs p e;
   spelled = s;
 }
@@ -107,7 +107,7 @@ pub no_words : {v : Bool} {ws : List Word} {l : List ℕ} → Spelled v ws l →
 no_words nothing e = refl
 no_words (space s) e = let z : ◌≡◌ {A = ℕ} 0 1 = cc in absurd (omega arith)
 no_words (word w {bs = rest} p a s) e =
-    absurd (omega (arith, long-word w p, sym (length-append (bytes_of w) rest) ∙ ap length e))
+    absurd (omega (arith, long_word w p, sym (length-append (bytes_of w) rest) ∙ ap length e))
 
 module _ (text : List ℕ) (at from : ℕ) (k : Skips text at from) where
   -- nothing is left
@@ -128,21 +128,21 @@ module _ (text : List ℕ) (at from : ℕ) (k : Skips text at from) where
   found ws code past d e z =
       let n : past - from ≡ length (bytes_of d.first) = omega arith in
       let l : length text - from ≡ length (bytes_of d.first) + length d.rest =
-      sym (length-drop from text) ∙ ap length d.bytes-are ∙ length-append (bytes_of d.first) d.rest in
+      sym (length-drop from text) ∙ ap length d.bytes_are ∙ length-append (bytes_of d.first) d.rest in
       let r : drop past text ≡ d.rest =
-      rw (z, ← (drop-drop (length (bytes_of d.first)) from text), d.bytes-are) (drop-append_seam (bytes_of d.first) d.rest) in
+      rw (z, ← (drop-drop (length (bytes_of d.first)) from text), d.bytes_are) (drop-append_seam (bytes_of d.first) d.rest) in
       rw d.words_are (record {
         code_is = e;
         low = k.low;
         long = omega (arith, d.long);
         high = omega (arith, d.long);
-        bytes-are = rw (n, d.bytes-are) (take-append_seam (bytes_of d.first) d.rest);
+        bytes_are = rw (n, d.bytes_are) (take-append_seam (bytes_of d.first) d.rest);
         rest = rw r d.spelled;
       })
 
-  module _ (h : from < length text) (class : ℕ) (cl : class ≡ classNumber (class_of (get_or text from 0))) where
-    pub arrow-next : class ≡ 11 → (v : Bool) (ws : List Word) → Spelled v ws (drop at text) → Next text at ws 11 from (from + 2)
-    arrow-next e v ws s = go (headed h v ws s)
+  module _ (h : from < length text) (class : ℕ) (cl : class ≡ class_number (class_of (get_or text from 0))) where
+    pub arrow_next : class ≡ 11 → (v : Bool) (ws : List Word) → Spelled v ws (drop at text) → Next text at ws 11 from (from + 2)
+    arrow_next e v ws s = go (headed h v ws s)
       where
         go : Head ws (drop from text) (get_or text from 0) → Next text at ws 11 from (from + 2)
         go d = by d d.begun
@@ -153,8 +153,8 @@ module _ (text : List ℕ) (at from : ℕ) (k : Skips text at from) where
             by d (arrow a b x) = found ws 11 (from + 2) d (sym b) (omega arith)
             by d (single a b x y) = absurd (x (sym a ∙ sym cl ∙ e))
 
-    pub sign-next : 2 ≤ class → (class ≡ 11 → ⊥) → (v : Bool) (ws : List Word) → Spelled v ws (drop at text) → Next text at ws class from (from + 1)
-    sign-next e n v ws s = by (headed h v ws s) (headed h v ws s).begun
+    pub sign_next : 2 ≤ class → (class ≡ 11 → ⊥) → (v : Bool) (ws : List Word) → Spelled v ws (drop at text) → Next text at ws class from (from + 1)
+    sign_next e n v ws s = by (headed h v ws s) (headed h v ws s).begun
       where
         by : (d : Head ws (drop from text) (get_or text from 0)) → Begins d.first (get_or text from 0) → Next text at ws class from (from + 1)
         by d (lettered a b x y) = absurd (omega arith)
@@ -164,22 +164,22 @@ module _ (text : List ℕ) (at from : ℕ) (k : Skips text at from) where
 
     -- a word of letters or digits ends where they do
     ends_there : (past : ℕ) → Ends text from past → (ws : List Word) (d : Head ws (drop from text) (get_or text from 0)) → wordy d.first ≡ true
-        → all isWordByte (bytes_of d.first) ≡ true → past ≡ from + length (bytes_of d.first)
+        → all is_word_byte (bytes_of d.first) ≡ true → past ≡ from + length (bytes_of d.first)
     ends_there past t ws d w a =
-        let stops : Stops d.rest = stopping d.rest (LexLaws.word-ends d.spelled w) in
+        let stops : Stops d.rest = stopping d.rest (LexLaws.word_ends d.spelled w) in
         let m : from + (past - from) ≡ past = omega (arith, t.low) in
-        let l : length text - from ≡ length (bytes_of d.first ++ d.rest) = sym (length-drop from text) ∙ ap length d.bytes-are in
+        let l : length text - from ≡ length (bytes_of d.first ++ d.rest) = sym (length-drop from text) ∙ ap length d.bytes_are in
         let z : past - from ≡ length (bytes_of d.first) =
-        run-same (bytes_of d.first) d.rest (past - from) a stops (omega (arith, t.high)) (rw d.bytes-are at t.run)
-        (rw (← d.bytes-are, drop-drop (past - from) from text, m) t.stop) in
+        run_same (bytes_of d.first) d.rest (past - from) a stops (omega (arith, t.high)) (rw d.bytes_are at t.run)
+        (rw (← d.bytes_are, drop-drop (past - from) from text, m) t.stop) in
         omega (arith, t.low)
       where
         stopping : (bs : List ℕ) → LexLaws.Stops bs → Stops bs
         stopping [] u = tt
         stopping (b ∷ bs) u = u
 
-    pub number-next : class ≡ 1 → (past : ℕ) → Ends text from past → (v : Bool) (ws : List Word) → Spelled v ws (drop at text) → Next text at ws 1 from past
-    number-next e past t v ws s = by (headed h v ws s) (headed h v ws s).begun
+    pub number_next : class ≡ 1 → (past : ℕ) → Ends text from past → (v : Bool) (ws : List Word) → Spelled v ws (drop at text) → Next text at ws 1 from past
+    number_next e past t v ws s = by (headed h v ws s) (headed h v ws s).begun
       where
         by : (d : Head ws (drop from text) (get_or text from 0)) → Begins d.first (get_or text from 0) → Next text at ws 1 from past
         by d (lettered a b x y) = absurd (omega arith)
@@ -187,15 +187,15 @@ module _ (text : List ℕ) (at from : ℕ) (k : Skips text at from) where
         by d (arrow a b x) = absurd (omega arith)
         by d (single a b x y) = absurd (omega arith)
 
-    pub letters-next : class < 2 → (class ≡ 1 → ⊥) → (past code : ℕ) → Ends text from past → code ≡ code_of (word_of (take (past - from) (drop from text)))
+    pub letters_next : class < 2 → (class ≡ 1 → ⊥) → (past code : ℕ) → Ends text from past → code ≡ code_of (word_of (take (past - from) (drop from text)))
         → (v : Bool) (ws : List Word) → Spelled v ws (drop at text) → Next text at ws code from past
-    letters-next e n past code t c v ws s = by (headed h v ws s) (headed h v ws s).begun
+    letters_next e n past code t c v ws s = by (headed h v ws s) (headed h v ws s).begun
       where
         by : (d : Head ws (drop from text) (get_or text from 0)) → Begins d.first (get_or text from 0) → Next text at ws code from past
         by d (lettered a b x y) =
             let q : past ≡ from + length (bytes_of d.first) = ends_there past t ws d b x in
             let m : past - from ≡ length (bytes_of d.first) = omega arith in
-            let u : take (past - from) (drop from text) ≡ bytes_of d.first = rw (m, d.bytes-are) (take-append_seam (bytes_of d.first) d.rest) in
+            let u : take (past - from) (drop from text) ≡ bytes_of d.first = rw (m, d.bytes_are) (take-append_seam (bytes_of d.first) d.rest) in
             found ws code past d (c ∙ rw u (ap code_of y)) q
         by d (numeral a b x y) = absurd (n (cl ∙ a))
         by d (arrow a b x) = absurd (omega arith)

@@ -1,6 +1,6 @@
 -- Words, classes of bytes and modes by number, as the code has them, and what it is to find the next word of a text. Assumes nothing.
 use Rattle.std.specs.Prelude.{ℕ, suc, ◌+◌, ◌-◌, ◌*◌, ◌≤◌, ◌<◌, ◌≡◌, Bool, true, false, List, [], ◌∷◌, ◌++◌, length, take, drop, get_or}
-use Rattle.text.specs.Words.{isWordByte, all, Word, name, number, constant, prefix, binary, quantifier, opening, closing, comma, dot, once, historically, previously, negation, sinces, ands, ors, implies, universal, existential, bytes_of, wordy, Spelled}
+use Rattle.text.specs.Words.{is_word_byte, all, Word, name, number, constant, prefix, binary, quantifier, opening, closing, comma, dot, once, historically, previously, negation, sinces, ands, ors, implies, universal, existential, bytes_of, wordy, Spelled}
 use Rattle.text.specs.Reader.{Class, blank, letter, digit, minus, sign, foreign}
 use Rattle.text.specs.Shape.{Mode, operand, operator, call, slot, point, argument, separator, nowhere}
 
@@ -26,24 +26,24 @@ code_of comma = 16
 code_of dot = 17
 
 -- the number of a class: that of a word that the byte can begin, 18 for a space, 19 for none
-unfoldable pub classNumber : Class → ℕ
-classNumber letter = 0
-classNumber digit = 1
-classNumber minus = 11
-classNumber (sign w) = code_of w
-classNumber blank = 18
-classNumber foreign = 19
+unfoldable pub class_number : Class → ℕ
+class_number letter = 0
+class_number digit = 1
+class_number minus = 11
+class_number (sign w) = code_of w
+class_number blank = 18
+class_number foreign = 19
 
 -- the number of a mode
-unfoldable pub modeNumber : Mode → ℕ
-modeNumber operand = 0
-modeNumber operator = 1
-modeNumber call = 2
-modeNumber slot = 3
-modeNumber point = 4
-modeNumber argument = 5
-modeNumber separator = 6
-modeNumber nowhere = 7
+unfoldable pub mode_number : Mode → ℕ
+mode_number operand = 0
+mode_number operator = 1
+mode_number call = 2
+mode_number slot = 3
+mode_number point = 4
+mode_number argument = 5
+mode_number separator = 6
+mode_number nowhere = 7
 
 -- the kind of each word, and where each kind leads from each mode, a `)` that closes nothing aside
 unfoldable pub kinds : List ℕ
@@ -61,8 +61,8 @@ nexts =
     ∷ 7 ∷ 7 ∷ 7 ∷ 7 ∷ 7 ∷ 7 ∷ 7 ∷ 7 ∷ 7 ∷ 7
     ∷ []
 
-unfoldable pub nextMode : ℕ → ℕ → ℕ
-nextMode m w = get_or nexts (m * 10 + get_or kinds w 0) 0
+unfoldable pub next_mode : ℕ → ℕ → ℕ
+next_mode m w = get_or nexts (m * 10 + get_or kinds w 0) 0
 
 -- the kind of a word, and the mode after it
 unfoldable pub kind_of : Word → ℕ
@@ -77,19 +77,19 @@ kind_of closing = 7
 kind_of comma = 8
 kind_of dot = 9
 
-unfoldable pub modeAfter : ℕ → Word → ℕ
-modeAfter m w = get_or nexts (m * 10 + kind_of w) 0
+unfoldable pub mode_after : ℕ → Word → ℕ
+mode_after m w = get_or nexts (m * 10 + kind_of w) 0
 
 -- no letter, digit or `_` stands first
 abbrev pub Stops : List ℕ → Type 0
 Stops [] = Unit {0}
-Stops (b ∷ bs) = isWordByte b ≡ false
+Stops (b ∷ bs) = is_word_byte b ≡ false
 
 -- the letters, digits and `_` from a place on end at another
 pub record Ends (text : List ℕ) (at past : ℕ) : Type 0 where
   pub low : at ≤ past
   pub high : past ≤ length text
-  pub run : all isWordByte (take (past - at) (drop at text)) ≡ true
+  pub run : all is_word_byte (take (past - at) (drop at text)) ≡ true
   pub stop : Stops (drop past text)
 
 -- the bytes spell the words
@@ -110,7 +110,7 @@ pub record First (text : List ℕ) (at : ℕ) (w : Word) (ws : List Word) (code 
   pub low : at ≤ from
   pub long : from < past
   pub high : past ≤ length text
-  pub bytes-are : take (past - from) (drop from text) ≡ bytes_of w
+  pub bytes_are : take (past - from) (drop from text) ≡ bytes_of w
   pub rest : Spelled (wordy w) ws (drop past text)
 
 -- it, or 18 where no word is left

@@ -1,8 +1,8 @@
 // Bytes and runs of bytes.
 ghost use Rattle.std.specs.Prelude.{◌≡◌};
-ghost use Rattle.text.specs.Words.{isWordByte, same};
+ghost use Rattle.text.specs.Words.{is_word_byte, same};
 ghost use Rattle.text.specs.Reader.{class_of};
-ghost use Rattle.spelling.specs.Codes.{classNumber};
+ghost use Rattle.spelling.specs.Codes.{class_number};
 
 // What each byte begins: 0 a word of letters, 1 a constant, 11 `->`, 18 nothing (a space), 19 nothing that is a word, else the word of
 // one sign.
@@ -21,7 +21,7 @@ const CLASS: [u8; 256] = [
 ];
 
 pub fn class_of(b: u8) -> u8
-    ensures { result ≡ classNumber (class_of b) }
+    ensures { result ≡ class_number (class_of b) }
 {
     let i = b as usize;
     CLASS[i]
@@ -29,7 +29,7 @@ pub fn class_of(b: u8) -> u8
 
 // Whether a word of letters goes on with the byte.
 pub fn is_word_byte(b: u8) -> bool
-    ensures { result ≡ isWordByte b }
+    ensures { result ≡ is_word_byte b }
 {
     if class_of(b) < 2 {
         return true;

@@ -1,7 +1,7 @@
 // Words: which a run of letters is, where one ends, and the value of a constant.
 ghost use Rattle.std.specs.Prelude.{◌≡◌, Bool, List, ◌<◌, ◌≤◌, ◌+◌, ◌-◌, min, length, drop};
 ghost use Rattle.text.specs.Words.{Word, Spelled, word_of};
-ghost use Rattle.text.specs.Unfold.{valueAfter};
+ghost use Rattle.text.specs.Unfold.{value_after};
 ghost use Rattle.spelling.specs.Codes.{code_of, Ends, Skips, Next};
 
 use crate::bytes::{class_of, is_word_byte, same_bytes};
@@ -129,7 +129,7 @@ fn digit(b: u8) -> u64
 
 // A constant's value, 2^32 for any larger one.
 pub fn value_of(digits: &[u8]) -> u64
-    ensures { result ≡ min (valueAfter 0 digits.now) 4294967296 }
+    ensures { result ≡ min (value_after 0 digits.now) 4294967296 }
 {
     let mut value: u64 = 0;
     let mut i = 0;

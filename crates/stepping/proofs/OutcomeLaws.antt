@@ -10,58 +10,58 @@ use lib.ListN.{length, get_or, take, replicate, length-append, length-map, lengt
 use lib.Seq.{ext_get_or, get_or-take, length-take-le}
 use borrow.Author.Tests.{le-leb, lt-leb}
 use Rattle.trees.specs.Tree.{Tree, off, tree_of}
-use Rattle.trees.specs.Table.{addTrees, at, refOf, treesOf, Ref}
+use Rattle.trees.specs.Table.{add_trees, at, ref_of, trees_of, Ref}
 use Rattle.trees.specs.Kept.{diagrams, WellKept}
-use Rattle.trees.specs.Sizes.{sizesOf}
-use Rattle.trees.proofs.Tests.{lt-or-ge}
-use Rattle.trees.proofs.ReadLaws.{length-trees, ref-is}
-use Rattle.trees.proofs.CanonicalLaws.{zeros-past}
+use Rattle.trees.specs.Sizes.{sizes_of}
+use Rattle.trees.proofs.Tests.{lt_or_ge}
+use Rattle.trees.proofs.ReadLaws.{length_trees, ref_is}
+use Rattle.trees.proofs.CanonicalLaws.{zeros_past}
 use Rattle.diagram.specs.declared.Told.TheVariants.{Full, Done}
 use Rattle.nodes.specs.Nodes.{Table, Zeroed, Rows, canonical}
 use Rattle.walks.specs.Walks.{Within}
 use Rattle.sizes.specs.Leading.{Leading}
 use Rattle.sweeping.specs.Sweeps.{Awaits, References, Renewal}
-use Rattle.sweeping.proofs.Visited.{renew-visits}
-use Rattle.keeping.specs.Checks.{freeBy, Right}
-use Rattle.diagram.specs.Steps.{Task, newTrees, stages, workTable, cleared, layout, workOutcome, Leaves}
-use Rattle.diagram.specs.Counts.{holding, complementVisits, sweepVisits, Visited}
+use Rattle.sweeping.proofs.Visited.{renew_visits}
+use Rattle.keeping.specs.Checks.{free_by, Right}
+use Rattle.diagram.specs.Steps.{Task, new_trees, stages, work_table, cleared, layout, work_outcome, Leaves}
+use Rattle.diagram.specs.Counts.{holding, complement_visits, sweep_visits, Visited}
 use Rattle.visits.specs.Visits.{sweeps}
 use Rattle.diagram.specs.Works.{Fits, Ready, Short, Through}
 use Rattle.stepping.proofs.TallyLaws.{holds}
 use Rattle.walks.proofs.CallLaws.{within_all}
-use Rattle.diagram.proofs.RemovalLaws.{within-fine}
-use Rattle.diagram.proofs.RowLaws.{within-no}
-use Rattle.stepping.proofs.PlanLaws.{length-new}
-use Rattle.stepping.proofs.SizeLaws.{LaidOut, laid-sizes, laid-asked}
-use Rattle.keeping.proofs.SoundLaws.{sound-table, sound-rows}
-use Rattle.keeping.proofs.VerdictLaws.{kept-right}
+use Rattle.diagram.proofs.RemovalLaws.{within_fine}
+use Rattle.diagram.proofs.RowLaws.{within_no}
+use Rattle.stepping.proofs.PlanLaws.{length_new}
+use Rattle.stepping.proofs.SizeLaws.{LaidOut, laid_sizes, laid_asked}
+use Rattle.keeping.proofs.SoundLaws.{sound_table, sound_rows}
+use Rattle.keeping.proofs.VerdictLaws.{kept_right}
 
 -- well kept diagrams are ready for the work
 pub ready : (k : ℕ) (allowed : List ℕ) (C count : ℕ) (refs : List ℕ) (kept : ℕ) (ns : List ℕ) → 1 ≤ k → count ≤ 64 → length refs ≡ 64 → length ns ≡ 3 * C → C ≤ 4096
-    → WellKept (freeBy k allowed) C count refs kept ns → Ready k count refs kept ns
+    → WellKept (free_by k allowed) C count refs kept ns → Ready k count refs kept ns
 ready k allowed C count refs kept ns pos few wide size small w =
-    record { table = sound-table ns kept (4 * k) right w.apart (omega arith) (omega (arith, w.fits)); leads = record { wide = wide; each = leads }; none = w.none; rest = w.rest }
+    record { table = sound_table ns kept (4 * k) right w.apart (omega arith) (omega (arith, w.fits)); leads = record { wide = wide; each = leads }; none = w.none; rest = w.rest }
   where
     right : Right ns kept (4 * k)
-    right = kept-right k allowed C count refs kept ns pos (omega arith) w
+    right = kept_right k allowed C count refs kept ns pos (omega arith) w
 
     rows : Rows ns kept (4 * k) refs count
-    rows = sound-rows ns kept (4 * k) right w.apart refs count few w.inside
+    rows = sound_rows ns kept (4 * k) right w.apart refs count few w.inside
 
     leads : (a : ℕ) → Within ns kept (4 * k) (4 * k) (get_or refs a 0)
-    leads a = ⊎_elim (λ h. within_all ns kept (4 * k) (get_or refs a 0) (rows.inside a h) (rows.fine a h)) (λ h. rw (w.none a h) (within-no ns kept (4 * k))) (lt-or-ge a count)
+    leads a = ⊎_elim (λ h. within_all ns kept (4 * k) (get_or refs a 0) (rows.inside a h) (rows.fine a h)) (λ h. rw (w.none a h) (within_no ns kept (4 * k))) (lt_or_ge a count)
 
 -- the work's outcome does not ask what stands in front of the work slice
-pub outcome-same : (b : Bool) (k count : ℕ) (plan : List Task) (refs sizes : List ℕ) (kept : ℕ) (ns w w₁ : List ℕ) → cleared (length ns / 3) w₁ ≡ cleared (length ns / 3) w
-    → workOutcome b k count plan refs sizes kept ns w₁ ≡ workOutcome b k count plan refs sizes kept ns w
-unfolding workOutcome layout
-outcome-same false k count plan refs sizes kept ns w w₁ e = rw e
-outcome-same true k count plan refs sizes kept ns w w₁ e = rw e
+pub outcome_same : (b : Bool) (k count : ℕ) (plan : List Task) (refs sizes : List ℕ) (kept : ℕ) (ns w w₁ : List ℕ) → cleared (length ns / 3) w₁ ≡ cleared (length ns / 3) w
+    → work_outcome b k count plan refs sizes kept ns w₁ ≡ work_outcome b k count plan refs sizes kept ns w
+unfolding work_outcome layout
+outcome_same false k count plan refs sizes kept ns w w₁ e = rw e
+outcome_same true k count plan refs sizes kept ns w w₁ e = rw e
 
 -- the sweep of the code is that of the definition
-swept_same : (size levels : ℕ) (ts : List Tree) (ns : List ℕ) (n : ℕ) (rs : List ℕ) (ds : List Tree) → length ts ≡ n → holding size ts ≡ ns → rs ≡ map (refOf ts) ds
-    → (sweeps ns levels [] (replicate n 0) rs).visits ≡ sweepVisits size levels ts ds
-unfolding sweepVisits
+swept_same : (size levels : ℕ) (ts : List Tree) (ns : List ℕ) (n : ℕ) (rs : List ℕ) (ds : List Tree) → length ts ≡ n → holding size ts ≡ ns → rs ≡ map (ref_of ts) ds
+    → (sweeps ns levels [] (replicate n 0) rs).visits ≡ sweep_visits size levels ts ds
+unfolding sweep_visits
 swept_same size levels ts ns n rs ds len hold same =
     ap (λ (xs : List ℕ). (sweeps xs levels [] (replicate n 0) rs).visits) (sym hold)
     ∙ ap (λ (m : ℕ). (sweeps (holding size ts) levels [] (replicate m 0) rs).visits) (sym len)
@@ -69,12 +69,12 @@ swept_same size levels ts ns n rs ds len hold same =
 
 module _ (k count : ℕ) (plan : List Task) (refs : List ℕ) (kept : ℕ) (ns w : List ℕ) (f : Fits k count (length ns) (length w)) where
   -- no room for all: the tail is wiped, and the nodes are as they were
-  pub full-leaves : (sizes : List ℕ) {ns₁ ns₂ w₂ : List ℕ} → Ready k count refs kept ns → Short (4 * k) ns ns₁ kept (stages k plan (diagrams ns kept refs count) count)
+  pub full_leaves : (sizes : List ℕ) {ns₁ ns₂ w₂ : List ℕ} → Ready k count refs kept ns → Short (4 * k) ns ns₁ kept (stages k plan (diagrams ns kept refs count) count)
       → Zeroed (3 * kept) (length ns₁) ns₁ ns₂ → w₂ ≡ cleared (length ns / 3) w
-      → Leaves (workOutcome (leb (length (workTable k count plan refs kept ns)) (length ns / 3)) k count plan refs sizes kept ns w) Full refs sizes ns₂ w₂
-  unfolding workTable workOutcome
-  full-leaves sizes {ns₁} {ns₂} r s z e =
-      rw (lt-leb (length (addTrees (treesOf ns kept) (map (tree_of (4 * k)) (stages k plan (diagrams ns kept refs count) count)))) (length ns / 3) (omega (arith, s.over, f.whole)))
+      → Leaves (work_outcome (leb (length (work_table k count plan refs kept ns)) (length ns / 3)) k count plan refs sizes kept ns w) Full refs sizes ns₂ w₂
+  unfolding work_table work_outcome
+  full_leaves sizes {ns₁} {ns₂} r s z e =
+      rw (lt-leb (length (add_trees (trees_of ns kept) (map (tree_of (4 * k)) (stages k plan (diagrams ns kept refs count) count)))) (length ns / 3) (omega (arith, s.over, f.whole)))
       (record { told = refl; refs = refl; sizes = refl; nodes = wiped; work = e })
     where
       wiped : ns₂ ≡ ns
@@ -83,112 +83,112 @@ module _ (k count : ℕ) (plan : List Task) (refs : List ℕ) (kept : ℕ) (ns w
           (λ i h. ⊎_elim
           (λ l. z.same.eq i l ∙ s.same.eq i l)
           (λ l. z.zero i l (omega (arith, z.size)) ∙ sym (r.rest i l))
-          (lt-or-ge i (3 * kept)))
+          (lt_or_ge i (3 * kept)))
 
   module _ {ns₁ : List ℕ} {n : ℕ} {w₀ : List ℕ} {slots : ℕ} {news : List ℕ} {v : ℕ}
       (t : Through k plan (diagrams ns kept refs count) ns kept ns₁ n w₀ (length ns / 3) slots refs news count v) where
     -- what the sweep asks
-    pub sweep-ready : (w₁ : List ℕ) → length w₁ ≡ length w → Ready k count refs kept ns
+    pub sweep_ready : (w₁ : List ℕ) → length w₁ ≡ length w → Ready k count refs kept ns
         → Table ns₁ n × ((length ns₁ ≡ 3 * (length ns₁ / 3)) × (4 * (length ns₁ / 3) ≤ length w₁) × (length news ≡ 64)) × Awaits count refs × Rows ns₁ n (4 * k) news count
-    sweep-ready w₁ e d =
+    sweep_ready w₁ e d =
         let size = t.size in (
           t.desk.shelf.table,
-          (omega (arith, f.whole), omega (arith, f.room), t.new-lead.wide),
+          (omega (arith, f.whole), omega (arith, f.room), t.new_lead.wide),
           record { wide = d.leads.wide; none = d.none },
-          record { few = f.few; inside = λ i h. (t.new-lead.each i).below; fine = λ i h. within-fine (t.new-lead.each i) },
+          record { few = f.few; inside = λ i h. (t.new_lead.each i).below; fine = λ i h. within_fine (t.new_lead.each i) },
         )
 
     -- the new references lead to the new diagrams
-    new-diagrams : diagrams ns₁ n news count ≡ newTrees k plan (diagrams ns kept refs count) count
+    new_diagrams : diagrams ns₁ n news count ≡ new_trees k plan (diagrams ns kept refs count) count
     unfolding diagrams at
-    new-diagrams =
-        ext_get_or off _ _ (size ∙ sym (length-new k plan _ count))
+    new_diagrams =
+        ext_get_or off _ _ (size ∙ sym (length_new k plan _ count))
         (λ i h.
         let l : i < count = omega (arith, size) in
-        get_or-map (at (treesOf ns₁ n)) (take count news) i 0 ∙ ap (at (treesOf ns₁ n)) (get_or-take count news i 0 l) ∙ t.new-are i)
+        get_or-map (at (trees_of ns₁ n)) (take count news) i 0 ∙ ap (at (trees_of ns₁ n)) (get_or-take count news i 0 l) ∙ t.new_are i)
       where
-        size : length (map (at (treesOf ns₁ n)) (take count news)) ≡ count
-        size = length-map (take count news) (at (treesOf ns₁ n)) ∙ length-take-le count news (omega (arith, t.new-lead.wide, f.few))
+        size : length (map (at (trees_of ns₁ n)) (take count news)) ≡ count
+        size = length-map (take count news) (at (trees_of ns₁ n)) ∙ length-take-le count news (omega (arith, t.new_lead.wide, f.few))
 
     -- the count of nodes is the room
-    room-is : length (workTable k count plan refs kept ns) ≡ n
-    unfolding workTable
-    room-is = ap length (sym t.trees) ∙ length-trees ns₁ n
+    room_is : length (work_table k count plan refs kept ns) ≡ n
+    unfolding work_table
+    room_is = ap length (sym t.trees) ∙ length_trees ns₁ n
 
     -- the references, as a list
-    refs-are : {refs' : List ℕ} → References ns₁ n news count refs'
-        → refs' ≡ map (refOf (canonical ns₁ n news count)) (diagrams ns₁ n news count) ++ replicate (64 - count) 0
-    unfolding diagrams at refOf
-    refs-are {refs'} r =
-        ext_get_or 0 refs' _ (r.wide ∙ sym (length-append (map (refOf T) (map (at (treesOf ns₁ n)) (take count news))) (replicate (64 - count) 0) ∙ rw (size, length-replicate) (omega (arith, f.few))))
+    refs_are : {refs' : List ℕ} → References ns₁ n news count refs'
+        → refs' ≡ map (ref_of (canonical ns₁ n news count)) (diagrams ns₁ n news count) ++ replicate (64 - count) 0
+    unfolding diagrams at ref_of
+    refs_are {refs'} r =
+        ext_get_or 0 refs' _ (r.wide ∙ sym (length-append (map (ref_of T) (map (at (trees_of ns₁ n)) (take count news))) (replicate (64 - count) 0) ∙ rw (size, length-replicate) (omega (arith, f.few))))
         (λ i h. ⊎_elim
-        (λ l. r.is i l ∙ sym (get_or-append (map (refOf T) (map (at (treesOf ns₁ n)) (take count news))) (replicate (64 - count) 0) 0 i (omega (arith, size))
-        ∙ get_or-map (refOf T) (map (at (treesOf ns₁ n)) (take count news)) i off
-        ∙ ap (refOf T) (get_or-map (at (treesOf ns₁ n)) (take count news) i 0 ∙ ap (at (treesOf ns₁ n)) (get_or-take count news i 0 l))))
-        (λ l. r.none i l ∙ sym (zeros-past (map (refOf T) (map (at (treesOf ns₁ n)) (take count news))) (64 - count) i (omega (arith, size))))
-        (lt-or-ge i count))
+        (λ l. r.is i l ∙ sym (get_or-append (map (ref_of T) (map (at (trees_of ns₁ n)) (take count news))) (replicate (64 - count) 0) 0 i (omega (arith, size))
+        ∙ get_or-map (ref_of T) (map (at (trees_of ns₁ n)) (take count news)) i off
+        ∙ ap (ref_of T) (get_or-map (at (trees_of ns₁ n)) (take count news) i 0 ∙ ap (at (trees_of ns₁ n)) (get_or-take count news i 0 l))))
+        (λ l. r.none i l ∙ sym (zeros_past (map (ref_of T) (map (at (trees_of ns₁ n)) (take count news))) (64 - count) i (omega (arith, size))))
+        (lt_or_ge i count))
       where
         T : List Tree
         T = canonical ns₁ n news count
 
-        size : length (map (refOf T) (map (at (treesOf ns₁ n)) (take count news))) ≡ count
-        size = rw (length-map, length-map) (length-take-le count news (omega (arith, t.new-lead.wide, f.few)))
+        size : length (map (ref_of T) (map (at (trees_of ns₁ n)) (take count news))) ≡ count
+        size = rw (length-map, length-map) (length-take-le count news (omega (arith, t.new_lead.wide, f.few)))
 
     -- after the sweep: the canonical layout of the new diagrams
-    swept-layout : {w₁ w₂ ns₂ : List ℕ} {kept' : ℕ} {refs' : List ℕ} {visits : ℕ} → Renewal ns₁ n (4 * k) news count w₁ ns₂ w₂ kept' refs' visits
-        → LaidOut (4 * k) (newTrees k plan (diagrams ns kept refs count) count) count (length ns - 3 * length (addTrees [] (newTrees k plan (diagrams ns kept refs count) count))) (64 - count) ns₂ kept' refs'
+    swept_layout : {w₁ w₂ ns₂ : List ℕ} {kept' : ℕ} {refs' : List ℕ} {visits : ℕ} → Renewal ns₁ n (4 * k) news count w₁ ns₂ w₂ kept' refs' visits
+        → LaidOut (4 * k) (new_trees k plan (diagrams ns kept refs count) count) count (length ns - 3 * length (add_trees [] (new_trees k plan (diagrams ns kept refs count) count))) (64 - count) ns₂ kept' refs'
     unfolding canonical
-    swept-layout r =
-        let ds = new-diagrams in
+    swept_layout r =
+        let ds = new_diagrams in
         record {
-          rows = length-new k plan _ count;
-          fine = λ i h. rw (← t.new-are i) (within-fine (t.new-lead.each i));
+          rows = length_new k plan _ count;
+          fine = λ i h. rw (← t.new_are i) (within_fine (t.new_lead.each i));
           size = rw ds at r.size;
           numbers = rw (ds, t.size) at r.numbers;
-          references = rw ds at (refs-are r.references);
+          references = rw ds at (refs_are r.references);
         }
 
     -- all rows worked and swept, and the sizes found
-    pub done-leaves : (sizes : List ℕ) {w₁ w₂ ns₂ w₃ sizes' : List ℕ} {kept' : ℕ} {refs' : List ℕ} {visits : ℕ} → Renewal ns₁ n (4 * k) news count w₁ ns₂ w₂ kept' refs' visits
-        → sizes' ≡ sizesOf (diagrams ns₂ kept' refs' count) → w₃ ≡ cleared (length ns / 3) w
-        → Leaves (workOutcome (leb (length (workTable k count plan refs kept ns)) (length ns / 3)) k count plan refs sizes kept ns w) (Done kept' n) refs' sizes' ns₂ w₃
-    unfolding workOutcome layout
-    done-leaves sizes r z e =
+    pub done_leaves : (sizes : List ℕ) {w₁ w₂ ns₂ w₃ sizes' : List ℕ} {kept' : ℕ} {refs' : List ℕ} {visits : ℕ} → Renewal ns₁ n (4 * k) news count w₁ ns₂ w₂ kept' refs' visits
+        → sizes' ≡ sizes_of (diagrams ns₂ kept' refs' count) → w₃ ≡ cleared (length ns / 3) w
+        → Leaves (work_outcome (leb (length (work_table k count plan refs kept ns)) (length ns / 3)) k count plan refs sizes kept ns w) (Done kept' n) refs' sizes' ns₂ w₃
+    unfolding work_outcome layout
+    done_leaves sizes r z e =
         let table = t.desk.shelf.table.fits in
         let size = t.size in
-        let laid = swept-layout r in
-        let test : leb (length (workTable k count plan refs kept ns)) (length ns / 3) ≡ true = rw room-is (le-leb n (length ns / 3) (omega arith)) in
+        let laid = swept_layout r in
+        let test : leb (length (work_table k count plan refs kept ns)) (length ns / 3) ≡ true = rw room_is (le-leb n (length ns / 3) (omega arith)) in
         rw test
-        (record { told = ap₂ Done laid.size (sym room-is); refs = laid.references; sizes = z ∙ laid-sizes laid; nodes = laid.numbers; work = e })
+        (record { told = ap₂ Done laid.size (sym room_is); refs = laid.references; sizes = z ∙ laid_sizes laid; nodes = laid.numbers; work = e })
 
     -- what the finding of sizes asks
-    pub sizes-ready : {w₁ w₂ ns₂ : List ℕ} {kept' : ℕ} {refs' : List ℕ} {visits : ℕ} → Renewal ns₁ n (4 * k) news count w₁ ns₂ w₂ kept' refs' visits → length ns₂ ≡ length ns₁
+    pub sizes_ready : {w₁ w₂ ns₂ : List ℕ} {kept' : ℕ} {refs' : List ℕ} {visits : ℕ} → Renewal ns₁ n (4 * k) news count w₁ ns₂ w₂ kept' refs' visits → length ns₂ ≡ length ns₁
         → length w₂ ≡ length w → (Table ns₂ kept' × Leading refs' count kept') × (kept' ≤ length w₂)
-    sizes-ready r e d =
-        let laid = laid-asked (swept-layout r) (length ns / 3) (omega (arith, e, t.size, f.whole)) f.small f.few r.references.wide in
+    sizes_ready r e d =
+        let laid = laid_asked (swept_layout r) (length ns / 3) (omega (arith, e, t.size, f.whole)) f.small f.few r.references.wide in
         (laid, omega (arith, laid.0.fits, e, t.size, f.whole, f.room, d))
 
     -- the references that are swept are those of the new diagrams in the working table
-    swept-refs : take count news ≡ map (refOf (treesOf ns₁ n)) (newTrees k plan (diagrams ns kept refs count) count)
-    unfolding at refOf
-    swept-refs =
-        ext_get_or 0 _ _ (size ∙ sym (length-map (newTrees k plan (diagrams ns kept refs count) count) (refOf (treesOf ns₁ n)) ∙ length-new k plan (diagrams ns kept refs count) count))
+    swept_refs : take count news ≡ map (ref_of (trees_of ns₁ n)) (new_trees k plan (diagrams ns kept refs count) count)
+    unfolding at ref_of
+    swept_refs =
+        ext_get_or 0 _ _ (size ∙ sym (length-map (new_trees k plan (diagrams ns kept refs count) count) (ref_of (trees_of ns₁ n)) ∙ length_new k plan (diagrams ns kept refs count) count))
         (λ i h.
         let l : i < count = omega (arith, size) in
-        let w : Ref (treesOf ns₁ n) (get_or news i 0) (get_or (newTrees k plan (diagrams ns kept refs count) count) i off) = record { below = omega (arith, (t.new-lead.each i).below, length-trees ns₁ n); is = t.new-are i } in
-        get_or-take count news i 0 l ∙ ref-is ns₁ n (get_or news i 0) _ t.desk.shelf.table.one w
-        ∙ sym (get_or-map (refOf (treesOf ns₁ n)) (newTrees k plan (diagrams ns kept refs count) count) i off))
+        let w : Ref (trees_of ns₁ n) (get_or news i 0) (get_or (new_trees k plan (diagrams ns kept refs count) count) i off) = record { below = omega (arith, (t.new_lead.each i).below, length_trees ns₁ n); is = t.new_are i } in
+        get_or-take count news i 0 l ∙ ref_is ns₁ n (get_or news i 0) _ t.desk.shelf.table.one w
+        ∙ sym (get_or-map (ref_of (trees_of ns₁ n)) (new_trees k plan (diagrams ns kept refs count) count) i off))
       where
         size : length (take count news) ≡ count
-        size = length-take-le count news (omega (arith, t.new-lead.wide, f.few))
+        size = length-take-le count news (omega (arith, t.new_lead.wide, f.few))
 
     -- the visits of all rows and of the sweep
-    pub done-visits : {w₁ w₂ ns₂ : List ℕ} {kept' : ℕ} {refs' : List ℕ} {visits : ℕ} → Rows ns₁ n (4 * k) news count → Renewal ns₁ n (4 * k) news count w₁ ns₂ w₂ kept' refs' visits
+    pub done_visits : {w₁ w₂ ns₂ : List ℕ} {kept' : ℕ} {refs' : List ℕ} {visits : ℕ} → Rows ns₁ n (4 * k) news count → Renewal ns₁ n (4 * k) news count w₁ ns₂ w₂ kept' refs' visits
         → Visited k count plan refs kept ns kept' v visits
-    unfolding complementVisits workTable
-    done-visits rows r = record {
-      complements-are = sym t.tally.visits;
-      complements-most = t.tally.most;
-      sweep-is = sym r.visits ∙ rw (← t.trees) (swept_same (length ns) (4 * k) (treesOf ns₁ n) ns₁ n (take count news) _ (length-trees ns₁ n) (rw t.size at (holds t.desk.shelf.table t.behind)) swept-refs);
-      sweep-most = renew-visits t.desk.shelf.table rows r;
+    unfolding complement_visits work_table
+    done_visits rows r = record {
+      complements_are = sym t.tally.visits;
+      complements_most = t.tally.most;
+      sweep_is = sym r.visits ∙ rw (← t.trees) (swept_same (length ns) (4 * k) (trees_of ns₁ n) ns₁ n (take count news) _ (length_trees ns₁ n) (rw t.size at (holds t.desk.shelf.table t.behind)) swept_refs);
+      sweep_most = renew_visits t.desk.shelf.table rows r;
     }

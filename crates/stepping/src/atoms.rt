@@ -2,9 +2,9 @@
 ghost use Rattle.std.specs.Prelude.{◌≡◌, [], ◌*◌, ◌≤◌, length};
 ghost use Rattle.rule.specs.Decoded.{row_of};
 ghost use Rattle.walks.specs.Desks.{Desk};
-ghost use Rattle.diagram.specs.Steps.{turnsSay, turnStages};
+ghost use Rattle.diagram.specs.Steps.{turns_say, turn_stages};
 ghost use Rattle.diagram.specs.Works.{Worked};
-ghost use Rattle.instructions.specs.Planned.{turnsTo};
+ghost use Rattle.instructions.specs.Planned.{turns_to};
 
 use diagram::turns::take_turn;
 use making::Made;
@@ -24,7 +24,7 @@ pub fn atom(
     given: &[u32; 96],
 ) -> Made
     requires { (k ≤ 10) × (event.count ≤ 8) × (length given.now ≡ 96) × Desk nodes.old n (4 * k) work.old c slots }
-    ensures { Worked (4 * k) nodes.old nodes.new n (turnStages k [] (turnsTo (row_of read) event given.now event.count)) (turnsSay k (turnsTo (row_of read) event given.now event.count)) work.old work.new c slots result }
+    ensures { Worked (4 * k) nodes.old nodes.new n (turn_stages k [] (turns_to (row_of read) event given.now event.count)) (turns_say k (turns_to (row_of read) event given.now event.count)) work.old work.new c slots result }
 {
     let facts = event.facts;
     let count = event.count as usize;

@@ -5,10 +5,10 @@ mod atoms;
 mod rows;
 
 ghost use Rattle.std.specs.Prelude.{◌≡◌, ◌≤◌, length};
-ghost use Rattle.meaning.specs.Rows.{rowCount, right, checkRows};
+ghost use Rattle.meaning.specs.Rows.{count_of_rows, right, check_rows};
 ghost use Rattle.nodes.specs.Nodes.{Decides};
 ghost use Rattle.keeping.specs.Checks.{CheckLeaves};
-ghost use Rattle.diagram.specs.Steps.{keptRight, stepOutcome, formedOutcome, Leaves, Tells};
+ghost use Rattle.diagram.specs.Steps.{kept_right, step_outcome, formed_outcome, Leaves, Tells};
 ghost use Rattle.diagram.specs.Counts.{Visits};
 ghost use Rattle.diagram.specs.Works.{Fits};
 ghost use Rattle.instructions.specs.Planned.{planned};
@@ -81,7 +81,7 @@ fn kept_right(
     work: &mut [u32],
 ) -> bool
     requires { Fits k count (length nodes.now) (length work.old) × (length refs.now ≡ 64) × (length sizes.now ≡ 64) }
-    ensures value { result ≡ keptRight k count allowed.now refs.now sizes.now kept nodes.now }
+    ensures value { result ≡ kept_right k count allowed.now refs.now sizes.now kept nodes.now }
     ensures check_leaves { CheckLeaves nodes.now kept work.old work.new result }
 {
     if !check(k, count, allowed, refs, kept, nodes, work) {
@@ -105,9 +105,9 @@ pub fn step(
     nodes: &mut [u32],
     work: &mut [u32],
 ) -> Stepped
-    requires { (checkRows rows.now ≡ right) × (event.count ≤ 8) × (length given.now ≡ 96) × (length refs.old ≡ 64) × (length sizes.old ≡ 64) }
-    ensures leaves { Leaves (stepOutcome k (rowCount rows.now) (planned rows.now event given.now) free.now refs.old sizes.old kept nodes.old work.old) result.told refs.new sizes.new nodes.new work.new }
-    ensures visits { Visits k (rowCount rows.now) (planned rows.now event given.now) refs.old kept nodes.old result.told result.complements result.swept }
+    requires { (check_rows rows.now ≡ right) × (event.count ≤ 8) × (length given.now ≡ 96) × (length refs.old ≡ 64) × (length sizes.old ≡ 64) }
+    ensures leaves { Leaves (step_outcome k (count_of_rows rows.now) (planned rows.now event given.now) free.now refs.old sizes.old kept nodes.old work.old) result.told refs.new sizes.new nodes.new work.new }
+    ensures visits { Visits k (count_of_rows rows.now) (planned rows.now event given.now) refs.old kept nodes.old result.told result.complements result.swept }
 {
     let count = (rows.len() / 9) as u32;
     if !fit(k, count, nodes.len(), work.len()) {
@@ -133,7 +133,7 @@ pub fn well_formed(
     work: &mut [u32],
 ) -> Formed
     requires { (length refs.now ≡ 64) × (length sizes.now ≡ 64) }
-    ensures { Tells (formedOutcome k count allowed.now refs.now sizes.now kept nodes.now work.old) result work.new }
+    ensures { Tells (formed_outcome k count allowed.now refs.now sizes.now kept nodes.now work.old) result work.new }
 {
     if !fit(k, count, nodes.len(), work.len()) {
         return Formed::Unfit;

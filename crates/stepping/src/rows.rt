@@ -4,11 +4,11 @@
 // first c for its marks, and leaves the chains. Sizes are found in the first c too, after the check and after the sweep.
 ghost use Rattle.std.specs.Prelude.{◌≡◌, ℕ, ◌*◌, ◌/◌, ◌≤◌, leb, length, get_or, replicate};
 ghost use Rattle.trees.specs.Kept.{diagrams};
-ghost use Rattle.meaning.specs.Rows.{rowCount, right, checkRows};
+ghost use Rattle.meaning.specs.Rows.{count_of_rows, right, check_rows};
 ghost use Rattle.rule.specs.Decoded.{row_of};
 ghost use Rattle.nodes.specs.Chains.{Chained};
 ghost use Rattle.walks.specs.Desks.{Desk};
-ghost use Rattle.diagram.specs.Steps.{workTable, workOutcome, Leaves};
+ghost use Rattle.diagram.specs.Steps.{work_table, work_outcome, Leaves};
 ghost use Rattle.diagram.specs.Counts.{Visits};
 ghost use Rattle.diagram.specs.Works.{Fits, Leads, RowDone, Fresh, Ran, Ready};
 ghost use Rattle.instructions.specs.Planned.{asked, planned};
@@ -71,10 +71,10 @@ fn work_rows(
     olds: &[u32; 64],
     news: &mut [u32; 64],
 ) -> Run
-    requires k_bound { (k ≤ 10) × (checkRows rows.now ≡ right) × (event.count ≤ 8) × (length given.now ≡ 96) × Desk nodes.old kept (4 * k) work.old c slots }
+    requires k_bound { (k ≤ 10) × (check_rows rows.now ≡ right) × (event.count ≤ 8) × (length given.now ≡ 96) × Desk nodes.old kept (4 * k) work.old c slots }
     requires leads { Leads nodes.old kept (4 * k) olds.now × (news.old ≡ replicate 64 0) }
-    requires by_index { ((a : ℕ) → rowCount rows.now ≤ a → get_or olds.now a 0 ≡ 0) × Fresh nodes.old kept work.old c }
-    ensures { Ran k (planned rows.now event given.now) (diagrams nodes.old kept olds.now (rowCount rows.now)) nodes.old kept nodes.new work.new c slots olds.now (rowCount rows.now) result.full result.count news.new result.visits }
+    requires by_index { ((a : ℕ) → count_of_rows rows.now ≤ a → get_or olds.now a 0 ≡ 0) × Fresh nodes.old kept work.old c }
+    ensures { Ran k (planned rows.now event given.now) (diagrams nodes.old kept olds.now (count_of_rows rows.now)) nodes.old kept nodes.new work.new c slots olds.now (count_of_rows rows.now) result.full result.count news.new result.visits }
 {
     let count = rows.len() / 9;
     let mut n = kept;
@@ -125,11 +125,11 @@ pub fn worked(
     nodes: &mut [u32],
     work: &mut [u32],
 ) -> Stepped
-    requires rows_value { (checkRows rows.now ≡ right) × (event.count ≤ 8) × (length given.now ≡ 96) × (length sizes.old ≡ 64) }
-    requires fits { Fits k (rowCount rows.now) (length nodes.old) (length work.old) }
-    requires ready { Ready k (rowCount rows.now) refs.old kept nodes.old × Chained nodes.old kept work.old }
-    ensures leaves { Leaves (workOutcome (leb (length (workTable k (rowCount rows.now) (planned rows.now event given.now) refs.old kept nodes.old)) (length nodes.old / 3)) k (rowCount rows.now) (planned rows.now event given.now) refs.old sizes.old kept nodes.old work.old) result.told refs.new sizes.new nodes.new work.new }
-    ensures visits { Visits k (rowCount rows.now) (planned rows.now event given.now) refs.old kept nodes.old result.told result.complements result.swept }
+    requires rows_value { (check_rows rows.now ≡ right) × (event.count ≤ 8) × (length given.now ≡ 96) × (length sizes.old ≡ 64) }
+    requires fits { Fits k (count_of_rows rows.now) (length nodes.old) (length work.old) }
+    requires ready { Ready k (count_of_rows rows.now) refs.old kept nodes.old × Chained nodes.old kept work.old }
+    ensures leaves { Leaves (work_outcome (leb (length (work_table k (count_of_rows rows.now) (planned rows.now event given.now) refs.old kept nodes.old)) (length nodes.old / 3)) k (count_of_rows rows.now) (planned rows.now event given.now) refs.old sizes.old kept nodes.old work.old) result.told refs.new sizes.new nodes.new work.new }
+    ensures visits { Visits k (count_of_rows rows.now) (planned rows.now event given.now) refs.old kept nodes.old result.told result.complements result.swept }
 {
     let c = nodes.len() / 3;
     let slots = slots_for(c, kept);

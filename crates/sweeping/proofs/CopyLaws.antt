@@ -7,7 +7,7 @@ use native.Mathlib.Omega.{arith}
 use native.Mathlib.Decide.{ℕ_discrete}
 use lib.ListN.{length, get_or, set, take, replicate, length-append, length-set, length-replicate, get_or-replicate, get_or-append}
 use lib.Seq.{ext_get_or, get_or-take, get_or-append-add, length-take-le, get_or-set_same, get_or-set_other}
-use Rattle.trees.proofs.Tests.{lt-or-ge}
+use Rattle.trees.proofs.Tests.{lt_or_ge}
 use Rattle.nodes.specs.Nodes.{Zeroed}
 
 -- the numbers copied so far
@@ -32,7 +32,7 @@ copied_all work nodes₀ nodes ms k h u w z =
     (λ i v. ⊎_elim
     (λ l. z.same.eq i l ∙ w.same i l ∙ sym (get_or-append (take k work) (replicate (length nodes₀ - k) 0) 0 i (rw front l) ∙ get_or-take k work i 0 l))
     (λ l. z.zero i l (omega (arith, z.size)) ∙ sym (past i l (omega (arith, z.size, w.size))))
-    (lt-or-ge i k))
+    (lt_or_ge i k))
   where
     front : length (take k work) ≡ k
     front = length-take-le k work h

@@ -9,44 +9,44 @@ use native.Mathlib.Omega.{arith}
 use lib.ListN.{length, get_or, set, take, drop, length-append, length-set}
 use lib.Seq.{take-set-le, take-set-lt, drop-set-lt, drop-set-add, length-take-le, get_or-set_same, get_or-set_other}
 use Rattle.trees.specs.Tree.{Tree, node, Fine}
-use Rattle.trees.specs.Table.{mem, addTree, at, treesOf, Ref}
-use Rattle.trees.proofs.Tests.{lt-or-ge, false-true}
-use Rattle.trees.proofs.TreeLaws.{node-fine, mk-differ}
-use Rattle.trees.proofs.TableLaws.{Goes, goes_ref, goes_at, ref-mem, push-out}
-use Rattle.trees.proofs.ReadLaws.{length-trees, at-end}
+use Rattle.trees.specs.Table.{mem, add_tree, at, trees_of, Ref}
+use Rattle.trees.proofs.Tests.{lt_or_ge, false_true}
+use Rattle.trees.proofs.TreeLaws.{node_fine, mk_differ}
+use Rattle.trees.proofs.TableLaws.{Goes, goes_ref, goes_at, ref_mem, push_out}
+use Rattle.trees.proofs.ReadLaws.{length_trees, at_end}
 use Rattle.nodes.specs.Nodes.{Table, Splits, Grown}
-use Rattle.nodes.proofs.ReadLaws.{grown-goes, grown-count, grown-ref, stored, stored-front, stored-rest, stored-trees, stored-table}
-use Rattle.nodes.proofs.PartLaws.{sides-only}
+use Rattle.nodes.proofs.ReadLaws.{grown_goes, grown_count, grown_ref, stored, stored_front, stored_rest, stored_trees, stored_table}
+use Rattle.nodes.proofs.PartLaws.{sides_only}
 use Rattle.visits.specs.Visits.{sweep, Refines}
 use Rattle.visits.proofs.VisitSteps.{swept_refines}
-use Rattle.sweeping.specs.Sweeps.{Ordered, Noted, notesOf, Emitted}
-use Rattle.sweeping.proofs.NoteLaws.{notes-le, sides-ordered, few, note-is, few-visits, unseen}
+use Rattle.sweeping.specs.Sweeps.{Ordered, Noted, notes_of, Emitted}
+use Rattle.sweeping.proofs.NoteLaws.{notes_le, sides_ordered, few, note_is, few_visits, unseen}
 
 -- both sides of an unseen node were swept, and it is written with its note
 module _ {ns : List ℕ} {m : ℕ} {w : List ℕ} {c n : ℕ} (o : Noted ns m w c n) {r l a b : ℕ} (s : Splits ns m r l a b) (two : 2 ≤ r) (top : r < m + 2) (none : get_or w (3 * c + (r - 2)) 0 ≡ 0)
     {w₁ w₂ : List ℕ} {n₁ n₂ p q v₁ v₂ : ℕ} (g : Emitted ns m a w w₁ c n n₁ p v₁) (h : Emitted ns m b w₁ w₂ c n₁ n₂ q v₂) where
   x : Tree
-  x = at (treesOf ns m) a
+  x = at (trees_of ns m) a
 
   y : Tree
-  y = at (treesOf ns m) b
+  y = at (trees_of ns m) b
 
   old : List Tree
-  old = treesOf (take (3 * c) w) n
+  old = trees_of (take (3 * c) w) n
 
   now : List Tree
-  now = treesOf (take (3 * c) w₂) n₂
+  now = trees_of (take (3 * c) w₂) n₂
 
-  same-r : r - 2 + 2 ≡ r
-  same-r = omega arith
+  same_r : r - 2 + 2 ≡ r
+  same_r = omega arith
 
-  both : now ≡ addTree (addTree old x) y
+  both : now ≡ add_tree (add_tree old x) y
   unfolding now old x y
   both = rw (h.grown.trees, g.grown.trees)
 
   out : mem (node l x y) now ≡ false
   unfolding old x y
-  out = rw both (sides-only old l x y (unseen o (r - 2) (omega arith) none l x y (rw same-r s.is)))
+  out = rw both (sides_only old l x y (unseen o (r - 2) (omega arith) none l x y (rw same_r s.is)))
 
   -- a place whose note stood before the node was written is not the node's
   other : (i k : ℕ) → i < m → get_or w₂ (3 * c + i) 0 ≡ k + 3 → i ≡ r - 2 → ⊥
@@ -55,7 +55,7 @@ module _ {ns : List ℕ} {m : ℕ} {w : List ℕ} {c n : ℕ} (o : Noted ns m w 
       let back : get_or w₂ (3 * c + i) 0 - 1 ≡ k + 2 = omega arith in
       let f = rw back at (h.notes.right i u (omega arith)) in
       let t : i + 2 ≡ r = omega arith in
-      false-true out (ref-mem now (k + 2) l x y (record { below = f.below; is = f.is ∙ ap (at (treesOf ns m)) t ∙ s.is }))
+      false_true out (ref_mem now (k + 2) l x y (record { below = f.below; is = f.is ∙ ap (at (trees_of ns m)) t ∙ s.is }))
 
   own : get_or (set w₂ (3 * c + (r - 2)) (n₂ + 3)) (3 * c + (r - 2)) 0 ≡ n₂ + 3
   own = get_or-set_same w₂ (3 * c + (r - 2)) (n₂ + 3) 0 (omega (arith, few o, h.notes.room))
@@ -67,18 +67,18 @@ module _ {ns : List ℕ} {m : ℕ} {w : List ℕ} {c n : ℕ} (o : Noted ns m w 
       let f = other e.0 k e.1 e.2 in
       (e.0, e.1, get_or-set_other w₂ (3 * c + (r - 2)) (3 * c + e.0) (n₂ + 3) 0 (λ z. f (omega arith)) ∙ e.2))
       (λ v. let z : k ≡ n₂ = omega arith in (r - 2, omega arith, rw z own))
-      (lt-or-ge k n₂)
+      (lt_or_ge k n₂)
 
   -- there is room for the node: every tree of the table has a note of its own
-  pub swept-room : n₂ < m
-  swept-room = let e = notes-le m (n₂ + 1) (λ i. get_or (set w₂ (3 * c + (r - 2)) (n₂ + 3)) (3 * c + i) 0) each in omega arith
+  pub swept_room : n₂ < m
+  swept_room = let e = notes_le m (n₂ + 1) (λ i. get_or (set w₂ (3 * c + (r - 2)) (n₂ + 3)) (3 * c + i) 0) each in omega arith
 
   -- and the visits of both sides do not wrap
-  pub swept-fits : {left : ℕ} → Ordered ns m left r → v₁ + v₂ + 1 ≤ 16387
-  swept-fits q =
-      let d = sides-ordered q s in
+  pub swept_fits : {left : ℕ} → Ordered ns m left r → v₁ + v₂ + 1 ≤ 16387
+  swept_fits q =
+      let d = sides_ordered q s in
       let t = o.source in
-      omega (arith, t.fits, t.small, few-visits o d.1 g, few-visits g.notes d.2 h)
+      omega (arith, t.fits, t.small, few_visits o d.1 g, few_visits g.notes d.2 h)
 
   front : List ℕ
   front = take (3 * c) w₂
@@ -90,14 +90,14 @@ module _ {ns : List ℕ} {m : ℕ} {w : List ℕ} {c n : ℕ} (o : Noted ns m w 
   part : take (3 * c) w₃ ≡ stored front n₂ l p q
   unfolding front
   part =
-      let k = swept-room in
+      let k = swept_room in
       let f = few o in
       take-set-le (3 * c) (stored w₂ n₂ l p q) (3 * c + (r - 2)) (n₂ + 3) (omega arith)
       ∙ rw (take-set-lt (3 * c) _ (3 * n₂ + 2) q (omega arith), take-set-lt (3 * c) _ (3 * n₂ + 1) p (omega arith), take-set-lt (3 * c) w₂ (3 * n₂) l (omega arith))
 
   ep : at now p ≡ x
   unfolding now x
-  ep = goes_at (grown-goes h.grown) p (omega (arith, grown-ref g.grown, length-trees (take (3 * c) w₁) n₁)) ∙ g.grown.ref.is
+  ep = goes_at (grown_goes h.grown) p (omega (arith, grown_ref g.grown, length_trees (take (3 * c) w₁) n₁)) ∙ g.grown.ref.is
 
   eq : at now q ≡ y
   unfolding now y
@@ -108,36 +108,36 @@ module _ {ns : List ℕ} {m : ℕ} {w : List ℕ} {c n : ℕ} (o : Noted ns m w 
 
   fits : 3 * n₂ + 3 ≤ length front
   unfolding front
-  fits = rw (length-take-le (3 * c) w₂ (omega (arith, h.notes.room))) (omega (arith, swept-room, few o))
+  fits = rw (length-take-le (3 * c) w₂ (omega (arith, h.notes.room))) (omega (arith, swept_room, few o))
 
   hp : p < n₂ + 2
-  hp = omega (arith, grown-ref g.grown, grown-count h.grown)
+  hp = omega (arith, grown_ref g.grown, grown_count h.grown)
 
   hq : q < n₂ + 2
-  hq = grown-ref h.grown
+  hq = grown_ref h.grown
 
-  next : treesOf (take (3 * c) w₃) (n₂ + 1) ≡ now ++ node l x y ∷ []
+  next : trees_of (take (3 * c) w₃) (n₂ + 1) ≡ now ++ node l x y ∷ []
   unfolding front now
-  next = rw part (stored-trees front n₂ l p q h.grown.table hp hq fits out' ∙ ap₂ (λ (u v : Tree). now ++ node l u v ∷ []) ep eq)
+  next = rw part (stored_trees front n₂ l p q h.grown.table hp hq fits out' ∙ ap₂ (λ (u v : Tree). now ++ node l u v ∷ []) ep eq)
 
-  whole : treesOf (take (3 * c) w₃) (n₂ + 1) ≡ addTree old (at (treesOf ns m) r)
-  unfolding addTree x y
-  whole = next ∙ sym (push-out now (node l x y) out) ∙ rw (s.is, both)
+  whole : trees_of (take (3 * c) w₃) (n₂ + 1) ≡ add_tree old (at (trees_of ns m) r)
+  unfolding add_tree x y
+  whole = next ∙ sym (push_out now (node l x y) out) ∙ rw (s.is, both)
 
-  here : Ref (treesOf (take (3 * c) w₃) (n₂ + 1)) (n₂ + 2) (at (treesOf ns m) r)
+  here : Ref (trees_of (take (3 * c) w₃) (n₂ + 1)) (n₂ + 2) (at (trees_of ns m) r)
   unfolding x y now
   here = rw (next, s.is) (record {
-    below = rw length-append (omega (arith, length-trees (take (3 * c) w₂) n₂));
-    is = at-end now (node l x y) n₂ (length-trees (take (3 * c) w₂) n₂);
+    below = rw length-append (omega (arith, length_trees (take (3 * c) w₂) n₂));
+    is = at_end now (node l x y) n₂ (length_trees (take (3 * c) w₂) n₂);
   })
 
-  longer : Goes now (treesOf (take (3 * c) w₃) (n₂ + 1))
+  longer : Goes now (trees_of (take (3 * c) w₃) (n₂ + 1))
   longer = record { more = node l x y ∷ []; is = next }
 
   -- behind the table only the one note has changed
   far : (i : ℕ) → 3 * c ≤ i → get_or w₃ i 0 ≡ get_or (set w₂ (3 * c + (r - 2)) (n₂ + 3)) i 0
   far i u =
-      let k = swept-room in
+      let k = swept_room in
       let f = few o in
       go (ℕ_discrete i (3 * c + (r - 2)))
     where
@@ -146,29 +146,29 @@ module _ {ns : List ℕ} {m : ℕ} {w : List ℕ} {c n : ℕ} (o : Noted ns m w 
       go (no e) =
           get_or-set_other (stored w₂ n₂ l p q) (3 * c + (r - 2)) i (n₂ + 3) 0 e
           ∙ rw (
-            get_or-set_other _ (3 * n₂ + 2) i q 0 (omega (arith, swept-room, few o)),
-            get_or-set_other _ (3 * n₂ + 1) i p 0 (omega (arith, swept-room, few o)),
-            get_or-set_other _ (3 * n₂) i l 0 (omega (arith, swept-room, few o)),
+            get_or-set_other _ (3 * n₂ + 2) i q 0 (omega (arith, swept_room, few o)),
+            get_or-set_other _ (3 * n₂ + 1) i p 0 (omega (arith, swept_room, few o)),
+            get_or-set_other _ (3 * n₂) i l 0 (omega (arith, swept_room, few o)),
             get_or-set_other w₂ (3 * c + (r - 2)) i (n₂ + 3) 0 e,
           )
 
   table : Table (take (3 * c) w₃) (n₂ + 1)
   unfolding front now
-  table = rw part (stored-table front n₂ l p q h.grown.table hp hq fits out')
+  table = rw part (stored_table front n₂ l p q h.grown.table hp hq fits out')
 
-  right : (i : ℕ) → i < m → 0 < get_or w₃ (3 * c + i) 0 → Ref (treesOf (take (3 * c) w₃) (n₂ + 1)) (get_or w₃ (3 * c + i) 0 - 1) (at (treesOf ns m) (i + 2))
+  right : (i : ℕ) → i < m → 0 < get_or w₃ (3 * c + i) 0 → Ref (trees_of (take (3 * c) w₃) (n₂ + 1)) (get_or w₃ (3 * c + i) 0 - 1) (at (trees_of ns m) (i + 2))
   unfolding now
   right i u v = go (ℕ_discrete i (r - 2))
     where
-      go : Dec (i ≡ r - 2) → Ref (treesOf (take (3 * c) w₃) (n₂ + 1)) (get_or w₃ (3 * c + i) 0 - 1) (at (treesOf ns m) (i + 2))
+      go : Dec (i ≡ r - 2) → Ref (trees_of (take (3 * c) w₃) (n₂ + 1)) (get_or w₃ (3 * c + i) 0 - 1) (at (trees_of ns m) (i + 2))
       go (yes e) =
           let z : n₂ + 3 - 1 ≡ n₂ + 2 = omega arith in
-          rw (far (3 * c + i) (omega arith), e, own, z, same-r) here
+          rw (far (3 * c + i) (omega arith), e, own, z, same_r) here
       go (no e) =
           let z = far (3 * c + i) (omega arith) ∙ get_or-set_other w₂ (3 * c + (r - 2)) (3 * c + i) (n₂ + 3) 0 (omega arith) in
           rw z (goes_ref longer (h.notes.right i u (rw z at v)))
 
-  grown : Grown (take (3 * c) w) (take (3 * c) w₃) n (n₂ + 1) (n₂ + 2) (at (treesOf ns m) r)
+  grown : Grown (take (3 * c) w) (take (3 * c) w₃) n (n₂ + 1) (n₂ + 2) (at (trees_of ns m) r)
   unfolding front old now
   grown = record {
     table = table;
@@ -177,20 +177,20 @@ module _ {ns : List ℕ} {m : ℕ} {w : List ℕ} {c n : ℕ} (o : Noted ns m w 
     ref = here;
     same =
         record {
-          eq = λ i u. rw part ((stored-front front n₂ l p q fits).eq i (omega (arith, grown-count g.grown, grown-count h.grown)))
-              ∙ h.grown.same.eq i (omega (arith, grown-count g.grown)) ∙ g.grown.same.eq i u;
+          eq = λ i u. rw part ((stored_front front n₂ l p q fits).eq i (omega (arith, grown_count g.grown, grown_count h.grown)))
+              ∙ h.grown.same.eq i (omega (arith, grown_count g.grown)) ∙ g.grown.same.eq i u;
         };
     rest =
         record {
-          eq = λ i u. rw part ((stored-rest front n₂ l p q fits).eq i (omega arith))
-              ∙ h.grown.rest.eq i (omega arith) ∙ g.grown.rest.eq i (omega (arith, grown-count h.grown));
+          eq = λ i u. rw part ((stored_rest front n₂ l p q fits).eq i (omega arith))
+              ∙ h.grown.rest.eq i (omega arith) ∙ g.grown.rest.eq i (omega (arith, grown_count h.grown));
         };
   }
 
   -- the one note is written, and no other
-  notes-after : set (notesOf m c w₂) (r - 2) (n₂ + 2 + 1) ≡ notesOf m c w₃
-  notes-after =
-      let k = swept-room in
+  notes_after : set (notes_of m c w₂) (r - 2) (n₂ + 2 + 1) ≡ notes_of m c w₃
+  notes_after =
+      let k = swept_room in
       let f = few o in
       let z : n₂ + 2 + 1 ≡ n₂ + 3 = omega arith in
       sym (rw (
@@ -202,15 +202,15 @@ module _ {ns : List ℕ} {m : ℕ} {w : List ℕ} {c n : ℕ} (o : Noted ns m w 
         z,
       ))
 
-  counted : (lo hi left : ℕ) → Fine lo hi (at (treesOf ns m) r) → hi ≤ lo + left
-      → Refines (sweep ns left (treesOf (take (3 * c) w) n) (notesOf m c w) r) (treesOf (take (3 * c) w₃) (n₂ + 1)) (notesOf m c w₃) (n₂ + 2) (v₁ + v₂ + 1)
+  counted : (lo hi left : ℕ) → Fine lo hi (at (trees_of ns m) r) → hi ≤ lo + left
+      → Refines (sweep ns left (trees_of (take (3 * c) w) n) (notes_of m c w) r) (trees_of (take (3 * c) w₃) (n₂ + 1)) (notes_of m c w₃) (n₂ + 2) (v₁ + v₂ + 1)
   unfolding sweep
   counted lo hi left f u =
-      let d = node-fine lo hi l (at (treesOf ns m) a) (at (treesOf ns m) b) (rw s.is at f) in
+      let d = node_fine lo hi l (at (trees_of ns m) a) (at (trees_of ns m) b) (rw s.is at f) in
       let some : 1 ≤ left = omega (arith, d.0, d.1) in
       let less : hi ≤ suc l + (left - 1) = omega (arith, d.0, d.1) in
-      rw notes-after at (swept_refines (λ r. r) left (notesOf m c w) o.source o.table two top some (note-is o (r - 2) (omega arith) ∙ none) s
-      (s.is ∙ sym (mk-differ l _ _ d.4)) g.grown (g.counted (suc l) hi (left - 1) d.2 less) h.grown (h.counted (suc l) hi (left - 1) d.3 less) grown)
+      rw notes_after at (swept_refines (λ r. r) left (notes_of m c w) o.source o.table two top some (note_is o (r - 2) (omega arith) ∙ none) s
+      (s.is ∙ sym (mk_differ l _ _ d.4)) g.grown (g.counted (suc l) hi (left - 1) d.2 less) h.grown (h.counted (suc l) hi (left - 1) d.3 less) grown)
 
   -- the node's diagram was added, and every tree has its note again
   pub swept : Emitted ns m r w w₃ c n (n₂ + 1) (n₂ + 2) (v₁ + v₂ + 1)

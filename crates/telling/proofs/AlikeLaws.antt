@@ -8,9 +8,9 @@ use native.Mathlib.Decide.{ℕ_discrete}
 use native.Mathlib.Omega.{arith}
 use lib.ListN.{get_or}
 use lib.Pow.{pow-lt, pow_pos}
-use Rattle.trees.specs.Table.{at, treesOf}
-use Rattle.trees.proofs.Tests.{not-true}
-use Rattle.trees.proofs.TreeLaws.{same_true, same-eq}
+use Rattle.trees.specs.Table.{at, trees_of}
+use Rattle.trees.proofs.Tests.{not_true}
+use Rattle.trees.proofs.TreeLaws.{same_true, same_eq}
 use Rattle.nodes.specs.Nodes.{Table, To}
 use Rattle.telling.specs.Follow.{follow, untold}
 use Rattle.telling.specs.Entries.{Meet, Entries}
@@ -20,20 +20,20 @@ shift_is : (k : ℕ) → k < 32 → 1 * 2 ^ k % 4294967296 ≡ 2 ^ k
 shift_is k h = let g : 2 ^ k < 2 ^ 32 = pow-lt h in omega arith
 
 -- the reserved number, all ones
-pub ones-some : (k : ℕ) → k < 32 → 1 ≤ 1 * 2 ^ k % 4294967296
-ones-some k h = let e = shift_is k h in let g = pow_pos k in omega arith
+pub ones_some : (k : ℕ) → k < 32 → 1 ≤ 1 * 2 ^ k % 4294967296
+ones_some k h = let e = shift_is k h in let g = pow_pos k in omega arith
 
 pub ones_is : (k : ℕ) → k < 32 → 1 * 2 ^ k % 4294967296 - 1 ≡ 2 ^ k - 1
 ones_is k h = rw (shift_is k h)
 
 -- x and y are where n and m lead, m being given as o
-module _ (ns : List ℕ) (kept base k n m o r x y : ℕ) (t : Table ns kept) (is : o ≡ m) (p : To ns kept x (follow base k n (at (treesOf ns kept) r))) (q : To ns kept y (follow base k o (at (treesOf ns kept) r))) where
-  other : To ns kept y (follow base k m (at (treesOf ns kept) r))
+module _ (ns : List ℕ) (kept base k n m o r x y : ℕ) (t : Table ns kept) (is : o ≡ m) (p : To ns kept x (follow base k n (at (trees_of ns kept) r))) (q : To ns kept y (follow base k o (at (trees_of ns kept) r))) where
+  other : To ns kept y (follow base k m (at (trees_of ns kept) r))
   other = rw (← is) q
 
   -- both numbers lead to one reference
   pub meets : x ≡ y → Meet ns kept base k n m r
-  meets e = same-eq _ _ (sym p.is ∙ ap (λ (z : ℕ). at (treesOf ns kept) z) e ∙ other.is)
+  meets e = same_eq _ _ (sym p.is ∙ ap (λ (z : ℕ). at (trees_of ns kept) z) e ∙ other.is)
 
   -- where they lead to two, the diagrams there differ
   pub parts : x ≢ y → Meet ns kept base k n m r → ⊥
@@ -41,17 +41,17 @@ module _ (ns : List ℕ) (kept base k n m o r x y : ℕ) (t : Table ns kept) (is
 
 module _ (ns : List ℕ) (kept p base : ℕ) (work : List ℕ) (from : ℕ) (e : Entries ns kept p base work from) (k n m : ℕ) where
   -- no entry tells the numbers apart
-  pub all_meet : ((i : ℕ) → from ≤ i → i < p + 1 → Meet ns kept base k n m (get_or work i 0)) → true ≡ untold base k n m (at (treesOf ns kept) p)
+  pub all_meet : ((i : ℕ) → from ≤ i → i < p + 1 → Meet ns kept base k n m (get_or work i 0)) → true ≡ untold base k n m (at (trees_of ns kept) p)
   all_meet h = sym ((e.exact k n m).1 h)
 
   -- one does
-  pub one-parts : (i : ℕ) → from ≤ i → i < p + 1 → (Meet ns kept base k n m (get_or work i 0) → ⊥) → false ≡ untold base k n m (at (treesOf ns kept) p)
-  one-parts i h g d = sym (not-true (untold base k n m (at (treesOf ns kept) p)) (λ z. d ((e.exact k n m).0 z i h g)))
+  pub one_parts : (i : ℕ) → from ≤ i → i < p + 1 → (Meet ns kept base k n m (get_or work i 0) → ⊥) → false ≡ untold base k n m (at (trees_of ns kept) p)
+  one_parts i h g d = sym (not_true (untold base k n m (at (trees_of ns kept) p)) (λ z. d ((e.exact k n m).0 z i h g)))
 
 -- one entry more
-pub meet-more : (ns : List ℕ) (kept base k n m : ℕ) (work : List ℕ) (from i : ℕ) → ((j : ℕ) → from ≤ j → j < i → Meet ns kept base k n m (get_or work j 0)) → Meet ns kept base k n m (get_or work i 0)
+pub meet_more : (ns : List ℕ) (kept base k n m : ℕ) (work : List ℕ) (from i : ℕ) → ((j : ℕ) → from ≤ j → j < i → Meet ns kept base k n m (get_or work j 0)) → Meet ns kept base k n m (get_or work i 0)
     → (j : ℕ) → from ≤ j → j < i + 1 → Meet ns kept base k n m (get_or work j 0)
-meet-more ns kept base k n m work from i h e j p q = elim (ℕ_discrete j i) [
+meet_more ns kept base k n m work from i h e j p q = elim (ℕ_discrete j i) [
   | yes z ↦ rw z e
   | no z ↦ h j p (omega arith)
 ]

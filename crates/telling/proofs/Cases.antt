@@ -15,6 +15,6 @@ abbrev answers : ℕ → Tree → List Bool
 answers base t = map (λ (n : ℕ). untold base 2 n 3 t) (0 ∷ 1 ∷ 2 ∷ 3 ∷ [])
 
 -- of the second variable 0 alone may be freed; of the first none, since the set tells the reserved number itself
-pub cases-hold : (answers 2 pair ≡ true ∷ false ∷ false ∷ true ∷ []) × (answers 0 pair ≡ false ∷ false ∷ false ∷ true ∷ [])
+pub cases_hold : (answers 2 pair ≡ true ∷ false ∷ false ∷ true ∷ []) × (answers 0 pair ≡ false ∷ false ∷ false ∷ true ∷ [])
 unfolding untold follow bit_of same
-cases-hold = (refl, refl)
+cases_hold = (refl, refl)

@@ -10,53 +10,53 @@ use borrow.Author.Tests.{lt-ltb, le-ltb}
 use lib.ListN.{length, get_or, set, length-set}
 use lib.Seq.{get_or-set_same, get_or-set_other}
 use Rattle.trees.specs.Tree.{Tree, node, same}
-use Rattle.trees.specs.Table.{at, treesOf}
+use Rattle.trees.specs.Table.{at, trees_of}
 use Rattle.nodes.specs.Nodes.{Table, Splits, Zeroed}
-use Rattle.nodes.proofs.ReadLaws.{one-read}
+use Rattle.nodes.proofs.ReadLaws.{one_read}
 use Rattle.telling.specs.Follow.{follow, untold}
 use Rattle.telling.specs.Entries.{Ordered, Meet, Enters, here, low, high, Listed, Entries}
 
 -- a diagram whose first level stands before base: both sides
-pub untold-node : (base k n m l : ℕ) (a b : Tree) → l < base → untold base k n m (node l a b) ≡ (untold base k n m a && untold base k n m b)
+pub untold_node : (base k n m l : ℕ) (a b : Tree) → l < base → untold base k n m (node l a b) ≡ (untold base k n m a && untold base k n m b)
 unfolding untold
-untold-node base k n m l a b h = rw (lt-ltb l base h)
+untold_node base k n m l a b h = rw (lt-ltb l base h)
 
 -- one that comes to the levels, or passes them
-pub untold-enters : (base k n m l : ℕ) (a b : Tree) → base ≤ l → untold base k n m (node l a b) ≡ same (follow base k n (node l a b)) (follow base k m (node l a b))
+pub untold_enters : (base k n m l : ℕ) (a b : Tree) → base ≤ l → untold base k n m (node l a b) ≡ same (follow base k n (node l a b)) (follow base k m (node l a b))
 unfolding untold
-untold-enters base k n m l a b h = rw (le-ltb l base h)
+untold_enters base k n m l a b h = rw (le-ltb l base h)
 
 -- a leaf tells nothing
-untold-leaf : (ns : List ℕ) (kept base k n m q : ℕ) → q < 2 → untold base k n m (at (treesOf ns kept) q) ≡ true
+untold_leaf : (ns : List ℕ) (kept base k n m q : ℕ) → q < 2 → untold base k n m (at (trees_of ns kept) q) ≡ true
 unfolding untold at
-untold-leaf ns kept base k n m zero h = refl
-untold-leaf ns kept base k n m (suc zero) h = refl
-untold-leaf ns kept base k n m (suc (suc q)) h = absurd (omega arith)
+untold_leaf ns kept base k n m zero h = refl
+untold_leaf ns kept base k n m (suc zero) h = refl
+untold_leaf ns kept base k n m (suc (suc q)) h = absurd (omega arith)
 
-leaf-splits : (ns : List ℕ) (kept q l a b : ℕ) → q < 2 → Splits ns kept q l a b → ⊥
+leaf_splits : (ns : List ℕ) (kept q l a b : ℕ) → q < 2 → Splits ns kept q l a b → ⊥
 unfolding at
-leaf-splits ns kept zero l a b h s = let e = s.is in let z : ◌≡◌ {A = ℕ} 0 1 = cc in omega arith
-leaf-splits ns kept (suc zero) l a b h s = let e = s.is in let z : ◌≡◌ {A = ℕ} 0 1 = cc in omega arith
-leaf-splits ns kept (suc (suc q)) l a b h s = absurd (omega arith)
+leaf_splits ns kept zero l a b h s = let e = s.is in let z : ◌≡◌ {A = ℕ} 0 1 = cc in omega arith
+leaf_splits ns kept (suc zero) l a b h s = let e = s.is in let z : ◌≡◌ {A = ℕ} 0 1 = cc in omega arith
+leaf_splits ns kept (suc (suc q)) l a b h s = absurd (omega arith)
 
 -- no leaf leads to an entry
-leaf-enters : (ns : List ℕ) (kept base e q : ℕ) → q < 2 → Enters ns kept base e q → ⊥
-leaf-enters ns kept base e q h (here _ l a b z s le) = leaf-splits ns kept q l a b h s
-leaf-enters ns kept base e q h (low _ l a b s lt x) = leaf-splits ns kept q l a b h s
-leaf-enters ns kept base e q h (high _ l a b s lt x) = leaf-splits ns kept q l a b h s
+leaf_enters : (ns : List ℕ) (kept base e q : ℕ) → q < 2 → Enters ns kept base e q → ⊥
+leaf_enters ns kept base e q h (here _ l a b z s le) = leaf_splits ns kept q l a b h s
+leaf_enters ns kept base e q h (low _ l a b s lt x) = leaf_splits ns kept q l a b h s
+leaf_enters ns kept base e q h (high _ l a b s lt x) = leaf_splits ns kept q l a b h s
 
 module _ (ns : List ℕ) (kept base e q l a b : ℕ) (t : Table ns kept) (s : Splits ns kept q l a b) where
   -- a node whose level does not stand before base leads to itself alone
-  pub enters-itself : base ≤ l → Enters ns kept base e q → q ≡ e
-  enters-itself le (here _ m c d z u mle) = z
-  enters-itself le (low _ m c d u lt x) = let y = one-read t s u in absurd (omega (arith, y.0))
-  enters-itself le (high _ m c d u lt x) = let y = one-read t s u in absurd (omega (arith, y.0))
+  pub enters_itself : base ≤ l → Enters ns kept base e q → q ≡ e
+  enters_itself le (here _ m c d z u mle) = z
+  enters_itself le (low _ m c d u lt x) = let y = one_read t s u in absurd (omega (arith, y.0))
+  enters_itself le (high _ m c d u lt x) = let y = one_read t s u in absurd (omega (arith, y.0))
 
   -- any other leads where its sides lead
-  pub enters-side : l < base → Enters ns kept base e q → Enters ns kept base e a ⊎ Enters ns kept base e b
-  enters-side lt (here _ m c d z u le) = let y = one-read t s u in absurd (omega (arith, y.0))
-  enters-side lt (low _ m c d u mlt x) = inl (rw (one-read t s u).1 x)
-  enters-side lt (high _ m c d u mlt x) = inr (rw (one-read t s u).2 x)
+  pub enters_side : l < base → Enters ns kept base e q → Enters ns kept base e a ⊎ Enters ns kept base e b
+  enters_side lt (here _ m c d z u le) = let y = one_read t s u in absurd (omega (arith, y.0))
+  enters_side lt (low _ m c d u mlt x) = inl (rw (one_read t s u).1 x)
+  enters_side lt (high _ m c d u mlt x) = inr (rw (one_read t s u).2 x)
 
 -- e is an entry of some marked reference before `left`
 pub record Awaits (ns : List ℕ) (kept base : ℕ) (work : List ℕ) (left e : ℕ) : Type 0 where
@@ -72,21 +72,21 @@ pub record Passing (ns : List ℕ) (kept p base : ℕ) (work : List ℕ) (left f
   pub down : left ≤ from
   pub up : from ≤ p + 1
   pub few : p + 1 ≤ from + kept
-  pub marked : (q : ℕ) → q < left → get_or work q 0 ≢ 0 → Ordered 0 (at (treesOf ns kept) q)
+  pub marked : (q : ℕ) → q < left → get_or work q 0 ≢ 0 → Ordered 0 (at (trees_of ns kept) q)
   pub inside : (i : ℕ) → from ≤ i → i < p + 1 → get_or work i 0 < kept + 2
   pub passed : (i : ℕ) → from ≤ i → i < p + 1 → left ≤ get_or work i 0
-  pub ordered : (i : ℕ) → from ≤ i → i < p + 1 → Ordered base (at (treesOf ns kept) (get_or work i 0))
+  pub ordered : (i : ℕ) → from ≤ i → i < p + 1 → Ordered base (at (trees_of ns kept) (get_or work i 0))
   pub once : (i j : ℕ) → from ≤ i → i < j → j < p + 1 → get_or work i 0 < get_or work j 0
   pub all : (e : ℕ) → Enters ns kept base e p → Listed work from p e ⊎ Awaits ns kept base work left e
   pub only : (e : ℕ) → Listed work from p e → Enters ns kept base e p
   pub awaited : (q e : ℕ) → q < left → get_or work q 0 ≢ 0 → Enters ns kept base e q → Enters ns kept base e p
-  pub exact : (k n m : ℕ) → (untold base k n m (at (treesOf ns kept) p) ≡ true)
-      ↔ (((q : ℕ) → q < left → get_or work q 0 ≢ 0 → untold base k n m (at (treesOf ns kept) q) ≡ true) × ((i : ℕ) → from ≤ i → i < p + 1 → Meet ns kept base k n m (get_or work i 0)))
+  pub exact : (k n m : ℕ) → (untold base k n m (at (trees_of ns kept) p) ≡ true)
+      ↔ (((q : ℕ) → q < left → get_or work q 0 ≢ 0 → untold base k n m (at (trees_of ns kept) q) ≡ true) × ((i : ℕ) → from ≤ i → i < p + 1 → Meet ns kept base k n m (get_or work i 0)))
 
 -- at first p alone is marked
-pub passing-first : (ns : List ℕ) (kept p base : ℕ) (work zeroed : List ℕ) → p < kept + 2 → p < length work → Ordered 0 (at (treesOf ns kept) p) → Zeroed 0 p work zeroed
+pub passing_first : (ns : List ℕ) (kept p base : ℕ) (work zeroed : List ℕ) → p < kept + 2 → p < length work → Ordered 0 (at (trees_of ns kept) p) → Zeroed 0 p work zeroed
     → Passing ns kept p base (set zeroed p 1) (p + 1) (p + 1)
-passing-first ns kept p base work zeroed ref room fine z = record {
+passing_first ns kept p base work zeroed ref room fine z = record {
   ref = ref;
   room = rw (length-set zeroed p 1) (omega (arith, z.size));
   down = omega arith;
@@ -113,8 +113,8 @@ passing-first ns kept p base work zeroed ref room fine z = record {
     own e = let s = get_or-set_same zeroed p 1 0 (omega (arith, z.size)) in omega (arith, s, e)
 
 -- at last only leaves are marked
-pub passing-last : (ns : List ℕ) (kept p base : ℕ) (work : List ℕ) (left from : ℕ) → left ≤ 2 → Passing ns kept p base work left from → Entries ns kept p base work from
-passing-last ns kept p base work left from h v = record {
+pub passing_last : (ns : List ℕ) (kept p base : ℕ) (work : List ℕ) (left from : ℕ) → left ≤ 2 → Passing ns kept p base work left from → Entries ns kept p base work from
+passing_last ns kept p base work left from h v = record {
   ref = v.ref;
   room = v.room;
   up = v.up;
@@ -122,7 +122,7 @@ passing-last ns kept p base work left from h v = record {
   inside = v.inside;
   ordered = v.ordered;
   once = v.once;
-  all = λ e x. ⊎_elim (λ y. y) (λ y. let z = y.before in absurd (leaf-enters ns kept base e y.mark (omega arith) y.enters)) (v.all e x);
+  all = λ e x. ⊎_elim (λ y. y) (λ y. let z = y.before in absurd (leaf_enters ns kept base e y.mark (omega arith) y.enters)) (v.all e x);
   only = v.only;
-  exact = λ k n m. (λ e. ((v.exact k n m).0 e).1, λ e. (v.exact k n m).1 (λ q g _. untold-leaf ns kept base k n m q (omega arith), e));
+  exact = λ k n m. (λ e. ((v.exact k n m).0 e).1, λ e. (v.exact k n m).1 (λ q g _. untold_leaf ns kept base k n m q (omega arith), e));
 }

@@ -6,7 +6,7 @@ use mathlib.Core.List.{List}
 use mathlib.Core.Logic.{◌⊎◌, inl, inr, ⊎_elim}
 use native.Mathlib.Omega.{arith}
 use lib.ListN.{get_or}
-use Rattle.trees.proofs.Tests.{lt-or-ge}
+use Rattle.trees.proofs.Tests.{lt_or_ge}
 use Rattle.telling.specs.Entries.{Listed, Entries}
 
 -- at place j both lists have the same entry, or none
@@ -22,7 +22,7 @@ module _ (ns : List ℕ) (kept p base : ℕ) where
   -- the lists agree after place i: so what one has there the other has
   step : (w u : List ℕ) (f g : ℕ) → Entries ns kept p base w f → Entries ns kept p base u g → (i : ℕ) → i < p + 1 → ((j : ℕ) → i < j → j < p + 1 → Agree w u f g j)
       → f ≤ i → (g ≤ i) × (get_or u i 0 ≡ get_or w i 0)
-  step w u f g x y i h above k = near (lt-or-ge c.place i)
+  step w u f g x y i h above k = near (lt_or_ge c.place i)
     where
       c : Listed u g p (get_or w i 0)
       c = carry w u f g x y i k h
@@ -49,15 +49,15 @@ module _ (ns : List ℕ) (kept p base : ℕ) where
           let q = y.once i d.place gi r d.before in
           omega (arith, a.1))
           (λ r. let m : d.place ≡ i = omega arith in let n : get_or w i 0 ≡ get_or u i 0 = rw m at v in omega arith)
-          (lt-or-ge i d.place))
-          (lt-or-ge d.place i)
+          (lt_or_ge i d.place))
+          (lt_or_ge d.place i)
 
       near : (c.place < i) ⊎ (i ≤ c.place) → (g ≤ i) × (get_or u i 0 ≡ get_or w i 0)
       near (inl l) = absurd (early l)
       near (inr l) = ⊎_elim
           (λ r. absurd (far r))
           (λ r. let m : c.place ≡ i = omega arith in (omega (arith, c.after), rw m at c.is))
-          (lt-or-ge i c.place)
+          (lt_or_ge i c.place)
 
   module _ (w u : List ℕ) (f g : ℕ) (x : Entries ns kept p base w f) (y : Entries ns kept p base u g) where
     -- from the last m places on
@@ -68,8 +68,8 @@ module _ (ns : List ℕ) (kept p base : ℕ) where
       back = step u w g f y x j k (λ i l r. let a = agree m i (omega arith) r in record { there = a.back; back = a.there });
     }
 
-    pub one-entries : (f ≡ g) × ((i : ℕ) → f ≤ i → i < p + 1 → get_or w i 0 ≡ get_or u i 0)
-    one-entries = (place, λ i h k. sym ((agree (p + 1) i (omega arith) k).there h).1)
+    pub one_entries : (f ≡ g) × ((i : ℕ) → f ≤ i → i < p + 1 → get_or w i 0 ≡ get_or u i 0)
+    one_entries = (place, λ i h k. sym ((agree (p + 1) i (omega arith) k).there h).1)
       where
         place : f ≡ g
         place = ⊎_elim
@@ -77,5 +77,5 @@ module _ (ns : List ℕ) (kept p base : ℕ) where
             (λ l. ⊎_elim
             (λ r. let a = (agree (p + 1) g (omega arith) (omega (arith, x.up))).back (omega arith) in absurd (omega (arith, a.0)))
             (λ r. omega arith)
-            (lt-or-ge g f))
-            (lt-or-ge f g)
+            (lt_or_ge g f))
+            (lt_or_ge f g)

@@ -9,14 +9,14 @@ use native.Mathlib.Omega.{arith}
 use lib.ListN.{length, get_or, set, length-set}
 use lib.Seq.{get_or-set_same, get_or-set_other}
 use Rattle.trees.specs.Tree.{node}
-use Rattle.trees.specs.Table.{at, treesOf}
-use Rattle.trees.proofs.Tests.{and-true, and-true-l, and_true_r}
-use Rattle.trees.proofs.TreeLaws.{node-fine, fine-node, fine-lower}
+use Rattle.trees.specs.Table.{at, trees_of}
+use Rattle.trees.proofs.Tests.{and_true, and_true_l, and_true_r}
+use Rattle.trees.proofs.TreeLaws.{node_fine, fine_node, fine_lower}
 use Rattle.nodes.specs.Nodes.{Table, Splits}
 use Rattle.nodes.proofs.ReadLaws.{read_below}
 use Rattle.telling.specs.Follow.{untold}
 use Rattle.telling.specs.Entries.{Ordered, here, low, high, Listed, Passed, skipped, opened, entered}
-use Rattle.telling.proofs.EntriesLaws.{Awaits, Passing, untold-node, untold-enters, enters-itself, enters-side}
+use Rattle.telling.proofs.EntriesLaws.{Awaits, Passing, untold_node, untold_enters, enters_itself, enters_side}
 
 module _ (ns : List ℕ) (kept p base : ℕ) (work : List ℕ) (left from : ℕ) (t : Table ns kept) (v : Passing ns kept p base work left from) (some : 2 < left) where
   -- a reference that has no mark
@@ -55,11 +55,11 @@ module _ (ns : List ℕ) (kept p base : ℕ) (work : List ℕ) (left from : ℕ)
 
   module _ (on : get_or work (left - 1) 0 ≢ 0) (l a b : ℕ) (s : Splits ns kept (left - 1) l a b) where
     -- the marked reference is a node in order
-    fine : Ordered 0 (node l (at (treesOf ns kept) a) (at (treesOf ns kept) b))
+    fine : Ordered 0 (node l (at (trees_of ns kept) a) (at (trees_of ns kept) b))
     fine = rw s.is at (v.marked (left - 1) (omega arith) on)
 
     -- what its diagram tells
-    told : (k n m : ℕ) → untold base k n m (at (treesOf ns kept) p) ≡ true → untold base k n m (node l (at (treesOf ns kept) a) (at (treesOf ns kept) b)) ≡ true
+    told : (k n m : ℕ) → untold base k n m (at (trees_of ns kept) p) ≡ true → untold base k n m (node l (at (trees_of ns kept) a) (at (trees_of ns kept) b)) ≡ true
     told k n m e = rw s.is at (((v.exact k n m).0 e).0 (left - 1) (omega arith) on)
 
     -- an entry
@@ -95,7 +95,7 @@ module _ (ns : List ℕ) (kept p base : ℕ) (work : List ℕ) (left from : ℕ)
           all = λ e x. ⊎_elim
               (λ (y : Listed work from p e). let f = y.after in inl (record { place = y.place; after = omega arith; before = y.before; is = over y.place (omega arith) ∙ y.is }))
               (λ (y : Awaits ns kept base work left e). elim (ℕ_discrete y.mark (left - 1)) [
-                | yes z ↦ inl (record { place = from - 1; after = omega arith; before = omega arith; is = own ∙ enters-itself ns kept base e (left - 1) l a b t s le (rw (← z) y.enters) })
+                | yes z ↦ inl (record { place = from - 1; after = omega arith; before = omega arith; is = own ∙ enters_itself ns kept base e (left - 1) l a b t s le (rw (← z) y.enters) })
                 | no z ↦ let f = y.before in inr (record { mark = y.mark; before = omega arith; marked = λ u. y.marked (sym (under y.mark (omega arith)) ∙ u); enters = y.enters })
               ])
               (v.all e x);
@@ -108,13 +108,13 @@ module _ (ns : List ℕ) (kept p base : ℕ) (work : List ℕ) (left from : ℕ)
             λ e. (
               λ q h g. ((v.exact k n m).0 e).0 q (omega arith) (λ z. g (under q h ∙ z)),
               λ i h g. elim (ℕ_discrete i (from - 1)) [
-                | yes z ↦ rw (z, own, s.is) (sym (untold-enters base k n m l (at (treesOf ns kept) a) (at (treesOf ns kept) b) le) ∙ told k n m e)
+                | yes z ↦ rw (z, own, s.is) (sym (untold_enters base k n m l (at (trees_of ns kept) a) (at (trees_of ns kept) b) le) ∙ told k n m e)
                 | no z ↦ rw (over i z) (((v.exact k n m).0 e).1 i (omega arith) g)
               ],
             ),
             λ e. (v.exact k n m).1 (
               λ q h g. elim (ℕ_discrete q (left - 1)) [
-                | yes z ↦ rw (z, s.is) (untold-enters base k n m l (at (treesOf ns kept) a) (at (treesOf ns kept) b) le ∙ (rw (own, s.is) at (e.1 (from - 1) (omega arith) (omega arith))))
+                | yes z ↦ rw (z, s.is) (untold_enters base k n m l (at (trees_of ns kept) a) (at (trees_of ns kept) b) le ∙ (rw (own, s.is) at (e.1 (from - 1) (omega arith) (omega arith))))
                 | no z ↦ e.0 q (omega arith) (λ y. g (sym (under q (omega arith)) ∙ y))
               ],
               λ i h g. rw (over i (omega arith)) at (e.1 i (omega arith) g),
@@ -134,10 +134,10 @@ module _ (ns : List ℕ) (kept p base : ℕ) (work : List ℕ) (left from : ℕ)
         under : (q : ℕ) → q < left - 1 → get_or (set work (from - 1) (left - 1)) q 0 ≡ get_or work q 0
         under q h = get_or-set_other work (from - 1) q (left - 1) 0 (omega (arith, v.down))
 
-        order : Ordered base (node l (at (treesOf ns kept) a) (at (treesOf ns kept) b))
+        order : Ordered base (node l (at (trees_of ns kept) a) (at (trees_of ns kept) b))
         order =
-            let c = node-fine 0 fine.levels l _ _ fine.fine in
-            record { levels = fine.levels; fine = fine-node base fine.levels l _ _ le c.1 c.2 c.3 c.4 }
+            let c = node_fine 0 fine.levels l _ _ fine.fine in
+            record { levels = fine.levels; fine = fine_node base fine.levels l _ _ le c.1 c.2 c.3 c.4 }
 
     -- a node before the levels: its sides are marked
     opens : l < base → Passing ns kept p base (set (set work a 1) b 1) (left - 1) from
@@ -167,9 +167,9 @@ module _ (ns : List ℕ) (kept p base : ℕ) (work : List ℕ) (left from : ℕ)
               (λ (y : Listed work from p e). inl (record { place = y.place; after = y.after; before = y.before; is = over y.place y.after ∙ y.is }))
               (λ (y : Awaits ns kept base work left e). elim (ℕ_discrete y.mark (left - 1)) [
                 | yes z ↦ ⊎_elim
-                    (λ f. inr (record { mark = a; before = back.0; marked = low-on; enters = f }))
-                    (λ f. inr (record { mark = b; before = back.1; marked = high-on; enters = f }))
-                    (enters-side ns kept base e (left - 1) l a b t s lt (rw (← z) y.enters))
+                    (λ f. inr (record { mark = a; before = back.0; marked = low_on; enters = f }))
+                    (λ f. inr (record { mark = b; before = back.1; marked = high_on; enters = f }))
+                    (enters_side ns kept base e (left - 1) l a b t s lt (rw (← z) y.enters))
                 | no z ↦ let f = y.before in inr (record { mark = y.mark; before = omega arith; marked = stays y.mark y.marked; enters = y.enters })
               ])
               (v.all e x);
@@ -194,8 +194,8 @@ module _ (ns : List ℕ) (kept p base : ℕ) (work : List ℕ) (left from : ℕ)
             ),
             λ e. (v.exact k n m).1 (
               λ q h g. elim (ℕ_discrete q (left - 1)) [
-                | yes z ↦ rw (z, s.is) (untold-node base k n m l (at (treesOf ns kept) a) (at (treesOf ns kept) b) lt
-                    ∙ and-true (untold base k n m (at (treesOf ns kept) a)) (untold base k n m (at (treesOf ns kept) b)) (e.0 a back.0 low-on) (e.0 b back.1 high-on))
+                | yes z ↦ rw (z, s.is) (untold_node base k n m l (at (trees_of ns kept) a) (at (trees_of ns kept) b) lt
+                    ∙ and_true (untold base k n m (at (trees_of ns kept) a)) (untold base k n m (at (trees_of ns kept) b)) (e.0 a back.0 low_on) (e.0 b back.1 high_on))
                 | no z ↦ e.0 q (omega arith) (stays q g)
               ],
               λ i h g. rw (over i h) at (e.1 i h g),
@@ -218,12 +218,12 @@ module _ (ns : List ℕ) (kept p base : ℕ) (work : List ℕ) (left from : ℕ)
         moved : (x y : ℕ) → x ≡ y → get_or (set (set work a 1) b 1) y 0 ≡ get_or (set (set work a 1) b 1) x 0
         moved x y z = ap (λ (i : ℕ). get_or (set (set work a 1) b 1) i 0) (sym z)
 
-        high-on : get_or (set (set work a 1) b 1) b 0 ≢ 0
-        high-on e = omega (arith, at_high, e)
+        high_on : get_or (set (set work a 1) b 1) b 0 ≢ 0
+        high_on e = omega (arith, at_high, e)
 
-        low-on : get_or (set (set work a 1) b 1) a 0 ≢ 0
-        low-on e = elim (ℕ_discrete a b) [
-          | yes z ↦ high-on (moved a b z ∙ e)
+        low_on : get_or (set (set work a 1) b 1) a 0 ≢ 0
+        low_on e = elim (ℕ_discrete a b) [
+          | yes z ↦ high_on (moved a b z ∙ e)
           | no z ↦
               let y = get_or-set_other (set work a 1) b a 1 0 z in
               let x = get_or-set_same work a 1 0 (omega (arith, back.0, v.down, v.up, v.room)) in
@@ -232,41 +232,41 @@ module _ (ns : List ℕ) (kept p base : ℕ) (work : List ℕ) (left from : ℕ)
 
         stays : (q : ℕ) → get_or work q 0 ≢ 0 → get_or (set (set work a 1) b 1) q 0 ≢ 0
         stays q g e = elim (ℕ_discrete q b) [
-          | yes y ↦ high-on (moved q b y ∙ e)
+          | yes y ↦ high_on (moved q b y ∙ e)
           | no y ↦ elim (ℕ_discrete q a) [
-            | yes z ↦ low-on (moved q a z ∙ e)
+            | yes z ↦ low_on (moved q a z ∙ e)
             | no z ↦ g (sym (other q z y) ∙ e)
           ]
         ]
 
-        sides : Ordered 0 (at (treesOf ns kept) a) × Ordered 0 (at (treesOf ns kept) b)
+        sides : Ordered 0 (at (trees_of ns kept) a) × Ordered 0 (at (trees_of ns kept) b)
         sides =
-            let c = node-fine 0 fine.levels l _ _ fine.fine in (
-              record { levels = fine.levels; fine = fine-lower (suc l) fine.levels 0 _ (omega arith) c.2 },
-              record { levels = fine.levels; fine = fine-lower (suc l) fine.levels 0 _ (omega arith) c.3 },
+            let c = node_fine 0 fine.levels l _ _ fine.fine in (
+              record { levels = fine.levels; fine = fine_lower (suc l) fine.levels 0 _ (omega arith) c.2 },
+              record { levels = fine.levels; fine = fine_lower (suc l) fine.levels 0 _ (omega arith) c.3 },
             )
 
-        both : (k n m : ℕ) → untold base k n m (node l (at (treesOf ns kept) a) (at (treesOf ns kept) b)) ≡ true
-            → (untold base k n m (at (treesOf ns kept) a) ≡ true) × (untold base k n m (at (treesOf ns kept) b) ≡ true)
+        both : (k n m : ℕ) → untold base k n m (node l (at (trees_of ns kept) a) (at (trees_of ns kept) b)) ≡ true
+            → (untold base k n m (at (trees_of ns kept) a) ≡ true) × (untold base k n m (at (trees_of ns kept) b) ≡ true)
         both k n m e =
-            let x = sym (untold-node base k n m l (at (treesOf ns kept) a) (at (treesOf ns kept) b) lt) ∙ e in
-            (and-true-l (untold base k n m (at (treesOf ns kept) a)) (untold base k n m (at (treesOf ns kept) b)) x, and_true_r (untold base k n m (at (treesOf ns kept) a)) (untold base k n m (at (treesOf ns kept) b)) x)
+            let x = sym (untold_node base k n m l (at (trees_of ns kept) a) (at (trees_of ns kept) b) lt) ∙ e in
+            (and_true_l (untold base k n m (at (trees_of ns kept) a)) (untold base k n m (at (trees_of ns kept) b)) x, and_true_r (untold base k n m (at (trees_of ns kept) a)) (untold base k n m (at (trees_of ns kept) b)) x)
 
 -- the pass at the reference before `left`
-pub passing-next : (ns : List ℕ) (kept p base : ℕ) (work : List ℕ) (left from : ℕ) (work' : List ℕ) (to : ℕ) → Table ns kept → Passing ns kept p base work left from → 2 < left
+pub passing_next : (ns : List ℕ) (kept p base : ℕ) (work : List ℕ) (left from : ℕ) (work' : List ℕ) (to : ℕ) → Table ns kept → Passing ns kept p base work left from → 2 < left
     → Passed ns kept base (left - 1) work from work' to → Passing ns kept p base work' (left - 1) to
-passing-next ns kept p base work left from work' to t v h (skipped none e f) = rw (e, f) (skip ns kept p base work left from t v h none)
-passing-next ns kept p base work left from work' to t v h (opened on l a b s lt e f) = rw (e, f) (opens ns kept p base work left from t v h on l a b s lt)
-passing-next ns kept p base work left from work' to t v h (entered on l a b s le e f) = rw (e, f) (enters ns kept p base work left from t v h on l a b s le)
+passing_next ns kept p base work left from work' to t v h (skipped none e f) = rw (e, f) (skip ns kept p base work left from t v h none)
+passing_next ns kept p base work left from work' to t v h (opened on l a b s lt e f) = rw (e, f) (opens ns kept p base work left from t v h on l a b s lt)
+passing_next ns kept p base work left from work' to t v h (entered on l a b s le e f) = rw (e, f) (enters ns kept p base work left from t v h on l a b s le)
 
 -- it changes nothing from place p + 1 on
-pub passing-rest : (ns : List ℕ) (kept p base : ℕ) (work : List ℕ) (left from : ℕ) (work' : List ℕ) (to : ℕ) → Table ns kept → Passing ns kept p base work left from → 2 < left
+pub passing_rest : (ns : List ℕ) (kept p base : ℕ) (work : List ℕ) (left from : ℕ) (work' : List ℕ) (to : ℕ) → Table ns kept → Passing ns kept p base work left from → 2 < left
     → Passed ns kept base (left - 1) work from work' to → (i : ℕ) → p + 1 ≤ i → get_or work' i 0 ≡ get_or work i 0
-passing-rest ns kept p base work left from work' to t v h (skipped none e f) i g = rw e
-passing-rest ns kept p base work left from work' to t v h (opened on l a b s lt e f) i g =
+passing_rest ns kept p base work left from work' to t v h (skipped none e f) i g = rw e
+passing_rest ns kept p base work left from work' to t v h (opened on l a b s lt e f) i g =
     let back = read_below t s (omega arith) (omega (arith, v.down, v.up, v.ref)) in
     rw e (get_or-set_other (set work a 1) b i 1 0 (omega (arith, back.1, v.down, v.up)) ∙ get_or-set_other work a i 1 0 (omega (arith, back.0, v.down, v.up)))
-passing-rest ns kept p base work left from work' to t v h (entered on l a b s le e f) i g = rw e (get_or-set_other work (from - 1) i (left - 1) 0 (omega (arith, v.down, v.up)))
+passing_rest ns kept p base work left from work' to t v h (entered on l a b s le e f) i g = rw e (get_or-set_other work (from - 1) i (left - 1) 0 (omega (arith, v.down, v.up)))
 
 -- and the slice is as long as it was
 pub passed_length : {ns : List ℕ} {kept base r : ℕ} {work : List ℕ} {from : ℕ} {work' : List ℕ} {to : ℕ} → Passed ns kept base r work from work' to → length work' ≡ length work

@@ -1,7 +1,7 @@
 -- The entries of a diagram: where it comes to the levels of a variable, or passes them. Assumes nothing: these are definitions.
 use Rattle.std.specs.Prelude.{ℕ, ◌+◌, ◌-◌, ◌≤◌, ◌<◌, ◌≡◌, true, List, ◌↔◌, ◌≢◌, length, get_or, set}
 use Rattle.trees.specs.Tree.{Tree, Fine, same}
-use Rattle.trees.specs.Table.{at, treesOf}
+use Rattle.trees.specs.Table.{at, trees_of}
 use Rattle.nodes.specs.Nodes.{Splits}
 use Rattle.telling.specs.Follow.{follow, untold}
 
@@ -12,7 +12,7 @@ pub record Ordered (lo : ℕ) (t : Tree) : Type 0 where
 
 -- n and m lead to the same side of r's diagram, whose levels stand from base on
 abbrev pub Meet : List ℕ → ℕ → ℕ → ℕ → ℕ → ℕ → ℕ → Type 0
-Meet ns kept base k n m r = same (follow base k n (at (treesOf ns kept) r)) (follow base k m (at (treesOf ns kept) r)) ≡ true
+Meet ns kept base k n m r = same (follow base k n (at (trees_of ns kept) r)) (follow base k m (at (trees_of ns kept) r)) ≡ true
 
 -- what the pass at r leaves, of a work slice and the place of the first entry: where r is not marked, both; where its level stands
 -- before base, its sides marked; else r as an entry before the others
@@ -42,8 +42,8 @@ pub record Entries (ns : List ℕ) (kept p base : ℕ) (work : List ℕ) (from :
   pub up : from ≤ p + 1
   pub few : p + 1 ≤ from + kept
   pub inside : (i : ℕ) → from ≤ i → i < p + 1 → get_or work i 0 < kept + 2
-  pub ordered : (i : ℕ) → from ≤ i → i < p + 1 → Ordered base (at (treesOf ns kept) (get_or work i 0))
+  pub ordered : (i : ℕ) → from ≤ i → i < p + 1 → Ordered base (at (trees_of ns kept) (get_or work i 0))
   pub once : (i j : ℕ) → from ≤ i → i < j → j < p + 1 → get_or work i 0 < get_or work j 0
   pub all : (e : ℕ) → Enters ns kept base e p → Listed work from p e
   pub only : (e : ℕ) → Listed work from p e → Enters ns kept base e p
-  pub exact : (k n m : ℕ) → (untold base k n m (at (treesOf ns kept) p) ≡ true) ↔ ((i : ℕ) → from ≤ i → i < p + 1 → Meet ns kept base k n m (get_or work i 0))
+  pub exact : (k n m : ℕ) → (untold base k n m (at (trees_of ns kept) p) ≡ true) ↔ ((i : ℕ) → from ≤ i → i < p + 1 → Meet ns kept base k n m (get_or work i 0))

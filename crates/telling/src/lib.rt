@@ -2,7 +2,7 @@
 // from `base` on. The entries, where the diagram comes to these levels or passes them, are found once for a diagram and a
 // variable; then each number is followed from each entry. No node is made. Assumes that the kept nodes are a table.
 ghost use Rattle.std.specs.Prelude.{◌≡◌, ◌+◌, ◌-◌, ◌^◌, ◌<◌, ◌≤◌, cond, length};
-ghost use Rattle.trees.specs.Table.{at, treesOf};
+ghost use Rattle.trees.specs.Table.{at, trees_of};
 ghost use Rattle.nodes.specs.Nodes.{Table, Rest, To};
 ghost use Rattle.telling.specs.Follow.{bit_of, follow, untold};
 ghost use Rattle.telling.specs.Entries.{Ordered, Passed, Entries};
@@ -38,7 +38,7 @@ fn pass(nodes: &[u32], kept: u32, base: u32, r: u32, work: &mut [u32], from: usi
 // itself whatever the bits are, so it is not listed.
 pub fn enter(nodes: &[u32], kept: u32, p: u32, base: u32, work: &mut [u32]) -> usize
     requires table { Table nodes.now kept × (p < kept + 2) × (p < length work.old) }
-    requires ordered { Ordered 0 (at (treesOf nodes.now kept) p) }
+    requires ordered { Ordered 0 (at (trees_of nodes.now kept) p) }
     ensures entries { Entries nodes.now kept p base work.new result }
     ensures rest { Rest (p + 1) work.old work.new }
 {
@@ -68,8 +68,8 @@ fn chosen(n: u32, j: u32, low: u32, high: u32) -> u32
 // The reference that n's bits lead to from r on, past the variable's levels.
 fn along(nodes: &[u32], kept: u32, base: u32, k: u32, n: u32, r: u32) -> u32
     requires table { Table nodes.now kept × (r < kept + 2) × (k < 32) × (base + k < 4294967296) }
-    requires ordered { Ordered base (at (treesOf nodes.now kept) r) }
-    ensures { To nodes.now kept result (follow base k n (at (treesOf nodes.now kept) r)) }
+    requires ordered { Ordered base (at (trees_of nodes.now kept) r) }
+    ensures { To nodes.now kept result (follow base k n (at (trees_of nodes.now kept) r)) }
 {
     let mut q = r;
     while 2 <= q {
@@ -97,7 +97,7 @@ pub fn alike(
 ) -> bool
     requires table { Table nodes.now kept × (k < 32) × (base + k < 4294967296) }
     requires entries { Entries nodes.now kept p base work.now from }
-    ensures { result ≡ untold base k n (2 ^ k - 1) (at (treesOf nodes.now kept) p) }
+    ensures { result ≡ untold base k n (2 ^ k - 1) (at (trees_of nodes.now kept) p) }
 {
     let ones = (1 << k) - 1;
     let end = p as usize + 1;

@@ -9,31 +9,31 @@ use lib.ListN.{length, take, replicate, length-append, length-replicate}
 use lib.Seq.{take_at}
 use borrow.Author.Tests.{leb-true, leb-false, le-leb, lt-leb, eqb-true, eqb-false, eq-eqb, ne_eqb}
 use Rattle.meaning.specs.Qtl.{Formula}
-use Rattle.meaning.specs.Rows.{Found, right, checkRows, ruleOf, formulaAt}
+use Rattle.meaning.specs.Rows.{Found, right, check_rows, rule_of, formula_at}
 use Rattle.text.specs.Grammar.{Reading, RuleText, Place}
 use Rattle.text.specs.Machine.{Result, refused, reads}
 use Rattle.text.specs.Reader.{read, place_of}
-use Rattle.text.specs.Unfold.{Atom, atoms, predicateNames, variableNames, formulaOf}
+use Rattle.text.specs.Unfold.{Atom, atoms, predicate_names, variable_names, formula_of}
 use Rattle.text.specs.Parts.{rows_of, numbers}
-use Rattle.text.specs.Translate.{anyAtom, tooLarge, tooMany, clashes, sentence, padded, Answer, refuses, makes, judgeReading, answer_of, Says, wrong-slice, too_long, no_text, a-text}
-use Rattle.text.specs.Translator.{judgeText, translate}
+use Rattle.text.specs.Translate.{any_atom, too_large, too_many, clashes, sentence, padded, Answer, refuses, makes, judge_reading, answer_of, Says, wrong_slice, too_long, no_text, a_text}
+use Rattle.text.specs.Translator.{judge_text, translate}
 use Rattle.text.proofs.RuleTexts.{correct, complete, unique, place, place_same}
-use Rattle.text.proofs.NineLaws.{numbers-length}
+use Rattle.text.proofs.NineLaws.{numbers_length}
 use Rattle.text.proofs.CheckLaws.{Good}
-use Rattle.text.proofs.Taken.{meaning-back, taken}
-use Rattle.text.proofs.LimitLaws.{counting, reading-good}
+use Rattle.text.proofs.Taken.{meaning_back, taken}
+use Rattle.text.proofs.LimitLaws.{counting, reading_good}
 
 -- what success says of the text: a reading, the only one; the names in order of their numbers; and in the slice of 576 numbers
 -- the rows, which start takes and whose last one means the reading's formula, and 0 after them
 pub record Made (bytes ns : List ℕ) (n : ℕ) (ps vs : List (List ℕ)) : Type 0 where
   pub reading : Reading
   pub text : RuleText bytes reading
-  pub predicates : ps ≡ predicateNames reading
-  pub slots : vs ≡ variableNames reading
+  pub predicates : ps ≡ predicate_names reading
+  pub slots : vs ≡ variable_names reading
   pub size : length ns ≡ 576
   pub rest : ns ≡ take (9 * n) ns ++ replicate (576 - 9 * n) 0
-  pub right-rows : checkRows (take (9 * n) ns) ≡ right
-  pub means : formulaAt (ruleOf (take (9 * n) ns)) (n - 1) ≡ formulaOf reading
+  pub right_rows : check_rows (take (9 * n) ns) ≡ right
+  pub means : formula_at (rule_of (take (9 * n) ns)) (n - 1) ≡ formula_of reading
 
 -- the tests that let a reading pass
 record Passes (a b c d e g : Bool) : Type 0 where
@@ -44,9 +44,9 @@ record Passes (a b c d e g : Bool) : Type 0 where
   shut : e ≡ true
   fitting : g ≡ true
 
-passes : (a b c d e g : Bool) (f : Reading) (ns : List ℕ) (n : ℕ) (ps vs : List (List ℕ)) → judgeReading a b c d e g f ≡ makes ns n ps vs
+passes : (a b c d e g : Bool) (f : Reading) (ns : List ℕ) (n : ℕ) (ps vs : List (List ℕ)) → judge_reading a b c d e g f ≡ makes ns n ps vs
     → Passes a b c d e g
-unfolding judgeReading
+unfolding judge_reading
 passes true b c d e g f ns n ps vs z = let y : ◌≡◌ {A = ℕ} 0 1 = cc in absurd (omega arith)
 passes false true c d e g f ns n ps vs z = let y : ◌≡◌ {A = ℕ} 0 1 = cc in absurd (omega arith)
 passes false false false d e g f ns n ps vs z = let y : ◌≡◌ {A = ℕ} 0 1 = cc in absurd (omega arith)
@@ -58,73 +58,73 @@ passes false false true false true true f ns n ps vs z = record { small = refl; 
 -- the slice begins with the rows
 slice_rows : (f : Formula) → take (9 * length (rows_of f)) (padded (numbers (rows_of f))) ≡ numbers (rows_of f)
 unfolding padded
-slice_rows f = take_at (numbers (rows_of f)) (replicate (576 - length (numbers (rows_of f))) 0) (9 * length (rows_of f)) (numbers-length (rows_of f))
+slice_rows f = take_at (numbers (rows_of f)) (replicate (576 - length (numbers (rows_of f))) 0) (9 * length (rows_of f)) (numbers_length (rows_of f))
 
-slice-size : (f : Formula) → length (rows_of f) ≤ 64 → length (padded (numbers (rows_of f))) ≡ 576
+slice_size : (f : Formula) → length (rows_of f) ≤ 64 → length (padded (numbers (rows_of f))) ≡ 576
 unfolding padded
-slice-size f h =
+slice_size f h =
     length-append (numbers (rows_of f)) (replicate (576 - length (numbers (rows_of f))) 0)
-    ∙ rw (length-replicate {A = ℕ} (576 - length (numbers (rows_of f))) 0) (omega (arith, numbers-length (rows_of f)))
+    ∙ rw (length-replicate {A = ℕ} (576 - length (numbers (rows_of f))) 0) (omega (arith, numbers_length (rows_of f)))
 
-slice-rest : (f : Formula) → padded (numbers (rows_of f)) ≡ numbers (rows_of f) ++ replicate (576 - 9 * length (rows_of f)) 0
+slice_rest : (f : Formula) → padded (numbers (rows_of f)) ≡ numbers (rows_of f) ++ replicate (576 - 9 * length (rows_of f)) 0
 unfolding padded
-slice-rest f = rw (numbers-length (rows_of f))
+slice_rest f = rw (numbers_length (rows_of f))
 
 -- a reading that passes
-reading-made : (bytes : List ℕ) (f : Reading) → RuleText bytes f → (ns : List ℕ) (n : ℕ) (ps vs : List (List ℕ)) → answer_of f ≡ makes ns n ps vs → Made bytes ns n ps vs
+reading_made : (bytes : List ℕ) (f : Reading) → RuleText bytes f → (ns : List ℕ) (n : ℕ) (ps vs : List (List ℕ)) → answer_of f ≡ makes ns n ps vs → Made bytes ns n ps vs
 unfolding answer_of
-reading-made bytes f h ns n ps vs e = go
-    (passes (anyAtom (λ a. tooLarge a.terms) (atoms f)) (anyAtom (λ a. tooMany a.terms) (atoms f))
-    (leb (length (variableNames f)) 4) (clashes (atoms f)) (sentence (formulaOf f)) (leb (length (rows_of (formulaOf f))) 64) f ns n ps vs e)
+reading_made bytes f h ns n ps vs e = go
+    (passes (any_atom (λ a. too_large a.terms) (atoms f)) (any_atom (λ a. too_many a.terms) (atoms f))
+    (leb (length (variable_names f)) 4) (clashes (atoms f)) (sentence (formula_of f)) (leb (length (rows_of (formula_of f))) 64) f ns n ps vs e)
   where
-    go : Passes (anyAtom (λ a. tooLarge a.terms) (atoms f)) (anyAtom (λ a. tooMany a.terms) (atoms f))
-        (leb (length (variableNames f)) 4) (clashes (atoms f)) (sentence (formulaOf f)) (leb (length (rows_of (formulaOf f))) 64)
+    go : Passes (any_atom (λ a. too_large a.terms) (atoms f)) (any_atom (λ a. too_many a.terms) (atoms f))
+        (leb (length (variable_names f)) 4) (clashes (atoms f)) (sentence (formula_of f)) (leb (length (rows_of (formula_of f))) 64)
         → Made bytes ns n ps vs
     go t =
-        let made : makes (padded (numbers (rows_of (formulaOf f)))) (length (rows_of (formulaOf f))) (predicateNames f) (variableNames f) ≡ makes ns n ps vs =
-        unfold judgeReading in (sym (rw (t.small, t.few, t.four, t.agreeing, t.shut, t.fitting)) ∙ e) in
-        let ns-is : padded (numbers (rows_of (formulaOf f))) ≡ ns = cc in
-        let n-is : length (rows_of (formulaOf f)) ≡ n = cc in
-        let ps-is : predicateNames f ≡ ps = cc in
-        let vs-is : variableNames f ≡ vs = cc in
-        let few : length (rows_of (formulaOf f)) ≤ 64 = leb-true (length (rows_of (formulaOf f))) 64 t.fitting in
-        let good : Good (counting (atoms f) (predicateNames f)) (formulaOf f) = reading-good f t.few t.four t.agreeing in
+        let made : makes (padded (numbers (rows_of (formula_of f)))) (length (rows_of (formula_of f))) (predicate_names f) (variable_names f) ≡ makes ns n ps vs =
+        unfold judge_reading in (sym (rw (t.small, t.few, t.four, t.agreeing, t.shut, t.fitting)) ∙ e) in
+        let ns-is : padded (numbers (rows_of (formula_of f))) ≡ ns = cc in
+        let n-is : length (rows_of (formula_of f)) ≡ n = cc in
+        let ps-is : predicate_names f ≡ ps = cc in
+        let vs-is : variable_names f ≡ vs = cc in
+        let few : length (rows_of (formula_of f)) ≤ 64 = leb-true (length (rows_of (formula_of f))) 64 t.fitting in
+        let good : Good (counting (atoms f) (predicate_names f)) (formula_of f) = reading_good f t.few t.four t.agreeing in
         record {
           reading = f;
           text = h;
           predicates = sym ps-is;
           slots = sym vs-is;
-          size = rw (← ns-is) (slice-size (formulaOf f) few);
-          rest = rw (← ns-is, ← n-is, slice_rows (formulaOf f)) (slice-rest (formulaOf f));
-          right-rows = rw (← ns-is, ← n-is, slice_rows (formulaOf f)) (taken (counting (atoms f) (predicateNames f)) (formulaOf f) good few t.shut);
-          means = rw (← ns-is, ← n-is, slice_rows (formulaOf f)) (meaning-back (counting (atoms f) (predicateNames f)) (formulaOf f) good);
+          size = rw (← ns-is) (slice_size (formula_of f) few);
+          rest = rw (← ns-is, ← n-is, slice_rows (formula_of f)) (slice_rest (formula_of f));
+          right_rows = rw (← ns-is, ← n-is, slice_rows (formula_of f)) (taken (counting (atoms f) (predicate_names f)) (formula_of f) good few t.shut);
+          means = rw (← ns-is, ← n-is, slice_rows (formula_of f)) (meaning_back (counting (atoms f) (predicate_names f)) (formula_of f) good);
         }
 
 -- success: "The rows must mean the text's formula, the grammar's reading being unique", and start takes them
-text-made : (a b : Bool) (r : Result) (i : ℕ) (bytes ns : List ℕ) (n : ℕ) (ps vs : List (List ℕ)) → read bytes ≡ r → judgeText a b r i ≡ makes ns n ps vs
+text_made : (a b : Bool) (r : Result) (i : ℕ) (bytes ns : List ℕ) (n : ℕ) (ps vs : List (List ℕ)) → read bytes ≡ r → judge_text a b r i ≡ makes ns n ps vs
     → Made bytes ns n ps vs
-unfolding judgeText
-text-made false b r i bytes ns n ps vs q z = let y : ◌≡◌ {A = ℕ} 0 1 = cc in absurd (omega arith)
-text-made true false r i bytes ns n ps vs q z = let y : ◌≡◌ {A = ℕ} 0 1 = cc in absurd (omega arith)
-text-made true true refused i bytes ns n ps vs q z = let y : ◌≡◌ {A = ℕ} 0 1 = cc in absurd (omega arith)
-text-made true true (reads f) i bytes ns n ps vs q z = reading-made bytes f (correct bytes f q) ns n ps vs z
+unfolding judge_text
+text_made false b r i bytes ns n ps vs q z = let y : ◌≡◌ {A = ℕ} 0 1 = cc in absurd (omega arith)
+text_made true false r i bytes ns n ps vs q z = let y : ◌≡◌ {A = ℕ} 0 1 = cc in absurd (omega arith)
+text_made true true refused i bytes ns n ps vs q z = let y : ◌≡◌ {A = ℕ} 0 1 = cc in absurd (omega arith)
+text_made true true (reads f) i bytes ns n ps vs q z = reading_made bytes f (correct bytes f q) ns n ps vs z
 
 pub made : (size : ℕ) (bytes ns : List ℕ) (n : ℕ) (ps vs : List (List ℕ)) → translate size bytes ≡ makes ns n ps vs → Made bytes ns n ps vs
 unfolding translate
-made size bytes ns n ps vs e = text-made (eqb size 576) (leb (length bytes) 4096) (read bytes) (place_of bytes) bytes ns n ps vs refl e
+made size bytes ns n ps vs e = text_made (eqb size 576) (leb (length bytes) 4096) (read bytes) (place_of bytes) bytes ns n ps vs refl e
 
 -- refusal 3: no rule text, and the place is the first byte (or the end) at which none can go on
 pub record NoText (bytes : List ℕ) (i : ℕ) : Type 0 where
   pub none : (f : Reading) → RuleText bytes f → ⊥
-  pub place-of : Place bytes i
+  pub place_of_law : Place bytes i
 
-pub refused-text : (bytes : List ℕ) → read bytes ≡ refused → NoText bytes (place_of bytes)
-refused-text bytes e = record {
+pub refused_text : (bytes : List ℕ) → read bytes ≡ refused → NoText bytes (place_of bytes)
+refused_text bytes e = record {
   none = λ f h.
       let one : read bytes ≡ reads f = complete bytes f h in
       let z : ◌≡◌ {A = ℕ} 0 1 = cc in
       omega arith;
-  place-of = place bytes;
+  place_of_law = place bytes;
 }
 
 -- where there is no reading the machine reads nothing
@@ -137,59 +137,59 @@ unread bytes none = go (read bytes) refl
 
 -- a rule text is never refused with 3
 pub answered : (bytes : List ℕ) (f : Reading) → RuleText bytes f → length bytes ≤ 4096 → translate 576 bytes ≡ answer_of f
-unfolding translate judgeText
+unfolding translate judge_text
 answered bytes f h l = rw (le-leb (length bytes) 4096 l, complete bytes f h)
 
 -- the machine's answer is the answer
-text_says : (bytes : List ℕ) (r : Result) → length bytes ≤ 4096 → read bytes ≡ r → Says 576 bytes (judgeText true true r (place_of bytes))
-unfolding judgeText
+text_says : (bytes : List ℕ) (r : Result) → length bytes ≤ 4096 → read bytes ≡ r → Says 576 bytes (judge_text true true r (place_of bytes))
+unfolding judge_text
 text_says bytes refused l e =
-    let h : NoText bytes (place_of bytes) = refused-text bytes e in
-    no_text refl l h.none (place_of bytes) h.place-of
-text_says bytes (reads f) l e = a-text refl l f (correct bytes f e)
+    let h : NoText bytes (place_of bytes) = refused_text bytes e in
+    no_text refl l h.none (place_of bytes) h.place_of_law
+text_says bytes (reads f) l e = a_text refl l f (correct bytes f e)
 
-long-says : (size : ℕ) (bytes : List ℕ) (q : Bool) → size ≡ 576 → leb (length bytes) 4096 ≡ q → Says size bytes (judgeText true q (read bytes) (place_of bytes))
-unfolding judgeText
-long-says size bytes true e l = rw e (text_says bytes (read bytes) (leb-true (length bytes) 4096 l) refl)
-long-says size bytes false e l = too_long e (leb-false (length bytes) 4096 l)
+long_says : (size : ℕ) (bytes : List ℕ) (q : Bool) → size ≡ 576 → leb (length bytes) 4096 ≡ q → Says size bytes (judge_text true q (read bytes) (place_of bytes))
+unfolding judge_text
+long_says size bytes true e l = rw e (text_says bytes (read bytes) (leb-true (length bytes) 4096 l) refl)
+long_says size bytes false e l = too_long e (leb-false (length bytes) 4096 l)
 
-slice-says : (size : ℕ) (bytes : List ℕ) (p : Bool) → eqb size 576 ≡ p → Says size bytes (judgeText p (leb (length bytes) 4096) (read bytes) (place_of bytes))
-unfolding judgeText
-slice-says size bytes true e = long-says size bytes (leb (length bytes) 4096) (eqb-true size 576 e) refl
-slice-says size bytes false e = wrong-slice (eqb-false size 576 e)
+slice_says : (size : ℕ) (bytes : List ℕ) (p : Bool) → eqb size 576 ≡ p → Says size bytes (judge_text p (leb (length bytes) 4096) (read bytes) (place_of bytes))
+unfolding judge_text
+slice_says size bytes true e = long_says size bytes (leb (length bytes) 4096) (eqb-true size 576 e) refl
+slice_says size bytes false e = wrong_slice (eqb-false size 576 e)
 
 pub says : (size : ℕ) (bytes : List ℕ) → Says size bytes (translate size bytes)
 unfolding translate
-says size bytes = slice-says size bytes (eqb size 576) refl
+says size bytes = slice_says size bytes (eqb size 576) refl
 
 -- and there is no other
-pub says-translate : {size : ℕ} {bytes : List ℕ} {a : Answer} → Says size bytes a → translate size bytes ≡ a
-unfolding translate judgeText
-says-translate {size} (wrong-slice h) = rw (ne_eqb size 576 h)
-says-translate {size} {bytes} (too_long e l) = rw (eq-eqb size 576 e, lt-leb (length bytes) 4096 l)
-says-translate {size} {bytes} (no_text e l none i p) = rw (eq-eqb size 576 e, le-leb (length bytes) 4096 l, unread bytes none) (ap (refuses 3) (place_same bytes (place_of bytes) i (place bytes) p))
-says-translate {size} {bytes} (a-text e l f h) = rw (eq-eqb size 576 e, le-leb (length bytes) 4096 l, complete bytes f h)
+pub says_translate : {size : ℕ} {bytes : List ℕ} {a : Answer} → Says size bytes a → translate size bytes ≡ a
+unfolding translate judge_text
+says_translate {size} (wrong_slice h) = rw (ne_eqb size 576 h)
+says_translate {size} {bytes} (too_long e l) = rw (eq-eqb size 576 e, lt-leb (length bytes) 4096 l)
+says_translate {size} {bytes} (no_text e l none i p) = rw (eq-eqb size 576 e, le-leb (length bytes) 4096 l, unread bytes none) (ap (refuses 3) (place_same bytes (place_of bytes) i (place bytes) p))
+says_translate {size} {bytes} (a_text e l f h) = rw (eq-eqb size 576 e, le-leb (length bytes) 4096 l, complete bytes f h)
 
 -- refusal 3 is given for no other reason
-three-reading : (a b c d e g : Bool) (f : Reading) (i : ℕ) → judgeReading a b c d e g f ≡ refuses 3 i → ⊥
-unfolding judgeReading
-three-reading true b c d e g f i z = let y : ◌≡◌ {A = ℕ} 4 3 = cc in omega arith
-three-reading false true c d e g f i z = let y : ◌≡◌ {A = ℕ} 5 3 = cc in omega arith
-three-reading false false false d e g f i z = let y : ◌≡◌ {A = ℕ} 6 3 = cc in omega arith
-three-reading false false true true e g f i z = let y : ◌≡◌ {A = ℕ} 7 3 = cc in omega arith
-three-reading false false true false false g f i z = let y : ◌≡◌ {A = ℕ} 8 3 = cc in omega arith
-three-reading false false true false true false f i z = let y : ◌≡◌ {A = ℕ} 9 3 = cc in omega arith
-three-reading false false true false true true f i z = let y : ◌≡◌ {A = ℕ} 0 1 = cc in omega arith
+three_reading : (a b c d e g : Bool) (f : Reading) (i : ℕ) → judge_reading a b c d e g f ≡ refuses 3 i → ⊥
+unfolding judge_reading
+three_reading true b c d e g f i z = let y : ◌≡◌ {A = ℕ} 4 3 = cc in omega arith
+three_reading false true c d e g f i z = let y : ◌≡◌ {A = ℕ} 5 3 = cc in omega arith
+three_reading false false false d e g f i z = let y : ◌≡◌ {A = ℕ} 6 3 = cc in omega arith
+three_reading false false true true e g f i z = let y : ◌≡◌ {A = ℕ} 7 3 = cc in omega arith
+three_reading false false true false false g f i z = let y : ◌≡◌ {A = ℕ} 8 3 = cc in omega arith
+three_reading false false true false true false f i z = let y : ◌≡◌ {A = ℕ} 9 3 = cc in omega arith
+three_reading false false true false true true f i z = let y : ◌≡◌ {A = ℕ} 0 1 = cc in omega arith
 
-three-text : (a b : Bool) (bytes : List ℕ) (r : Result) (i : ℕ) → read bytes ≡ r → judgeText a b r (place_of bytes) ≡ refuses 3 i → NoText bytes i
-unfolding judgeText
-three-text false b bytes r i q z = let y : ◌≡◌ {A = ℕ} 1 3 = cc in absurd (omega arith)
-three-text true false bytes r i q z = let y : ◌≡◌ {A = ℕ} 2 3 = cc in absurd (omega arith)
-three-text true true bytes refused i q z =
+three_text : (a b : Bool) (bytes : List ℕ) (r : Result) (i : ℕ) → read bytes ≡ r → judge_text a b r (place_of bytes) ≡ refuses 3 i → NoText bytes i
+unfolding judge_text
+three_text false b bytes r i q z = let y : ◌≡◌ {A = ℕ} 1 3 = cc in absurd (omega arith)
+three_text true false bytes r i q z = let y : ◌≡◌ {A = ℕ} 2 3 = cc in absurd (omega arith)
+three_text true true bytes refused i q z =
     let y : place_of bytes ≡ i = cc in
-    rw (← y) (refused-text bytes q)
-three-text true true bytes (reads f) i q z = absurd (unfold answer_of in three-reading _ _ _ _ _ _ f i z)
+    rw (← y) (refused_text bytes q)
+three_text true true bytes (reads f) i q z = absurd (unfold answer_of in three_reading _ _ _ _ _ _ f i z)
 
 pub three : (size : ℕ) (bytes : List ℕ) (i : ℕ) → translate size bytes ≡ refuses 3 i → NoText bytes i
 unfolding translate
-three size bytes i z = three-text (eqb size 576) (leb (length bytes) 4096) bytes (read bytes) i refl z
+three size bytes i z = three_text (eqb size 576) (leb (length bytes) 4096) bytes (read bytes) i refl z

@@ -18,24 +18,24 @@ pub data Reading : Type 0 where
   grouped : Reading → Reading
 
 -- the word of an argument
-unfoldable pub termWord : Term → Word
-termWord (variable x) = name x
-termWord (digits ds) = number ds
+unfoldable pub term_word : Term → Word
+term_word (variable x) = name x
+term_word (digits ds) = number ds
 
 -- the arguments after the first, and the closing parenthesis
-unfoldable pub termsWords : List Term → List Word
-termsWords [] = closing ∷ []
-termsWords (g ∷ gs) = comma ∷ termWord g ∷ termsWords gs
+unfoldable pub terms_words : List Term → List Word
+terms_words [] = closing ∷ []
+terms_words (g ∷ gs) = comma ∷ term_word g ∷ terms_words gs
 
 -- "arguments, one or more, in parentheses with commas"; "a name alone has no arguments"
-unfoldable pub argumentWords : List Term → List Word
-argumentWords [] = []
-argumentWords (g ∷ gs) = opening ∷ termWord g ∷ termsWords gs
+unfoldable pub argument_words : List Term → List Word
+argument_words [] = []
+argument_words (g ∷ gs) = opening ∷ term_word g ∷ terms_words gs
 
 -- how a reading is written
 unfoldable pub words : Reading → List Word
 words (truth b) = constant b ∷ []
-words (atom p gs) = name p ∷ argumentWords gs
+words (atom p gs) = name p ∷ argument_words gs
 words (under o f) = prefix o ∷ words f
 words (joined o f g) = words f ++ (binary o ∷ words g)
 words (quantified q x f) = quantifier q ∷ name x ∷ dot ∷ words f
@@ -49,17 +49,17 @@ level ands = 2
 level ors = 3
 level implies = 4
 
-unfoldable pub leftLevel : Binary → ℕ
-leftLevel sinces = 1
-leftLevel ands = 2
-leftLevel ors = 3
-leftLevel implies = 3
+unfoldable pub left_level : Binary → ℕ
+left_level sinces = 1
+left_level ands = 2
+left_level ors = 3
+left_level implies = 3
 
-unfoldable pub rightLevel : Binary → ℕ
-rightLevel sinces = 0
-rightLevel ands = 1
-rightLevel ors = 2
-rightLevel implies = 4
+unfoldable pub right_level : Binary → ℕ
+right_level sinces = 0
+right_level ands = 1
+right_level ors = 2
+right_level implies = 4
 
 -- the level of a reading; a quantifier stands "wherever an operand may stand"
 unfoldable pub rank : Reading → ℕ
@@ -71,20 +71,20 @@ rank (quantified q x f) = 0
 rank (grouped f) = 0
 
 -- the reading ends in what a quantifier reaches over
-unfoldable pub open-ended : Reading → Bool
-open-ended (truth b) = false
-open-ended (atom p gs) = false
-open-ended (under o f) = open-ended f
-open-ended (joined o f g) = open-ended g
-open-ended (quantified q x f) = true
-open-ended (grouped f) = false
+unfoldable pub open_ended : Reading → Bool
+open_ended (truth b) = false
+open_ended (atom p gs) = false
+open_ended (under o f) = open_ended f
+open_ended (joined o f g) = open_ended g
+open_ended (quantified q x f) = true
+open_ended (grouped f) = false
 
 -- the readings that the levels allow: quantifiers reach "as far right as they can", so that no left operand is open-ended
 abbrev pub Fine : Reading → Type 0
 Fine (truth b) = Unit {0}
 Fine (atom p gs) = Unit {0}
 Fine (under o f) = (rank f ≤ 0) × Fine f
-Fine (joined o f g) = (rank f ≤ leftLevel o) × (open-ended f ≡ false) × (rank g ≤ rightLevel o) × Fine f × Fine g
+Fine (joined o f g) = (rank f ≤ left_level o) × (open_ended f ≡ false) × (rank g ≤ right_level o) × Fine f × Fine g
 Fine (quantified q x f) = Fine f
 Fine (grouped f) = Fine f
 

@@ -1,8 +1,8 @@
 -- The machine that reads a rule text byte by byte: what is pending of a word, what must come, and the frames that wait for their
 -- operand. Total: a byte at which no rule text can go on leads to `stopped`. Part of the machine, not of the meaning. Assumes nothing: these are definitions.
 use Rattle.std.specs.Prelude.{ℕ, zero, suc, Bool, true, false, cond, List, [], ◌∷◌, ◌++◌, eqb, ltb}
-use Rattle.text.specs.Words.{isLetter, isDigit, isWordByte, same, Word, name, number, constant, prefix, binary, quantifier, opening, closing, comma, dot, Prefix, previously, negation, Binary, ands, ors, implies, sinces, Quantifier, bytes_of, word_of}
-use Rattle.text.specs.Grammar.{Term, variable, digits, Reading, truth, atom, under, joined, quantified, grouped, level, rightLevel}
+use Rattle.text.specs.Words.{is_letter, is_digit, is_word_byte, same, Word, name, number, constant, prefix, binary, quantifier, opening, closing, comma, dot, Prefix, previously, negation, Binary, ands, ors, implies, sinces, Quantifier, bytes_of, word_of}
+use Rattle.text.specs.Grammar.{Term, variable, digits, Reading, truth, atom, under, joined, quantified, grouped, level, right_level}
 
 -- what waits for an operand: a parenthesis, a prefix operator, a quantifier with its variable, an operator with its left operand
 pub data Frame : Type 0 where
@@ -12,11 +12,11 @@ pub data Frame : Type 0 where
   left : Binary → Reading → Frame
 
 -- the loosest level of an operand that the frame may take
-unfoldable pub roomOf : Frame → ℕ
-roomOf group = 4
-roomOf (applied o) = 0
-roomOf (binding q x) = 4
-roomOf (left o f) = rightLevel o
+unfoldable pub room_of : Frame → ℕ
+room_of group = 4
+room_of (applied o) = 0
+room_of (binding q x) = 4
+room_of (left o f) = right_level o
 
 -- the frame with its operand
 unfoldable pub fill : Frame → Reading → Reading
@@ -40,7 +40,7 @@ pub data Stage : Type 0 where
 -- an operator of the level has come: the frames that bind tighter take their operand
 unfoldable pub pushed : Binary → Reading → List Frame → Stage
 pushed o f [] = wants (left o f ∷ [])
-pushed o f (k ∷ ks) = elim (ltb (roomOf k) (level o)) [ true ↦ pushed o (fill k f) ks | false ↦ wants (left o f ∷ k ∷ ks) ]
+pushed o f (k ∷ ks) = elim (ltb (room_of k) (level o)) [ true ↦ pushed o (fill k f) ks | false ↦ wants (left o f ∷ k ∷ ks) ]
 
 -- `)` has come: the frames take their operand, up to the last parenthesis
 unfoldable pub closed : Reading → List Frame → Stage
@@ -64,106 +64,106 @@ finished f (binding q x ∷ ks) = finished (quantified q x f) ks
 finished f (left o g ∷ ks) = finished (joined o g f) ks
 
 -- which words each stage takes, and where they lead
-unfoldable pub atOperand : List Frame → Word → Stage
-atOperand ks (name p) = named p ks
-atOperand ks (number ds) = stopped
-atOperand ks (constant b) = ended (truth b) ks
-atOperand ks (prefix o) = wants (applied o ∷ ks)
-atOperand ks (binary o) = stopped
-atOperand ks (quantifier q) = binds q ks
-atOperand ks opening = wants (group ∷ ks)
-atOperand ks closing = stopped
-atOperand ks comma = stopped
-atOperand ks dot = stopped
+unfoldable pub at_operand : List Frame → Word → Stage
+at_operand ks (name p) = named p ks
+at_operand ks (number ds) = stopped
+at_operand ks (constant b) = ended (truth b) ks
+at_operand ks (prefix o) = wants (applied o ∷ ks)
+at_operand ks (binary o) = stopped
+at_operand ks (quantifier q) = binds q ks
+at_operand ks opening = wants (group ∷ ks)
+at_operand ks closing = stopped
+at_operand ks comma = stopped
+at_operand ks dot = stopped
 
-unfoldable pub atEnd : Reading → List Frame → Word → Stage
-atEnd f ks (name p) = stopped
-atEnd f ks (number ds) = stopped
-atEnd f ks (constant b) = stopped
-atEnd f ks (prefix o) = stopped
-atEnd f ks (binary o) = pushed o f ks
-atEnd f ks (quantifier q) = stopped
-atEnd f ks opening = stopped
-atEnd f ks closing = closed f ks
-atEnd f ks comma = stopped
-atEnd f ks dot = stopped
+unfoldable pub at_end : Reading → List Frame → Word → Stage
+at_end f ks (name p) = stopped
+at_end f ks (number ds) = stopped
+at_end f ks (constant b) = stopped
+at_end f ks (prefix o) = stopped
+at_end f ks (binary o) = pushed o f ks
+at_end f ks (quantifier q) = stopped
+at_end f ks opening = stopped
+at_end f ks closing = closed f ks
+at_end f ks comma = stopped
+at_end f ks dot = stopped
 
 -- a name may have arguments
-unfoldable pub atName : List ℕ → List Frame → Word → Stage
-atName p ks (name x) = stopped
-atName p ks (number ds) = stopped
-atName p ks (constant b) = stopped
-atName p ks (prefix o) = stopped
-atName p ks (binary o) = pushed o (atom p []) ks
-atName p ks (quantifier q) = stopped
-atName p ks opening = argues p [] ks
-atName p ks closing = closed (atom p []) ks
-atName p ks comma = stopped
-atName p ks dot = stopped
+unfoldable pub at_name : List ℕ → List Frame → Word → Stage
+at_name p ks (name x) = stopped
+at_name p ks (number ds) = stopped
+at_name p ks (constant b) = stopped
+at_name p ks (prefix o) = stopped
+at_name p ks (binary o) = pushed o (atom p []) ks
+at_name p ks (quantifier q) = stopped
+at_name p ks opening = argues p [] ks
+at_name p ks closing = closed (atom p []) ks
+at_name p ks comma = stopped
+at_name p ks dot = stopped
 
-unfoldable pub atVariable : Quantifier → List Frame → Word → Stage
-atVariable q ks (name x) = bound q x ks
-atVariable q ks (number ds) = stopped
-atVariable q ks (constant b) = stopped
-atVariable q ks (prefix o) = stopped
-atVariable q ks (binary o) = stopped
-atVariable q ks (quantifier r) = stopped
-atVariable q ks opening = stopped
-atVariable q ks closing = stopped
-atVariable q ks comma = stopped
-atVariable q ks dot = stopped
+unfoldable pub at_variable : Quantifier → List Frame → Word → Stage
+at_variable q ks (name x) = bound q x ks
+at_variable q ks (number ds) = stopped
+at_variable q ks (constant b) = stopped
+at_variable q ks (prefix o) = stopped
+at_variable q ks (binary o) = stopped
+at_variable q ks (quantifier r) = stopped
+at_variable q ks opening = stopped
+at_variable q ks closing = stopped
+at_variable q ks comma = stopped
+at_variable q ks dot = stopped
 
-unfoldable pub atDot : Quantifier → List ℕ → List Frame → Word → Stage
-atDot q x ks (name p) = stopped
-atDot q x ks (number ds) = stopped
-atDot q x ks (constant b) = stopped
-atDot q x ks (prefix o) = stopped
-atDot q x ks (binary o) = stopped
-atDot q x ks (quantifier r) = stopped
-atDot q x ks opening = stopped
-atDot q x ks closing = stopped
-atDot q x ks comma = stopped
-atDot q x ks dot = wants (binding q x ∷ ks)
+unfoldable pub at_dot : Quantifier → List ℕ → List Frame → Word → Stage
+at_dot q x ks (name p) = stopped
+at_dot q x ks (number ds) = stopped
+at_dot q x ks (constant b) = stopped
+at_dot q x ks (prefix o) = stopped
+at_dot q x ks (binary o) = stopped
+at_dot q x ks (quantifier r) = stopped
+at_dot q x ks opening = stopped
+at_dot q x ks closing = stopped
+at_dot q x ks comma = stopped
+at_dot q x ks dot = wants (binding q x ∷ ks)
 
-unfoldable pub atArgument : List ℕ → List Term → List Frame → Word → Stage
-atArgument p gs ks (name x) = argued p (gs ++ (variable x ∷ [])) ks
-atArgument p gs ks (number ds) = argued p (gs ++ (digits ds ∷ [])) ks
-atArgument p gs ks (constant b) = stopped
-atArgument p gs ks (prefix o) = stopped
-atArgument p gs ks (binary o) = stopped
-atArgument p gs ks (quantifier q) = stopped
-atArgument p gs ks opening = stopped
-atArgument p gs ks closing = stopped
-atArgument p gs ks comma = stopped
-atArgument p gs ks dot = stopped
+unfoldable pub at_argument : List ℕ → List Term → List Frame → Word → Stage
+at_argument p gs ks (name x) = argued p (gs ++ (variable x ∷ [])) ks
+at_argument p gs ks (number ds) = argued p (gs ++ (digits ds ∷ [])) ks
+at_argument p gs ks (constant b) = stopped
+at_argument p gs ks (prefix o) = stopped
+at_argument p gs ks (binary o) = stopped
+at_argument p gs ks (quantifier q) = stopped
+at_argument p gs ks opening = stopped
+at_argument p gs ks closing = stopped
+at_argument p gs ks comma = stopped
+at_argument p gs ks dot = stopped
 
-unfoldable pub afterArgument : List ℕ → List Term → List Frame → Word → Stage
-afterArgument p gs ks (name x) = stopped
-afterArgument p gs ks (number ds) = stopped
-afterArgument p gs ks (constant b) = stopped
-afterArgument p gs ks (prefix o) = stopped
-afterArgument p gs ks (binary o) = stopped
-afterArgument p gs ks (quantifier q) = stopped
-afterArgument p gs ks opening = stopped
-afterArgument p gs ks closing = ended (atom p gs) ks
-afterArgument p gs ks comma = argues p gs ks
-afterArgument p gs ks dot = stopped
+unfoldable pub after_argument : List ℕ → List Term → List Frame → Word → Stage
+after_argument p gs ks (name x) = stopped
+after_argument p gs ks (number ds) = stopped
+after_argument p gs ks (constant b) = stopped
+after_argument p gs ks (prefix o) = stopped
+after_argument p gs ks (binary o) = stopped
+after_argument p gs ks (quantifier q) = stopped
+after_argument p gs ks opening = stopped
+after_argument p gs ks closing = ended (atom p gs) ks
+after_argument p gs ks comma = argues p gs ks
+after_argument p gs ks dot = stopped
 
 -- a word comes
 unfoldable pub give : Stage → Word → Stage
-give (wants ks) w = atOperand ks w
-give (ended f ks) w = atEnd f ks w
-give (named p ks) w = atName p ks w
-give (binds q ks) w = atVariable q ks w
-give (bound q x ks) w = atDot q x ks w
-give (argues p gs ks) w = atArgument p gs ks w
-give (argued p gs ks) w = afterArgument p gs ks w
+give (wants ks) w = at_operand ks w
+give (ended f ks) w = at_end f ks w
+give (named p ks) w = at_name p ks w
+give (binds q ks) w = at_variable q ks w
+give (bound q x ks) w = at_dot q x ks w
+give (argues p gs ks) w = at_argument p gs ks w
+give (argued p gs ks) w = after_argument p gs ks w
 give stopped w = stopped
 
 -- the words come one after the other
-unfoldable pub giveAll : Stage → List Word → Stage
-giveAll t [] = t
-giveAll t (w ∷ ws) = giveAll (give t w) ws
+unfoldable pub give_all : Stage → List Word → Stage
+give_all t [] = t
+give_all t (w ∷ ws) = give_all (give t w) ws
 
 -- the end comes
 unfoldable pub result : Stage → Result

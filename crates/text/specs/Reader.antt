@@ -1,7 +1,7 @@
 -- The reader: the machine of words, driven by bytes. A word of letters, digits and `_` is pending until another byte ends it.
 -- Part of the machine, not of the meaning. Assumes nothing: these are definitions.
 use Rattle.std.specs.Prelude.{ℕ, zero, suc, ◌≡◌, Bool, true, false, List, [], ◌∷◌, ◌++◌, eqb}
-use Rattle.text.specs.Words.{isLetter, isDigit, isWordByte, same, Word, number, prefix, binary, opening, closing, comma, dot, previously, negation, ands, ors, implies, bytes_of, word_of}
+use Rattle.text.specs.Words.{is_letter, is_digit, is_word_byte, same, Word, number, prefix, binary, opening, closing, comma, dot, previously, negation, ands, ors, implies, bytes_of, word_of}
 use Rattle.text.specs.Machine.{Stage, wants, ended, named, binds, bound, argues, argued, stopped, give, Result, refused, result}
 
 -- what is pending: nothing; letters, digits and `_`; digits; `-`
@@ -25,18 +25,18 @@ unfoldable pub signs : List Word
 signs =
     prefix previously ∷ prefix negation ∷ binary ands ∷ binary ors ∷ opening ∷ closing ∷ comma ∷ dot ∷ []
 
-unfoldable pub signAmong : List Word → ℕ → Class
-signAmong [] b = foreign
-signAmong (w ∷ ws) b = elim (same (b ∷ []) (bytes_of w)) [ true ↦ sign w | false ↦ signAmong ws b ]
+unfoldable pub sign_among : List Word → ℕ → Class
+sign_among [] b = foreign
+sign_among (w ∷ ws) b = elim (same (b ∷ []) (bytes_of w)) [ true ↦ sign w | false ↦ sign_among ws b ]
 
 unfoldable pub class_of : ℕ → Class
 class_of b =
-    elim (isLetter b) [
+    elim (is_letter b) [
       | true ↦ letter
-      | false ↦ elim (isDigit b) [
+      | false ↦ elim (is_digit b) [
         | true ↦ digit
         | false ↦
-            elim (eqb b 32) [ true ↦ blank | false ↦ elim (eqb b 45) [ true ↦ minus | false ↦ signAmong signs b ] ]
+            elim (eqb b 32) [ true ↦ blank | false ↦ elim (eqb b 45) [ true ↦ minus | false ↦ sign_among signs b ] ]
       ]
     ]
 
@@ -92,13 +92,13 @@ begin t b foreign = at gap stopped
 unfoldable pub step : State → ℕ → State
 step (at gap t) b = begin t b (class_of b)
 step (at (letters w) t) b =
-    elim (isWordByte b) [
+    elim (is_word_byte b) [
       | true ↦ elim (grows t) [ true ↦ at (letters (w ++ (b ∷ []))) t | false ↦ at gap stopped ]
       | false ↦ begin (give t (word_of w)) b (class_of b)
     ]
 step (at (numerals w) t) b =
-    elim (isWordByte b) [
-      | true ↦ elim (isDigit b) [ true ↦ at (numerals (w ++ (b ∷ []))) t | false ↦ at gap stopped ]
+    elim (is_word_byte b) [
+      | true ↦ elim (is_digit b) [ true ↦ at (numerals (w ++ (b ∷ []))) t | false ↦ at gap stopped ]
       | false ↦ begin (give t (number w)) b (class_of b)
     ]
 step (at dash t) b = elim (eqb b 62) [ true ↦ at gap (give t (binary implies)) | false ↦ at gap stopped ]
@@ -141,9 +141,9 @@ dead (at (numerals w) t) = false
 dead (at dash t) = false
 
 -- how many bytes come before the one at which the reader stops
-unfoldable pub placeFrom : State → List ℕ → ℕ
-placeFrom s [] = zero
-placeFrom s (b ∷ bs) = elim (dead (step s b)) [ true ↦ zero | false ↦ suc (placeFrom (step s b) bs) ]
+unfoldable pub place_from : State → List ℕ → ℕ
+place_from s [] = zero
+place_from s (b ∷ bs) = elim (dead (step s b)) [ true ↦ zero | false ↦ suc (place_from (step s b) bs) ]
 
 unfoldable pub place_of : List ℕ → ℕ
-place_of bytes = placeFrom start bytes
+place_of bytes = place_from start bytes

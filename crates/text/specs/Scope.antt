@@ -7,29 +7,29 @@ use Rattle.text.specs.Machine.{Frame, group, applied, binding, left}
 use Rattle.text.specs.Unfold.{listed}
 
 -- the arguments name the variable
-unfoldable pub hasVariable : List Term → List ℕ → Bool
-hasVariable [] x = false
-hasVariable (variable y ∷ gs) x = same y x || hasVariable gs x
-hasVariable (digits ds ∷ gs) x = hasVariable gs x
+unfoldable pub has_variable : List Term → List ℕ → Bool
+has_variable [] x = false
+has_variable (variable y ∷ gs) x = same y x || has_variable gs x
+has_variable (digits ds ∷ gs) x = has_variable gs x
 
 -- the variable is free in the reading
-unfoldable pub freeIn : Reading → List ℕ → Bool
-freeIn (truth b) x = false
-freeIn (atom p gs) x = hasVariable gs x
-freeIn (under o f) x = freeIn f x
-freeIn (joined o f g) x = freeIn f x || freeIn g x
-freeIn (quantified q y f) x = not (same y x) && freeIn f x
-freeIn (grouped f) x = freeIn f x
+unfoldable pub free_in : Reading → List ℕ → Bool
+free_in (truth b) x = false
+free_in (atom p gs) x = has_variable gs x
+free_in (under o f) x = free_in f x
+free_in (joined o f g) x = free_in f x || free_in g x
+free_in (quantified q y f) x = not (same y x) && free_in f x
+free_in (grouped f) x = free_in f x
 
 -- some variable of the arguments, of the reading, is not among the names that are bound
-unfoldable pub looseTerms : List (List ℕ) → List Term → Bool
-looseTerms names [] = false
-looseTerms names (variable y ∷ gs) = not (listed names y) || looseTerms names gs
-looseTerms names (digits ds ∷ gs) = looseTerms names gs
+unfoldable pub loose_terms : List (List ℕ) → List Term → Bool
+loose_terms names [] = false
+loose_terms names (variable y ∷ gs) = not (listed names y) || loose_terms names gs
+loose_terms names (digits ds ∷ gs) = loose_terms names gs
 
 unfoldable pub loose : List (List ℕ) → Reading → Bool
 loose names (truth b) = false
-loose names (atom p gs) = looseTerms names gs
+loose names (atom p gs) = loose_terms names gs
 loose names (under o f) = loose names f
 loose names (joined o f g) = loose names f || loose names g
 loose names (quantified q y f) = loose (y ∷ names) f
@@ -44,9 +44,9 @@ binders (binding q x ∷ ks) = x ∷ binders ks
 binders (left o g ∷ ks) = binders ks
 
 -- some left operand among the frames has a variable that was not bound where it stood
-unfoldable pub looseFrames : List Frame → Bool
-looseFrames [] = false
-looseFrames (group ∷ ks) = looseFrames ks
-looseFrames (applied o ∷ ks) = looseFrames ks
-looseFrames (binding q x ∷ ks) = looseFrames ks
-looseFrames (left o g ∷ ks) = looseFrames ks || loose (binders ks) g
+unfoldable pub loose_frames : List Frame → Bool
+loose_frames [] = false
+loose_frames (group ∷ ks) = loose_frames ks
+loose_frames (applied o ∷ ks) = loose_frames ks
+loose_frames (binding q x ∷ ks) = loose_frames ks
+loose_frames (left o g ∷ ks) = loose_frames ks || loose (binders ks) g

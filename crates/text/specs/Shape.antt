@@ -115,19 +115,19 @@ next separator d dot = halt
 next nowhere d w = halt
 
 -- the end may come
-unfoldable pub mayEnd : Mode → ℕ → Bool
-mayEnd operand d = false
-mayEnd operator zero = true
-mayEnd operator (suc d) = false
-mayEnd call zero = true
-mayEnd call (suc d) = false
-mayEnd slot d = false
-mayEnd point d = false
-mayEnd argument d = false
-mayEnd separator d = false
-mayEnd nowhere d = false
+unfoldable pub may_end : Mode → ℕ → Bool
+may_end operand d = false
+may_end operator zero = true
+may_end operator (suc d) = false
+may_end call zero = true
+may_end call (suc d) = false
+may_end slot d = false
+may_end point d = false
+may_end argument d = false
+may_end separator d = false
+may_end nowhere d = false
 
 -- something is read
-unfoldable pub isRead : Result → Bool
-isRead refused = false
-isRead (reads f) = true
+unfoldable pub is_read : Result → Bool
+is_read refused = false
+is_read (reads f) = true

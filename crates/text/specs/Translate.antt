@@ -5,23 +5,23 @@ use Rattle.trees.specs.Kept.{all_below}
 use Rattle.meaning.specs.Qtl.{Formula, free}
 use Rattle.text.specs.Words.{same}
 use Rattle.text.specs.Grammar.{Term, variable, digits, Reading, RuleText, Place}
-use Rattle.text.specs.Unfold.{Atom, valueAfter, atoms, predicateNames, variableNames, formulaOf}
+use Rattle.text.specs.Unfold.{Atom, value_after, atoms, predicate_names, variable_names, formula_of}
 use Rattle.text.specs.Parts.{rows_of, numbers}
 
 -- the test holds of some atom
-unfoldable pub anyAtom : (Atom → Bool) → List Atom → Bool
-anyAtom t [] = false
-anyAtom t (a ∷ more) = t a || anyAtom t more
+unfoldable pub any_atom : (Atom → Bool) → List Atom → Bool
+any_atom t [] = false
+any_atom t (a ∷ more) = t a || any_atom t more
 
 -- refusal 4: "a constant over 2^32 − 1"
-unfoldable pub tooLarge : List Term → Bool
-tooLarge [] = false
-tooLarge (variable x ∷ gs) = tooLarge gs
-tooLarge (digits ds ∷ gs) = ltb 4294967295 (valueAfter 0 ds) || tooLarge gs
+unfoldable pub too_large : List Term → Bool
+too_large [] = false
+too_large (variable x ∷ gs) = too_large gs
+too_large (digits ds ∷ gs) = ltb 4294967295 (value_after 0 ds) || too_large gs
 
 -- refusal 5: "an atom of more than 3 arguments"
-unfoldable pub tooMany : List Term → Bool
-tooMany gs = ltb 3 (length gs)
+unfoldable pub too_many : List Term → Bool
+too_many gs = ltb 3 (length gs)
 
 -- the count of arguments of the first atom with the name
 unfoldable pub count_of : List Atom → List ℕ → ℕ
@@ -30,7 +30,7 @@ count_of (a ∷ more) p = elim (same a.called p) [ true ↦ length a.terms | fal
 
 -- refusal 7: "one name with two counts"
 unfoldable pub clashes : List Atom → Bool
-clashes all = anyAtom (λ a. not (eqb (length a.terms) (count_of all a.called))) all
+clashes all = any_atom (λ a. not (eqb (length a.terms) (count_of all a.called))) all
 
 -- refusal 8: "a free variable"
 unfoldable pub sentence : Formula → Bool
@@ -47,25 +47,25 @@ pub data Answer : Type 0 where
   makes : List ℕ → ℕ → List (List ℕ) → List (List ℕ) → Answer
 
 -- "Refusals 1 to 9, place 0 but in 3 .. in this order"
-unfoldable pub judgeReading : Bool → Bool → Bool → Bool → Bool → Bool → Reading → Answer
-judgeReading true many vars clash closed few f = refuses 4 0
-judgeReading false true vars clash closed few f = refuses 5 0
-judgeReading false false false clash closed few f = refuses 6 0
-judgeReading false false true true closed few f = refuses 7 0
-judgeReading false false true false false few f = refuses 8 0
-judgeReading false false true false true false f = refuses 9 0
-judgeReading false false true false true true f =
-    makes (padded (numbers (rows_of (formulaOf f)))) (length (rows_of (formulaOf f))) (predicateNames f) (variableNames f)
+unfoldable pub judge_reading : Bool → Bool → Bool → Bool → Bool → Bool → Reading → Answer
+judge_reading true many vars clash closed few f = refuses 4 0
+judge_reading false true vars clash closed few f = refuses 5 0
+judge_reading false false false clash closed few f = refuses 6 0
+judge_reading false false true true closed few f = refuses 7 0
+judge_reading false false true false false few f = refuses 8 0
+judge_reading false false true false true false f = refuses 9 0
+judge_reading false false true false true true f =
+    makes (padded (numbers (rows_of (formula_of f)))) (length (rows_of (formula_of f))) (predicate_names f) (variable_names f)
 
 unfoldable pub answer_of : Reading → Answer
 answer_of f =
-    judgeReading (anyAtom (λ a. tooLarge a.terms) (atoms f)) (anyAtom (λ a. tooMany a.terms) (atoms f))
-    (leb (length (variableNames f)) 4) (clashes (atoms f)) (sentence (formulaOf f)) (leb (length (rows_of (formulaOf f))) 64) f
+    judge_reading (any_atom (λ a. too_large a.terms) (atoms f)) (any_atom (λ a. too_many a.terms) (atoms f))
+    (leb (length (variable_names f)) 4) (clashes (atoms f)) (sentence (formula_of f)) (leb (length (rows_of (formula_of f))) 64) f
 
 -- "Refusals 1 to 9 .. in this order: row slice not of 576 numbers; text over 4,096 bytes; the place of the first byte (or the end) at
 -- which no rule text can go on; ..": what a row slice of so many numbers and a text are answered with
 pub data Says (size : ℕ) (bytes : List ℕ) : Answer → Type 0 where
-  wrong-slice : (size ≡ 576 → ⊥) → Says size bytes (refuses 1 0)
+  wrong_slice : (size ≡ 576 → ⊥) → Says size bytes (refuses 1 0)
   too_long : size ≡ 576 → 4096 < length bytes → Says size bytes (refuses 2 0)
   no_text : size ≡ 576 → length bytes ≤ 4096 → ((f : Reading) → RuleText bytes f → ⊥) → (i : ℕ) → Place bytes i → Says size bytes (refuses 3 i)
-  a-text : size ≡ 576 → length bytes ≤ 4096 → (f : Reading) → RuleText bytes f → Says size bytes (answer_of f)
+  a_text : size ≡ 576 → length bytes ≤ 4096 → (f : Reading) → RuleText bytes f → Says size bytes (answer_of f)

@@ -5,12 +5,12 @@ use Rattle.text.specs.Machine.{Result, refused, reads}
 use Rattle.text.specs.Reader.{read, place_of}
 use Rattle.text.specs.Translate.{Answer, refuses, answer_of}
 
-unfoldable pub judgeText : Bool → Bool → Result → ℕ → Answer
-judgeText false short r i = refuses 1 0
-judgeText true false r i = refuses 2 0
-judgeText true true refused i = refuses 3 i
-judgeText true true (reads f) i = answer_of f
+unfoldable pub judge_text : Bool → Bool → Result → ℕ → Answer
+judge_text false short r i = refuses 1 0
+judge_text true false r i = refuses 2 0
+judge_text true true refused i = refuses 3 i
+judge_text true true (reads f) i = answer_of f
 
 -- the answer to a row slice of so many numbers and a text
 unfoldable pub translate : ℕ → List ℕ → Answer
-translate size bytes = judgeText (eqb size 576) (leb (length bytes) 4096) (read bytes) (place_of bytes)
+translate size bytes = judge_text (eqb size 576) (leb (length bytes) 4096) (read bytes) (place_of bytes)

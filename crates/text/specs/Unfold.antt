@@ -7,9 +7,9 @@ use Rattle.text.specs.Words.{same, Prefix, once, historically, previously, negat
 use Rattle.text.specs.Grammar.{Term, variable, digits, Reading, truth, atom, under, joined, quantified, grouped}
 
 -- the number that digits write after the digits of n
-unfoldable pub valueAfter : ℕ → List ℕ → ℕ
-valueAfter n [] = n
-valueAfter n (d ∷ ds) = valueAfter (n * 10 + (d - 48)) ds
+unfoldable pub value_after : ℕ → List ℕ → ℕ
+value_after n [] = n
+value_after n (d ∷ ds) = value_after (n * 10 + (d - 48)) ds
 
 -- an atom as it is written: a name and its arguments
 pub record Atom : Type 0 where
@@ -26,14 +26,14 @@ atoms (quantified q x f) = atoms f
 atoms (grouped f) = atoms f
 
 -- the variables of arguments, and of a reading, in order; a quantifier's own mention is a use
-unfoldable pub termVariables : List Term → List (List ℕ)
-termVariables [] = []
-termVariables (variable x ∷ gs) = x ∷ termVariables gs
-termVariables (digits ds ∷ gs) = termVariables gs
+unfoldable pub term_variables : List Term → List (List ℕ)
+term_variables [] = []
+term_variables (variable x ∷ gs) = x ∷ term_variables gs
+term_variables (digits ds ∷ gs) = term_variables gs
 
 unfoldable pub variables : Reading → List (List ℕ)
 variables (truth b) = []
-variables (atom p gs) = termVariables gs
+variables (atom p gs) = term_variables gs
 variables (under o f) = variables f
 variables (joined o f g) = variables f ++ variables g
 variables (quantified q x f) = x ∷ variables f
@@ -45,12 +45,12 @@ listed [] x = false
 listed (y ∷ ys) x = same y x || listed ys x
 
 -- each name once, in order of first use, after those that are there
-unfoldable pub usesAfter : List (List ℕ) → List (List ℕ) → List (List ℕ)
-usesAfter done [] = done
-usesAfter done (x ∷ xs) = usesAfter (elim (listed done x) [ true ↦ done | false ↦ done ++ (x ∷ []) ]) xs
+unfoldable pub uses_after : List (List ℕ) → List (List ℕ) → List (List ℕ)
+uses_after done [] = done
+uses_after done (x ∷ xs) = uses_after (elim (listed done x) [ true ↦ done | false ↦ done ++ (x ∷ []) ]) xs
 
-unfoldable pub firstUses : List (List ℕ) → List (List ℕ)
-firstUses xs = usesAfter [] xs
+unfoldable pub first_uses : List (List ℕ) → List (List ℕ)
+first_uses xs = uses_after [] xs
 
 -- the number of a name: its place in the list
 unfoldable pub number_in : List (List ℕ) → List ℕ → ℕ
@@ -58,16 +58,16 @@ number_in [] x = 0
 number_in (y ∷ ys) x = elim (same y x) [ true ↦ 0 | false ↦ suc (number_in ys x) ]
 
 -- the predicates and the variables of a reading, "from 0 in order of first use"
-unfoldable pub predicateNames : Reading → List (List ℕ)
-predicateNames f = firstUses (map (λ (a : Atom). a.called) (atoms f))
+unfoldable pub predicate_names : Reading → List (List ℕ)
+predicate_names f = first_uses (map (λ (a : Atom). a.called) (atoms f))
 
-unfoldable pub variableNames : Reading → List (List ℕ)
-variableNames f = firstUses (variables f)
+unfoldable pub variable_names : Reading → List (List ℕ)
+variable_names f = first_uses (variables f)
 
 -- an argument, variables by their slots
-unfoldable pub argumentIn : List (List ℕ) → Term → Argument
-argumentIn vs (variable x) = Qtl.variable (number_in vs x)
-argumentIn vs (digits ds) = Qtl.constant (valueAfter 0 ds)
+unfoldable pub argument_in : List (List ℕ) → Term → Argument
+argument_in vs (variable x) = Qtl.variable (number_in vs x)
+argument_in vs (digits ds) = Qtl.constant (value_after 0 ds)
 
 -- "Derived operators unfold as in document 002 section 2"
 unfoldable pub either : Formula → Formula → Formula
@@ -97,12 +97,12 @@ constant_of false = Qtl.neg Qtl.truth
 -- the unfolded formula of a reading, over the names of predicates and variables
 unfoldable pub unfolded : List (List ℕ) → List (List ℕ) → Reading → Formula
 unfolded ps vs (truth b) = constant_of b
-unfolded ps vs (atom p gs) = Qtl.atom (number_in ps p) (map (argumentIn vs) gs)
+unfolded ps vs (atom p gs) = Qtl.atom (number_in ps p) (map (argument_in vs) gs)
 unfolded ps vs (under o f) = prefixed o (unfolded ps vs f)
 unfolded ps vs (joined o f g) = connected o (unfolded ps vs f) (unfolded ps vs g)
 unfolded ps vs (quantified q x f) = quantify q (number_in vs x) (unfolded ps vs f)
 unfolded ps vs (grouped f) = unfolded ps vs f
 
 -- the text's formula
-unfoldable pub formulaOf : Reading → Formula
-formulaOf f = unfolded (predicateNames f) (variableNames f) f
+unfoldable pub formula_of : Reading → Formula
+formula_of f = unfolded (predicate_names f) (variable_names f) f

@@ -3,16 +3,16 @@
 use Rattle.std.specs.Prelude.{ℕ, suc, ◌≡◌, Bool, true, false, ◌&&◌, ◌||◌, List, [], ◌∷◌, ◌++◌, eqb, leb}
 
 -- letters are A to Z and a to z
-unfoldable pub isLetter : ℕ → Bool
-isLetter b = (leb 65 b && leb b 90) || (leb 97 b && leb b 122)
+unfoldable pub is_letter : ℕ → Bool
+is_letter b = (leb 65 b && leb b 90) || (leb 97 b && leb b 122)
 
 -- digits are 0 to 9
-unfoldable pub isDigit : ℕ → Bool
-isDigit b = leb 48 b && leb b 57
+unfoldable pub is_digit : ℕ → Bool
+is_digit b = leb 48 b && leb b 57
 
 -- "letters, digits and `_`"
-unfoldable pub isWordByte : ℕ → Bool
-isWordByte b = isLetter b || (isDigit b || eqb b 95)
+unfoldable pub is_word_byte : ℕ → Bool
+is_word_byte b = is_letter b || (is_digit b || eqb b 95)
 
 -- the test holds of each byte
 unfoldable pub all : (ℕ → Bool) → List ℕ → Bool
@@ -87,12 +87,12 @@ word_of bs = pick reserved bs
 -- the first byte is a letter
 unfoldable pub led : List ℕ → Bool
 led [] = false
-led (b ∷ bs) = isLetter b
+led (b ∷ bs) = is_letter b
 
 -- "A name is a letter with all letters, digits and `_` after it, and no word above"
 pub record Name (bs : List ℕ) : Type 0 where
   pub letter : led bs ≡ true
-  pub rest : all isWordByte bs ≡ true
+  pub rest : all is_word_byte bs ≡ true
   pub unreserved : word_of bs ≡ name bs
 
 -- there is a byte
@@ -103,7 +103,7 @@ some (b ∷ bs) = true
 -- "decimal constants (zeros may lead)": one digit or more
 pub record Digits (ds : List ℕ) : Type 0 where
   pub one : some ds ≡ true
-  pub digits : all isDigit ds ≡ true
+  pub digits : all is_digit ds ≡ true
 
 -- the words that there are
 abbrev pub Proper : Word → Type 0

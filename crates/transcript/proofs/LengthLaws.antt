@@ -8,138 +8,138 @@ use mathlib.Core.Logic.{◌⊎◌, inl, inr}
 use lib.Dec.{leb}
 use lib.ListN.{length, length-append, length-drop, length-replicate, length-map}
 use borrow.Author.Tests.{leb-true, lt-leb}
-use Rattle.trees.specs.Table.{addTrees, refOf}
+use Rattle.trees.specs.Table.{add_trees, ref_of}
 use Rattle.trees.proofs.Tests.{and_true_r}
-use Rattle.trees.proofs.ShowLaws.{show-length, sound-adds, sound-nil}
-use Rattle.trees.proofs.SizesLaws.{sizes-length}
+use Rattle.trees.proofs.ShowLaws.{show_length, sound_adds, sound_nil}
+use Rattle.trees.proofs.SizesLaws.{sizes_length}
 use Rattle.meaning.specs.declared.Event.{Event}
 use Rattle.meaning.specs.declared.State.{State}
-use Rattle.meaning.specs.Rows.{Row, Found, right, fault, ruleOf, checkRows}
+use Rattle.meaning.specs.Rows.{Row, Found, right, fault, rule_of, check_rows}
 use Rattle.meaning.specs.Step.{Shown, step}
-use Rattle.meaning.specs.Tables.{most, keptTable, layState, layNodes, layValues}
-use Rattle.meaning.specs.Outcome.{Arrays, kRight, capacity, nodesRight, valuesRight, workSize, cleared, facts_of, Decision, taken, refused, judgeStart, judgeEvent, Machine, shows, decideEvent, settleEvent, eventOutcome}
-use Rattle.meaning.proofs.PartsLaws.{padded-length}
+use Rattle.meaning.specs.Tables.{most, kept_table, lay_state, lay_nodes, lay_values}
+use Rattle.meaning.specs.Outcome.{Arrays, k_right, capacity, nodes_right, values_right, work_size, cleared, facts_of, Decision, taken, refused, judge_start, judge_event, Machine, shows, decide_event, settle_event, event_outcome}
+use Rattle.meaning.proofs.PartsLaws.{padded_length}
 use Rattle.meaning.proofs.ProperLaws.{Proper}
-use Rattle.meaning.proofs.RunLaws.{start-taken, few, laid_on}
+use Rattle.meaning.proofs.RunLaws.{start_taken, few, laid_on}
 use Rattle.meaning.proofs.AnyState.{passed, laid_of}
 
 -- the node slice that is laid out
-nodes-length : (k C : ℕ) (rule : List Row) (s : Shown) → Proper k C rule s → length (layNodes C s) ≡ 3 * C
-unfolding layNodes keptTable
-nodes-length k C rule s p =
-    let n = show-length (addTrees [] s.trees) (addTrees [] s.trees) (sound-adds s.trees [] sound-nil).nodes in
-    padded-length (3 * C) _ (let r = p.room in unfold keptTable in omega arith)
+nodes_length : (k C : ℕ) (rule : List Row) (s : Shown) → Proper k C rule s → length (lay_nodes C s) ≡ 3 * C
+unfolding lay_nodes kept_table
+nodes_length k C rule s p =
+    let n = show_length (add_trees [] s.trees) (add_trees [] s.trees) (sound_adds s.trees [] sound_nil).nodes in
+    padded_length (3 * C) _ (let r = p.room in unfold kept_table in omega arith)
 
 -- the value slice that is laid out
-values_length : (k C : ℕ) (rule : List Row) (s : Shown) → Proper k C rule s → length (layValues k s.lists) ≡ 4 * most k
-unfolding layValues most
+values_length : (k C : ℕ) (rule : List Row) (s : Shown) → Proper k C rule s → length (lay_values k s.lists) ≡ 4 * most k
+unfolding lay_values most
 values_length k C rule s p =
     rw (
       length-append,
       length-append,
       length-append,
-      padded-length (most k) (s.lists 0) (p.enough 0 (omega arith)),
-      padded-length (most k) (s.lists 1) (p.enough 1 (omega arith)),
-      padded-length (most k) (s.lists 2) (p.enough 2 (omega arith)),
-      padded-length (most k) (s.lists 3) (p.enough 3 (omega arith)),
+      padded_length (most k) (s.lists 0) (p.enough 0 (omega arith)),
+      padded_length (most k) (s.lists 1) (p.enough 1 (omega arith)),
+      padded_length (most k) (s.lists 2) (p.enough 2 (omega arith)),
+      padded_length (most k) (s.lists 3) (p.enough 3 (omega arith)),
     ) (omega arith)
 
 -- the references that are laid out
-refs-length : (k C : ℕ) (rule : List Row) (s : Shown) → length rule ≤ 64 → Proper k C rule s → length (layState k s).refs ≡ 64
-unfolding layState
-refs-length k C rule s h p = padded-length 64 (map (refOf (keptTable s)) s.trees) (omega (arith, length-map s.trees (refOf (keptTable s)), p.count))
+refs_length : (k C : ℕ) (rule : List Row) (s : Shown) → length rule ≤ 64 → Proper k C rule s → length (lay_state k s).refs ≡ 64
+unfolding lay_state
+refs_length k C rule s h p = padded_length 64 (map (ref_of (kept_table s)) s.trees) (omega (arith, length-map s.trees (ref_of (kept_table s)), p.count))
 
 -- and the sizes
-sizes-count : (k C : ℕ) (rule : List Row) (s : Shown) → length rule ≤ 64 → Proper k C rule s → length (layState k s).sizes ≡ 64
-unfolding layState
-sizes-count k C rule s h p = sizes-length s.trees (omega (arith, p.count))
+sizes_count : (k C : ℕ) (rule : List Row) (s : Shown) → length rule ≤ 64 → Proper k C rule s → length (lay_state k s).sizes ≡ 64
+unfolding lay_state
+sizes_count k C rule s h p = sizes_length s.trees (omega (arith, p.count))
 
-counts-length : (k : ℕ) (s : Shown) → length (layState k s).counts ≡ 4
-unfolding layState
-counts-length k s = refl
+counts_length : (k : ℕ) (s : Shown) → length (lay_state k s).counts ≡ 4
+unfolding lay_state
+counts_length k s = refl
 
 -- a work slice that is long enough stays as long as it is
-cleared-length : (C : ℕ) (work : List ℕ) → workSize C ≤ length work → length (cleared C work) ≡ length work
+cleared_length : (C : ℕ) (work : List ℕ) → work_size C ≤ length work → length (cleared C work) ≡ length work
 unfolding cleared
-cleared-length C work h = rw (length-append, length-replicate, length-drop) (omega arith)
+cleared_length C work h = rw (length-append, length-replicate, length-drop) (omega arith)
 
 -- start refuses with 1 to 3
-start-early : (a : Bool) (f : Found) (b : Bool) (n p : ℕ) → judgeStart a f b ≡ refused n p → n ≤ 3
-unfolding judgeStart
-start-early false f b n p e = let z : n ≡ 1 = cc in omega arith
-start-early true (fault q) b n p e = let z : n ≡ 2 = cc in omega arith
-start-early true right false n p e = let z : n ≡ 3 = cc in omega arith
-start-early true right true n p e = let z : ◌≡◌ {A = ℕ} 0 1 = cc in absurd (omega arith)
+start_early : (a : Bool) (f : Found) (b : Bool) (n p : ℕ) → judge_start a f b ≡ refused n p → n ≤ 3
+unfolding judge_start
+start_early false f b n p e = let z : n ≡ 1 = cc in omega arith
+start_early true (fault q) b n p e = let z : n ≡ 2 = cc in omega arith
+start_early true right false n p e = let z : n ≡ 3 = cc in omega arith
+start_early true right true n p e = let z : ◌≡◌ {A = ℕ} 0 1 = cc in absurd (omega arith)
 
 -- a refusal is that of start, or start's tests are passed
-event-late : (d : Decision) (f c s : Bool) (v : ℕ) (r : Bool) (n p : ℕ) → judgeEvent d f c s v r ≡ refused n p → (d ≡ taken) ⊎ (d ≡ refused n p)
-unfolding judgeEvent
-event-late (refused m q) f c s v r n p e = inr e
-event-late taken f c s v r n p e = inl refl
+event_late : (d : Decision) (f c s : Bool) (v : ℕ) (r : Bool) (n p : ℕ) → judge_event d f c s v r ≡ refused n p → (d ≡ taken) ⊎ (d ≡ refused n p)
+unfolding judge_event
+event_late (refused m q) f c s v r n p e = inr e
+event_late taken f c s v r n p e = inl refl
 
 module _ (rows : List ℕ) (m : Machine) (e : Event) where
   -- what an event keeps
   pub record Keeps : Type 0 where
-    pub arrays : Arrays (eventOutcome rows m e).left
-    pub nodes : length (eventOutcome rows m e).left.nodes ≡ length m.nodes
-    pub values : length (eventOutcome rows m e).left.values ≡ length m.values
-    pub work : length (eventOutcome rows m e).left.work ≡ length m.work
+    pub arrays : Arrays (event_outcome rows m e).left
+    pub nodes : length (event_outcome rows m e).left.nodes ≡ length m.nodes
+    pub values : length (event_outcome rows m e).left.values ≡ length m.values
+    pub work : length (event_outcome rows m e).left.work ≡ length m.work
 
-  long-enough : (nodesRight m.nodes && (valuesRight m.state.k m.values && leb (workSize (capacity m.nodes)) (length m.work))) ≡ true
-      → workSize (capacity m.nodes) ≤ length m.work
-  long-enough h =
-      leb-true (workSize (capacity m.nodes)) (length m.work)
-      (and_true_r (valuesRight m.state.k m.values) (leb (workSize (capacity m.nodes)) (length m.work))
-      (and_true_r (nodesRight m.nodes) (valuesRight m.state.k m.values && leb (workSize (capacity m.nodes)) (length m.work)) h))
+  long_enough : (nodes_right m.nodes && (values_right m.state.k m.values && leb (work_size (capacity m.nodes)) (length m.work))) ≡ true
+      → work_size (capacity m.nodes) ≤ length m.work
+  long_enough h =
+      leb-true (work_size (capacity m.nodes)) (length m.work)
+      (and_true_r (values_right m.state.k m.values) (leb (work_size (capacity m.nodes)) (length m.work))
+      (and_true_r (nodes_right m.nodes) (values_right m.state.k m.values && leb (work_size (capacity m.nodes)) (length m.work)) h))
 
-  taken-keeps : Arrays m → decideEvent rows m e ≡ taken → Keeps
-  taken-keeps arrays d =
+  taken_keeps : Arrays m → decide_event rows m e ≡ taken → Keeps
+  taken_keeps arrays d =
       let k : ℕ = m.state.k in
       let C : ℕ = capacity m.nodes in
       let tests = passed rows m e arrays d in
       let was = laid_of rows m e arrays d in
-      let after : Shown = step k (ruleOf rows) (shows rows m) (facts_of e) in
+      let after : Shown = step k (rule_of rows) (shows rows m) (facts_of e) in
       let is = laid_on rows k C tests.0 tests.1 m (shows rows m) was e d in
       record {
         arrays = (
-          ap (λ (s : State). length s.counts) is.state-is ∙ counts-length k after,
-          ap (λ (s : State). length s.refs) is.state-is ∙ refs-length k C (ruleOf rows) after (few rows k C tests.0 tests.1) is.proper,
-          ap (λ (s : State). length s.sizes) is.state-is ∙ sizes-count k C (ruleOf rows) after (few rows k C tests.0 tests.1) is.proper,
+          ap (λ (s : State). length s.counts) is.state_is ∙ counts_length k after,
+          ap (λ (s : State). length s.refs) is.state_is ∙ refs_length k C (rule_of rows) after (few rows k C tests.0 tests.1) is.proper,
+          ap (λ (s : State). length s.sizes) is.state_is ∙ sizes_count k C (rule_of rows) after (few rows k C tests.0 tests.1) is.proper,
         );
-        nodes = ap length is.nodes-are ∙ nodes-length k C (ruleOf rows) after is.proper ∙ sym (ap length was.nodes-are ∙ nodes-length k C (ruleOf rows) (shows rows m) was.proper);
-        values = ap length is.values-are ∙ values_length k C (ruleOf rows) after is.proper ∙ sym (ap length was.values-are ∙ values_length k C (ruleOf rows) (shows rows m) was.proper);
-        work = work-taken ∙ cleared-length C m.work (long-enough tests.2);
+        nodes = ap length is.nodes_are ∙ nodes_length k C (rule_of rows) after is.proper ∙ sym (ap length was.nodes_are ∙ nodes_length k C (rule_of rows) (shows rows m) was.proper);
+        values = ap length is.values_are ∙ values_length k C (rule_of rows) after is.proper ∙ sym (ap length was.values_are ∙ values_length k C (rule_of rows) (shows rows m) was.proper);
+        work = work_taken ∙ cleared_length C m.work (long_enough tests.2);
       }
     where
-      work-taken : length (eventOutcome rows m e).left.work ≡ length (cleared (capacity m.nodes) m.work)
-      work-taken = unfold eventOutcome settleEvent in rw d
+      work_taken : length (event_outcome rows m e).left.work ≡ length (cleared (capacity m.nodes) m.work)
+      work_taken = unfold event_outcome settle_event in rw d
 
-  refused-keeps : Arrays m → (n p : ℕ) → decideEvent rows m e ≡ refused n p → Keeps
-  unfolding eventOutcome settleEvent
-  refused-keeps arrays n p d = record { arrays = rw d arrays; nodes = rw d; values = rw d; work = rw d (kept-work early) }
+  refused_keeps : Arrays m → (n p : ℕ) → decide_event rows m e ≡ refused n p → Keeps
+  unfolding event_outcome settle_event
+  refused_keeps arrays n p d = record { arrays = rw d arrays; nodes = rw d; values = rw d; work = rw d (kept_work early) }
     where
-      early : (n ≤ 3) ⊎ (workSize (capacity m.nodes) ≤ length m.work)
-      early = unfold decideEvent in go (event-late _ _ _ _ _ _ n p d)
+      early : (n ≤ 3) ⊎ (work_size (capacity m.nodes) ≤ length m.work)
+      early = unfold decide_event in go (event_late _ _ _ _ _ _ n p d)
         where
-          go : (judgeStart (kRight m.state.k) (checkRows rows) (nodesRight m.nodes && (valuesRight m.state.k m.values && leb (workSize (capacity m.nodes)) (length m.work))) ≡ taken)
-              ⊎ (judgeStart (kRight m.state.k) (checkRows rows) (nodesRight m.nodes && (valuesRight m.state.k m.values && leb (workSize (capacity m.nodes)) (length m.work))) ≡ refused n p)
-              → (n ≤ 3) ⊎ (workSize (capacity m.nodes) ≤ length m.work)
-          go (inl t) = inr (long-enough (start-taken _ _ _ t).2)
-          go (inr r) = inl (start-early _ _ _ n p r)
+          go : (judge_start (k_right m.state.k) (check_rows rows) (nodes_right m.nodes && (values_right m.state.k m.values && leb (work_size (capacity m.nodes)) (length m.work))) ≡ taken)
+              ⊎ (judge_start (k_right m.state.k) (check_rows rows) (nodes_right m.nodes && (values_right m.state.k m.values && leb (work_size (capacity m.nodes)) (length m.work))) ≡ refused n p)
+              → (n ≤ 3) ⊎ (work_size (capacity m.nodes) ≤ length m.work)
+          go (inl t) = inr (long_enough (start_taken _ _ _ t).2)
+          go (inr r) = inl (start_early _ _ _ n p r)
 
-      kept-work : (n ≤ 3) ⊎ (workSize (capacity m.nodes) ≤ length m.work)
+      kept_work : (n ≤ 3) ⊎ (work_size (capacity m.nodes) ≤ length m.work)
           → length (cond (leb 4 n) (cleared (capacity m.nodes) m.work) m.work) ≡ length m.work
-      kept-work (inl h) = rw (lt-leb 4 n (omega arith))
-      kept-work (inr h) = both (leb 4 n)
+      kept_work (inl h) = rw (lt-leb 4 n (omega arith))
+      kept_work (inr h) = both (leb 4 n)
         where
           both : (b : Bool) → length (cond b (cleared (capacity m.nodes) m.work) m.work) ≡ length m.work
-          both true = cleared-length (capacity m.nodes) m.work h
+          both true = cleared_length (capacity m.nodes) m.work h
           both false = refl
 
   -- every event keeps the lengths
-  pub event-keeps : Arrays m → Keeps
-  event-keeps arrays = go (decideEvent rows m e) refl
+  pub event_keeps : Arrays m → Keeps
+  event_keeps arrays = go (decide_event rows m e) refl
     where
-      go : (d : Decision) → decideEvent rows m e ≡ d → Keeps
-      go taken q = taken-keeps arrays q
-      go (refused n p) q = refused-keeps arrays n p q
+      go : (d : Decision) → decide_event rows m e ≡ d → Keeps
+      go taken q = taken_keeps arrays q
+      go (refused n p) q = refused_keeps arrays n p q

@@ -5,10 +5,10 @@ use Rattle.meaning.specs.declared.Event.{Event}
 use Rattle.meaning.specs.declared.Answer.{Answer}
 use Rattle.meaning.specs.declared.Answer.TheVariants.{Started, Verdict, Refused}
 use Rattle.meaning.specs.Tables.{most}
-use Rattle.meaning.specs.Outcome.{workSize, StartOutcome, startOutcome, Machine, machine_of, eventOutcome}
+use Rattle.meaning.specs.Outcome.{work_size, StartOutcome, start_outcome, Machine, machine_of, event_outcome}
 use Rattle.lines.specs.declared.Line.{Line}
 use Rattle.lines.specs.declared.Line.TheVariants as line
-use Rattle.answers.specs.Answers.{header, badLine, noStart, answerLine}
+use Rattle.answers.specs.Answers.{header, bad_line, no_start, answer_line}
 use Rattle.transcript.specs.Reading.{line_of}
 
 -- where a run stands: at its first line; with k, C and the numbers of the rows so far; with a rule that has started, the count of events so far and
@@ -29,44 +29,44 @@ unfoldable pub silent : Stand → Reply
 silent st = record { stand = st; bytes = [] }
 
 -- "A line that doesn't read as one of these ends the run with `bad line`"; nothing is said of the lines after the last
-unfoldable pub tellBad : Stand → Reply
-tellBad opening = record { stand = ended; bytes = badLine }
-tellBad (ruling k C rows) = record { stand = ended; bytes = badLine }
-tellBad (judging rows n m) = record { stand = ended; bytes = badLine }
-tellBad ended = silent ended
+unfoldable pub tell_bad : Stand → Reply
+tell_bad opening = record { stand = ended; bytes = bad_line }
+tell_bad (ruling k C rows) = record { stand = ended; bytes = bad_line }
+tell_bad (judging rows n m) = record { stand = ended; bytes = bad_line }
+tell_bad ended = silent ended
 
 -- "a first line of two numbers, k and C"
-unfoldable pub tellSizes : Stand → ℕ → ℕ → Reply
-tellSizes opening k C = silent (ruling k C [])
-tellSizes (ruling k' C' rows) k C = tellBad (ruling k' C' rows)
-tellSizes (judging rows n m) k C = tellBad (judging rows n m)
-tellSizes ended k C = tellBad ended
+unfoldable pub tell_sizes : Stand → ℕ → ℕ → Reply
+tell_sizes opening k C = silent (ruling k C [])
+tell_sizes (ruling k' C' rows) k C = tell_bad (ruling k' C' rows)
+tell_sizes (judging rows n m) k C = tell_bad (judging rows n m)
+tell_sizes ended k C = tell_bad ended
 
 -- "then up to 65 lines of `r` and nine numbers"
-unfoldable pub tellRow : Stand → List ℕ → Reply
-tellRow opening nine = tellBad opening
-tellRow (ruling k C rows) nine = cond (leb (length (rows ++ nine)) (65 * 9)) (silent (ruling k C (rows ++ nine))) (tellBad (ruling k C rows))
-tellRow (judging rows n m) nine = tellBad (judging rows n m)
-tellRow ended nine = tellBad ended
+unfoldable pub tell_row : Stand → List ℕ → Reply
+tell_row opening nine = tell_bad opening
+tell_row (ruling k C rows) nine = cond (leb (length (rows ++ nine)) (65 * 9)) (silent (ruling k C (rows ++ nine))) (tell_bad (ruling k C rows))
+tell_row (judging rows n m) nine = tell_bad (judging rows n m)
+tell_row ended nine = tell_bad ended
 
 -- "If start is refused it prints `no start`, the number and the place, and ends. Else header". A start is not answered by a verdict.
-unfoldable pub startReply : ℕ → List ℕ → StartOutcome → Answer → Reply
-startReply C rows o (Refused number place) = record { stand = ended; bytes = noStart number place }
-startReply C rows o Started = record { stand = judging rows 0 (machine_of o (replicate (workSize C) 0)); bytes = header }
-startReply C rows o (Verdict holds kept room) = record { stand = judging rows 0 (machine_of o (replicate (workSize C) 0)); bytes = header }
+unfoldable pub start_reply : ℕ → List ℕ → StartOutcome → Answer → Reply
+start_reply C rows o (Refused number place) = record { stand = ended; bytes = no_start number place }
+start_reply C rows o Started = record { stand = judging rows 0 (machine_of o (replicate (work_size C) 0)); bytes = header }
+start_reply C rows o (Verdict holds kept room) = record { stand = judging rows 0 (machine_of o (replicate (work_size C) 0)); bytes = header }
 
 -- the length of the value slice, "4 × (2^k − 1)"; a k past 10 is refused before the slice is looked at
-unfoldable pub valuesAsked : ℕ → ℕ
-valuesAsked k = cond (ltb 10 k) 0 (4 * most k)
+unfoldable pub values_asked : ℕ → ℕ
+values_asked k = cond (ltb 10 k) 0 (4 * most k)
 
 -- start, on slices of the lengths that k and C ask for
 unfoldable pub begins : ℕ → ℕ → List ℕ → StartOutcome
-begins k C rows = startOutcome k rows (replicate (3 * C) 0) (replicate (valuesAsked k) 0)
+begins k C rows = start_outcome k rows (replicate (3 * C) 0) (replicate (values_asked k) 0)
 
 -- "Start comes at the first `e` line, or at the end if there is none."; ".. and so does a missing first line"
 unfoldable pub due : Stand → Reply
-due opening = tellBad opening
-due (ruling k C rows) = startReply C rows (begins k C rows) (begins k C rows).answer
+due opening = tell_bad opening
+due (ruling k C rows) = start_reply C rows (begins k C rows) (begins k C rows).answer
 due (judging rows n m) = silent (judging rows n m)
 due ended = silent ended
 
@@ -74,19 +74,19 @@ due ended = silent ended
 unfoldable pub judged : Event → List ℕ → Stand → Reply
 judged e before (judging rows n m) =
     record {
-      stand = judging rows (n + 1) (eventOutcome rows m e).left;
-      bytes = before ++ answerLine (n + 1) (eventOutcome rows m e).answer;
+      stand = judging rows (n + 1) (event_outcome rows m e).left;
+      bytes = before ++ answer_line (n + 1) (event_outcome rows m e).answer;
     }
 judged e before opening = record { stand = opening; bytes = before }
 judged e before (ruling k C rows) = record { stand = ruling k C rows; bytes = before }
 judged e before ended = record { stand = ended; bytes = before }
 
-unfoldable pub tellEvent : Stand → Event → Reply
-tellEvent st e = judged e (due st).bytes (due st).stand
+unfoldable pub tell_event : Stand → Event → Reply
+tell_event st e = judged e (due st).bytes (due st).stand
 
 -- the event of a line is one fact, which stands at all eight places; its fourth value only makes the count 4, which is refused
-unfoldable pub eventOf : ℕ → ℕ → ℕ → ℕ → ℕ → Event
-eventOf p n a b c =
+unfoldable pub event_of : ℕ → ℕ → ℕ → ℕ → ℕ → Event
+event_of p n a b c =
     record {
       count = 1;
       facts = replicate 8 (record { predicate = p; count = n; values = record { 0 = a } ∷ record { 0 = b } ∷ record { 0 = c } ∷ [] });
@@ -94,10 +94,10 @@ eventOf p n a b c =
 
 -- one line
 unfoldable pub tell : Stand → Line → Reply
-tell st (line.Sizes k C) = tellSizes st k C
-tell st (line.Row a b c d e f g h i) = tellRow st (a ∷ b ∷ c ∷ d ∷ e ∷ f ∷ g ∷ h ∷ i ∷ [])
-tell st (line.Event p n a b c d) = tellEvent st (eventOf p n a b c)
-tell st line.Bad = tellBad st
+tell st (line.Sizes k C) = tell_sizes st k C
+tell st (line.Row a b c d e f g h i) = tell_row st (a ∷ b ∷ c ∷ d ∷ e ∷ f ∷ g ∷ h ∷ i ∷ [])
+tell st (line.Event p n a b c d) = tell_event st (event_of p n a b c)
+tell st line.Bad = tell_bad st
 
 -- the lines, one after the other, and the end
 unfoldable pub told : Stand → List (List ℕ) → List ℕ
@@ -105,13 +105,13 @@ told st [] = (due st).bytes
 told st (l ∷ ls) = (tell st (line_of l)).bytes ++ told (tell st (line_of l)).stand ls
 
 -- the last line, if there are bytes past the last line end: "the last line end optional"
-unfoldable pub lastLine : List ℕ → List (List ℕ)
-lastLine [] = []
-lastLine (b ∷ bs) = (b ∷ bs) ∷ []
+unfoldable pub last_line : List ℕ → List (List ℕ)
+last_line [] = []
+last_line (b ∷ bs) = (b ∷ bs) ∷ []
 
 -- the lines of bytes that come after those of `before` on the same line: a line ends at byte 10
 unfoldable pub lines_from : List ℕ → List ℕ → List (List ℕ)
-lines_from before [] = lastLine before
+lines_from before [] = last_line before
 lines_from before (b ∷ bs) = cond (eqb b 10) (before ∷ lines_from [] bs) (lines_from (before ++ (b ∷ [])) bs)
 
 -- what the program prints for an input

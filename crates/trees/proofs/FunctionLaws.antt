@@ -4,9 +4,9 @@ use mathlib.Core.Path.{◌≡◌, refl, sym, ap, ap₂, ◌∙◌, fun_ext}
 use mathlib.Core.Bool.{Bool, true, false, cond, not, ◌&&◌, ◌||◌}
 use native.Mathlib.Omega.{arith}
 use Rattle.trees.specs.Bits.{Bits, Function, Same, Asks, put, drop}
-use Rattle.trees.specs.Tree.{Tree, eval, Fine, mk, leaf, treeFrom, tree_of, notT, sinceT, dropT}
-use Rattle.trees.proofs.BitsLaws.{put_back, asks-put, asks-wider, asks-drop}
-use Rattle.trees.proofs.TreeLaws.{eval-mk, fine-mk, fine-lower, fine-leaf, eval-leaf, canon, eval-agree}
+use Rattle.trees.specs.Tree.{Tree, eval, Fine, mk, leaf, tree_from, tree_of, not_t, since_t, drop_t}
+use Rattle.trees.proofs.BitsLaws.{put_back, asks_put, asks_wider, asks_drop}
+use Rattle.trees.proofs.TreeLaws.{eval_mk, fine_mk, fine_lower, fine_leaf, eval_leaf, canon, eval_agree}
 
 -- the two sides of a function at a level, joined, are the function
 pub join : (lo hi v : ℕ) (g : Function) → Asks lo hi g → (s : Bits) → cond (s v) (g (put s v true)) (g (put s v false)) ≡ g s
@@ -16,60 +16,60 @@ join lo hi v g a s = go (s v) refl
     go true e = a.only (put s v true) s (λ i x y. ap (λ (b : Bool). put s v b i) (sym e) ∙ put_back s v i)
     go false e = a.only (put s v false) s (λ i x y. ap (λ (b : Bool). put s v b i) (sym e) ∙ put_back s v i)
 
-pub fine-from : (n lo hi : ℕ) (g : Function) → hi ≡ lo + n → Fine lo hi (treeFrom lo n g)
-unfolding treeFrom
-fine-from zero lo hi g h = fine-leaf lo hi (g (λ _. false))
-fine-from (suc n) lo hi g h =
-    fine-mk lo hi _ _ (omega arith)
-    (fine-from n (suc lo) hi (λ s. g (put s lo false)) (omega arith))
-    (fine-from n (suc lo) hi (λ s. g (put s lo true)) (omega arith))
+pub fine_from : (n lo hi : ℕ) (g : Function) → hi ≡ lo + n → Fine lo hi (tree_from lo n g)
+unfolding tree_from
+fine_from zero lo hi g h = fine_leaf lo hi (g (λ _. false))
+fine_from (suc n) lo hi g h =
+    fine_mk lo hi _ _ (omega arith)
+    (fine_from n (suc lo) hi (λ s. g (put s lo false)) (omega arith))
+    (fine_from n (suc lo) hi (λ s. g (put s lo true)) (omega arith))
 
-pub eval-from : (n lo hi : ℕ) (g : Function) → hi ≡ lo + n → Asks lo hi g → Same (eval (treeFrom lo n g)) g
-unfolding treeFrom
-eval-from zero lo hi g h a s = eval-leaf (g (λ _. false)) s ∙ a.only (λ _. false) s (λ i x y. absurd (omega arith))
-eval-from (suc n) lo hi g h a s =
-    let half : (x : Bool) → eval (treeFrom (suc lo) n (λ t. g (put t lo x))) s ≡ g (put s lo x) = λ x.
-    eval-from n (suc lo) hi (λ t. g (put t lo x)) (omega arith) (asks-put lo hi g x a) s in
-    eval-mk lo _ _ s ∙ rw (half false, half true) (join lo hi lo g a s)
+pub eval_from : (n lo hi : ℕ) (g : Function) → hi ≡ lo + n → Asks lo hi g → Same (eval (tree_from lo n g)) g
+unfolding tree_from
+eval_from zero lo hi g h a s = eval_leaf (g (λ _. false)) s ∙ a.only (λ _. false) s (λ i x y. absurd (omega arith))
+eval_from (suc n) lo hi g h a s =
+    let half : (x : Bool) → eval (tree_from (suc lo) n (λ t. g (put t lo x))) s ≡ g (put s lo x) = λ x.
+    eval_from n (suc lo) hi (λ t. g (put t lo x)) (omega arith) (asks_put lo hi g x a) s in
+    eval_mk lo _ _ s ∙ rw (half false, half true) (join lo hi lo g a s)
 
 module _ (n : ℕ) where
   pub fine_of : (g : Function) → Fine 0 n (tree_of n g)
   unfolding tree_of
-  fine_of g = fine-from n 0 n g (omega arith)
+  fine_of g = fine_from n 0 n g (omega arith)
 
-  pub eval-of : (g : Function) → Asks 0 n g → Same (eval (tree_of n g)) g
+  pub eval_of : (g : Function) → Asks 0 n g → Same (eval (tree_of n g)) g
   unfolding tree_of
-  eval-of g a s = eval-from n 0 n g (omega arith) a s
+  eval_of g a s = eval_from n 0 n g (omega arith) a s
 
   -- the one tree of a function
-  pub tree-one : (g : Function) → Asks 0 n g → (d : Tree) → Fine 0 n d → Same (eval d) g → tree_of n g ≡ d
-  tree-one g a d f e = canon n (tree_of n g) d (fine_of g) f (λ s. eval-of g a s ∙ sym (e s))
+  pub tree_one : (g : Function) → Asks 0 n g → (d : Tree) → Fine 0 n d → Same (eval d) g → tree_of n g ≡ d
+  tree_one g a d f e = canon n (tree_of n g) d (fine_of g) f (λ s. eval_of g a s ∙ sym (e s))
 
   -- functions that say the same have one tree
-  pub tree-same : (f g : Function) → Same f g → tree_of n f ≡ tree_of n g
-  tree-same f g e = ap (tree_of n) (fun_ext e)
+  pub tree_same : (f g : Function) → Same f g → tree_of n f ≡ tree_of n g
+  tree_same f g e = ap (tree_of n) (fun_ext e)
 
   -- a function that asks no level before v: its tree is made of the trees of its two sides at v
-  pub tree-step : (v : ℕ) (g : Function) → v < n → Asks v n g → tree_of n g ≡ mk v (tree_of n (λ s. g (put s v false))) (tree_of n (λ s. g (put s v true)))
-  tree-step v g h a =
-      tree-one g (asks-wider v n 0 n g (omega arith) (omega arith) a) (mk v (sub false) (sub true))
-      (fine-lower v n 0 (mk v (sub false) (sub true)) (omega arith) (fine-mk v n (sub false) (sub true) h (fine false) (fine true)))
-      (λ s. eval-mk v (sub false) (sub true) s ∙ rw (says false s, says true s) (join v n v g a s))
+  pub tree_step : (v : ℕ) (g : Function) → v < n → Asks v n g → tree_of n g ≡ mk v (tree_of n (λ s. g (put s v false))) (tree_of n (λ s. g (put s v true)))
+  tree_step v g h a =
+      tree_one g (asks_wider v n 0 n g (omega arith) (omega arith) a) (mk v (sub false) (sub true))
+      (fine_lower v n 0 (mk v (sub false) (sub true)) (omega arith) (fine_mk v n (sub false) (sub true) h (fine false) (fine true)))
+      (λ s. eval_mk v (sub false) (sub true) s ∙ rw (says false s, says true s) (join v n v g a s))
       ∙ sym (ap₂ (mk v) (own false) (own true))
     where
       half : Bool → Function
       half b s = g (put s v b)
 
       sub : Bool → Tree
-      sub b = treeFrom (suc v) (n - suc v) (half b)
+      sub b = tree_from (suc v) (n - suc v) (half b)
 
       fine : (b : Bool) → Fine (suc v) n (sub b)
-      fine b = fine-from (n - suc v) (suc v) n (half b) (omega arith)
+      fine b = fine_from (n - suc v) (suc v) n (half b) (omega arith)
 
       says : (b : Bool) → Same (eval (sub b)) (half b)
-      says b = eval-from (n - suc v) (suc v) n (half b) (omega arith) (asks-put v n g b a)
+      says b = eval_from (n - suc v) (suc v) n (half b) (omega arith) (asks_put v n g b a)
 
       own : (b : Bool) → tree_of n (half b) ≡ sub b
       own b =
-          tree-one (half b) (asks-wider (suc v) n 0 n (half b) (omega arith) (omega arith) (asks-put v n g b a)) (sub b)
-          (fine-lower (suc v) n 0 (sub b) (omega arith) (fine b)) (says b)
+          tree_one (half b) (asks_wider (suc v) n 0 n (half b) (omega arith) (omega arith) (asks_put v n g b a)) (sub b)
+          (fine_lower (suc v) n 0 (sub b) (omega arith) (fine b)) (says b)

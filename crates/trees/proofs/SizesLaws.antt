@@ -8,49 +8,49 @@ use borrow.Author.Tests.{eqb-true, eq-eqb}
 use lib.Dec.{eqb}
 use lib.ListN.{length, get_or, replicate, length-append, length-map, length-replicate, get_or-append, get_or-map}
 use Rattle.trees.specs.Tree.{Tree, off}
-use Rattle.trees.specs.Table.{addTree}
-use Rattle.trees.specs.Sizes.{nodeCount, sizesOf, same_numbers, sizesRight}
-use Rattle.trees.proofs.Tests.{and-true-l, and_true_r}
-use Rattle.trees.proofs.CanonicalLaws.{zeros-past}
+use Rattle.trees.specs.Table.{add_tree}
+use Rattle.trees.specs.Sizes.{node_count, sizes_of, same_numbers, sizes_right}
+use Rattle.trees.proofs.Tests.{and_true_l, and_true_r}
+use Rattle.trees.proofs.CanonicalLaws.{zeros_past}
 
 -- there are 64 sizes
-pub sizes-length : (ds : List Tree) → length ds ≤ 64 → length (sizesOf ds) ≡ 64
-unfolding sizesOf
-sizes-length ds h = rw (length-append, length-map, length-replicate) (omega arith)
+pub sizes_length : (ds : List Tree) → length ds ≤ 64 → length (sizes_of ds) ≡ 64
+unfolding sizes_of
+sizes_length ds h = rw (length-append, length-map, length-replicate) (omega arith)
 
 -- of each row, the count of its diagram's nodes
-pub sizes-at : (ds : List Tree) (i : ℕ) → i < length ds → get_or (sizesOf ds) i 0 ≡ nodeCount (get_or ds i off)
-unfolding sizesOf addTree
-sizes-at ds i h =
-    let e = length-map ds nodeCount in
-    get_or-append (map nodeCount ds) (replicate (64 - length ds) 0) 0 i (omega arith) ∙ get_or-map nodeCount ds i off
+pub sizes_at : (ds : List Tree) (i : ℕ) → i < length ds → get_or (sizes_of ds) i 0 ≡ node_count (get_or ds i off)
+unfolding sizes_of add_tree
+sizes_at ds i h =
+    let e = length-map ds node_count in
+    get_or-append (map node_count ds) (replicate (64 - length ds) 0) 0 i (omega arith) ∙ get_or-map node_count ds i off
 
 -- past the rows, 0
-pub sizes-past : (ds : List Tree) (i : ℕ) → length ds ≤ i → get_or (sizesOf ds) i 0 ≡ 0
-unfolding sizesOf
-sizes-past ds i h = let e = length-map ds nodeCount in zeros-past (map nodeCount ds) (64 - length ds) i (omega arith)
+pub sizes_past : (ds : List Tree) (i : ℕ) → length ds ≤ i → get_or (sizes_of ds) i 0 ≡ 0
+unfolding sizes_of
+sizes_past ds i h = let e = length-map ds node_count in zeros_past (map node_count ds) (64 - length ds) i (omega arith)
 
 -- the test of two lists is their equality
-pub same-numbers : (xs : List ℕ) → same_numbers xs xs ≡ true
+pub same_numbers_law : (xs : List ℕ) → same_numbers xs xs ≡ true
 unfolding same_numbers
-same-numbers [] = refl
-same-numbers (x ∷ xs) = rw (eq-eqb x x refl) (same-numbers xs)
+same_numbers_law [] = refl
+same_numbers_law (x ∷ xs) = rw (eq-eqb x x refl) (same_numbers_law xs)
 
-pub numbers-same : (xs ys : List ℕ) → same_numbers xs ys ≡ true → xs ≡ ys
+pub numbers_same : (xs ys : List ℕ) → same_numbers xs ys ≡ true → xs ≡ ys
 unfolding same_numbers
-numbers-same [] [] e = refl
-numbers-same [] (y ∷ ys) e = absurd (true≢false (sym e))
-numbers-same (x ∷ xs) [] e = absurd (true≢false (sym e))
-numbers-same (x ∷ xs) (y ∷ ys) e =
-    let one : x ≡ y = eqb-true x y (and-true-l (eqb x y) (same_numbers xs ys) e) in
-    let more : xs ≡ ys = numbers-same xs ys (and_true_r (eqb x y) (same_numbers xs ys) e) in
+numbers_same [] [] e = refl
+numbers_same [] (y ∷ ys) e = absurd (true≢false (sym e))
+numbers_same (x ∷ xs) [] e = absurd (true≢false (sym e))
+numbers_same (x ∷ xs) (y ∷ ys) e =
+    let one : x ≡ y = eqb-true x y (and_true_l (eqb x y) (same_numbers xs ys) e) in
+    let more : xs ≡ ys = numbers_same xs ys (and_true_r (eqb x y) (same_numbers xs ys) e) in
     cc
 
 -- the sizes told are right exactly if they are the diagrams' sizes
-pub sizes-right : (told : List ℕ) (ds : List Tree) → told ≡ sizesOf ds → sizesRight told ds ≡ true
-unfolding sizesRight
-sizes-right told ds e = rw e (same-numbers (sizesOf ds))
+pub sizes_right_law : (told : List ℕ) (ds : List Tree) → told ≡ sizes_of ds → sizes_right told ds ≡ true
+unfolding sizes_right
+sizes_right_law told ds e = rw e (same_numbers_law (sizes_of ds))
 
-pub right-sizes : (told : List ℕ) (ds : List Tree) → sizesRight told ds ≡ true → told ≡ sizesOf ds
-unfolding sizesRight
-right-sizes told ds = numbers-same told (sizesOf ds)
+pub right_sizes : (told : List ℕ) (ds : List Tree) → sizes_right told ds ≡ true → told ≡ sizes_of ds
+unfolding sizes_right
+right_sizes told ds = numbers_same told (sizes_of ds)

@@ -3,7 +3,7 @@
 -- its count together: the root's reference, and two for each node that is taken apart. Assumes nothing: these are definitions.
 use Rattle.std.specs.Prelude.{ℕ, zero, suc, ◌+◌, ◌*◌, ◌-◌, ◌≤◌, ◌<◌, ◌≡◌, List, [], ◌∷◌, map, length, get_or, set}
 use Rattle.trees.specs.Tree.{Tree, mk}
-use Rattle.trees.specs.Table.{addTree, addTrees, at, refOf, treesOf, Ref}
+use Rattle.trees.specs.Table.{add_tree, add_trees, at, ref_of, trees_of, Ref}
 
 -- what a walk leaves: the table that it adds to, its notes, its answer, and how many visits it made
 pub record Went : Type 0 where
@@ -31,8 +31,8 @@ visit leaf us notes (suc (suc j)) apart = recall (get_or notes j 0) us notes (ap
 unfoldable pub keep : ℕ → ℕ → Went → Went → Went
 keep j l x y =
     let d = mk l (at y.table x.answer) (at y.table y.answer) in
-    let us = addTree y.table d in
-    record { table = us; notes = set y.notes j (suc (refOf us d)); answer = refOf us d; visits = suc (x.visits + y.visits) }
+    let us = add_tree y.table d in
+    record { table = us; notes = set y.notes j (suc (ref_of us d)); answer = ref_of us d; visits = suc (x.visits + y.visits) }
 
 -- The walk from a reference into the nodes ns: a node without a note is taken apart, its low reference followed, then its
 -- high one. At most `left` levels are left to ask.
@@ -70,19 +70,19 @@ sweeps ns levels us notes (r ∷ rs) =
 -- what is asked of its diagram
 pub record Right (ns : List ℕ) (m : ℕ) (F : Tree → Tree) (us : List Tree) (notes : List ℕ) : Type 0 where
   pub long : m ≤ length notes
-  pub hit : (j r : ℕ) → j < m → get_or notes j 0 ≡ suc r → Ref us r (F (at (treesOf ns m) (suc (suc j))))
+  pub hit : (j r : ℕ) → j < m → get_or notes j 0 ≡ suc r → Ref us r (F (at (trees_of ns m) (suc (suc j))))
 
 -- what is asked of p's diagram was added to us, the answer leads to it, and the notes are right
 pub record Answered (ns : List ℕ) (m : ℕ) (F : Tree → Tree) (us : List Tree) (p : ℕ) (w : Went) : Type 0 where
-  pub trees : w.table ≡ addTree us (F (at (treesOf ns m) p))
-  pub ref : Ref w.table w.answer (F (at (treesOf ns m) p))
+  pub trees : w.table ≡ add_tree us (F (at (trees_of ns m) p))
+  pub ref : Ref w.table w.answer (F (at (trees_of ns m) p))
   pub right : Right ns m F w.table w.notes
 
 -- the diagrams of all rows were added to us in order, and each answer leads to its row's
 pub record AnsweredAll (ns : List ℕ) (m : ℕ) (us : List Tree) (rs : List ℕ) (w : Swept) : Type 0 where
-  pub trees : w.table ≡ addTrees us (map (at (treesOf ns m)) rs)
+  pub trees : w.table ≡ add_trees us (map (at (trees_of ns m)) rs)
   pub wide : length w.answers ≡ length rs
-  pub refs : (i : ℕ) → i < length rs → Ref w.table (get_or w.answers i 0) (at (treesOf ns m) (get_or rs i 0))
+  pub refs : (i : ℕ) → i < length rs → Ref w.table (get_or w.answers i 0) (at (trees_of ns m) (get_or rs i 0))
 
 -- what code that walks leaves and answers is what the definition says: table, notes, answer and visits
 pub record Refines (w : Went) (us : List Tree) (noted : List ℕ) (r v : ℕ) : Type 0 where

@@ -5,15 +5,15 @@ use mathlib.Core.List.{List}
 use native.Mathlib.Omega.{arith}
 use lib.ListN.{get_or}
 use Rattle.trees.specs.Tree.{Fine}
-use Rattle.trees.specs.Table.{at, treesOf}
+use Rattle.trees.specs.Table.{at, trees_of}
 use Rattle.walks.specs.Walks.{Within}
 use Rattle.walks.specs.Desks.{Desk}
 use Rattle.making.specs.Tables.{Shelf}
 
 -- a table with its chains, and zeros for the map and the memory
-pub desk-none : {ns : List ℕ} {n : ℕ} {w : List ℕ} {c : ℕ} (levels slots : ℕ) → Shelf ns n w c → 1 ≤ slots → slots ≤ 2 * c
+pub desk_none : {ns : List ℕ} {n : ℕ} {w : List ℕ} {c : ℕ} (levels slots : ℕ) → Shelf ns n w c → 1 ≤ slots → slots ≤ 2 * c
     → ((i : ℕ) → 4 * c ≤ i → i < 5 * c + 4 * slots → get_or w i 0 ≡ 0) → Desk ns n levels w c slots
-desk-none {c = c} levels slots s some few z = record {
+desk_none {c = c} levels slots s some few z = record {
   shelf = s;
   some = some;
   fits = few;
@@ -27,5 +27,5 @@ desk-none {c = c} levels slots s some few z = record {
 }
 
 -- a reference of a diagram over all levels
-pub within_all : (ns : List ℕ) (n levels p : ℕ) → p < n + 2 → Fine 0 levels (at (treesOf ns n) p) → Within ns n levels levels p
+pub within_all : (ns : List ℕ) (n levels p : ℕ) → p < n + 2 → Fine 0 levels (at (trees_of ns n) p) → Within ns n levels levels p
 within_all ns n levels p h f = let e : levels - levels ≡ 0 = omega arith in record { below = h; fine = rw e f }

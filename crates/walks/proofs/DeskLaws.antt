@@ -5,103 +5,103 @@ use mathlib.Core.List.{List}
 use native.Mathlib.Omega.{arith}
 use lib.ListN.{length, get_or, set, length-set}
 use lib.Seq.{get_or-set_other}
-use Rattle.trees.specs.Tree.{Tree, notT}
-use Rattle.trees.specs.Table.{at, treesOf, Ref}
+use Rattle.trees.specs.Tree.{Tree, not_t}
+use Rattle.trees.specs.Table.{at, trees_of, Ref}
 use Rattle.making.specs.declared.Made.{Made}
 use Rattle.making.specs.declared.Made.TheVariants.{Full, At}
 use Rattle.nodes.specs.Nodes.{Front, Grown}
 use Rattle.nodes.proofs.ChainLaws.{chained_same}
-use Rattle.nodes.proofs.ReadLaws.{grown-count}
+use Rattle.nodes.proofs.ReadLaws.{grown_count}
 use Rattle.making.specs.Tables.{Added, Shelf, Shelved, Spot, noted}
 use Rattle.walks.specs.Desks.{recalled, Key, Desk, Remembered}
-use Rattle.making.proofs.WalkLaws.{kept, front_less, front-trans}
-use Rattle.walks.proofs.MemoryLaws.{key-later, recalled-kept, memory-same, memory-grown, noted_other, memory-note}
-use Rattle.walks.proofs.NotLaws.{map_same, map-grown, map-set}
+use Rattle.making.proofs.WalkLaws.{kept, front_less, front_trans}
+use Rattle.walks.proofs.MemoryLaws.{key_later, recalled_kept, memory_same, memory_grown, noted_other, memory_note}
+use Rattle.walks.proofs.NotLaws.{map_same, map_grown, map_set}
 
 -- a slice that differs only before the chains
-shelf-same : {ns : List ℕ} {n : ℕ} {w w' : List ℕ} {c : ℕ} → Shelf ns n w c → length w' ≡ length w → ((x : ℕ) → 13 * c ≤ x → get_or w' x 0 ≡ get_or w x 0) → Shelf ns n w' c
-shelf-same {ns} {c = c} s size e =
+shelf_same : {ns : List ℕ} {n : ℕ} {w w' : List ℕ} {c : ℕ} → Shelf ns n w c → length w' ≡ length w → ((x : ℕ) → 13 * c ≤ x → get_or w' x 0 ≡ get_or w x 0) → Shelf ns n w' c
+shelf_same {ns} {c = c} s size e =
     let third : length ns / 3 ≡ c = omega (arith, s.size) in
     record { table = s.table; size = s.size; some = s.some; long = rw size s.long; chains = chained_same s.chains (rw third (record { eq = e })) }
 
 module _ {ns : List ℕ} {n levels : ℕ} {w : List ℕ} {c slots : ℕ} (k : Desk ns n levels w c slots) where
   -- a place of the memory or of the map is one of the slice
-  pub spot-inside : {i : ℕ} → Spot c slots i → i + 3 < 13 * c
-  spot-inside p = omega (arith, p.inside, p.is, k.fits)
+  pub spot_inside : {i : ℕ} → Spot c slots i → i + 3 < 13 * c
+  spot_inside p = omega (arith, p.inside, p.is, k.fits)
 
-  pub work-long : 15 * c ≤ length w
-  work-long = k.shelf.long
+  pub work_long : 15 * c ≤ length w
+  work_long = k.shelf.long
 
   -- nodes were made
-  pub desk-shelved : {ms : List ℕ} {m r : ℕ} {t : Tree} {w' : List ℕ} → Grown ns ms n m r t → Shelved w ms m w' c → Desk ms m levels w' c slots
-  desk-shelved g s = record {
+  pub desk_shelved : {ms : List ℕ} {m r : ℕ} {t : Tree} {w' : List ℕ} → Grown ns ms n m r t → Shelved w ms m w' c → Desk ms m levels w' c slots
+  desk_shelved g s = record {
     shelf = s.shelf;
     some = k.some;
     fits = k.fits;
-    complements = map_same (λ x h l. s.same.eq x (omega arith)) (map-grown g k.complements);
-    memory = memory-same k.fits (λ x h l. s.same.eq x l) (memory-grown g k.memory);
+    complements = map_same (λ x h l. s.same.eq x (omega arith)) (map_grown g k.complements);
+    memory = memory_same k.fits (λ x h l. s.same.eq x l) (memory_grown g k.memory);
   }
 
   -- the same of a walk that only makes nodes
-  pub desk-added : (w' ms : List ℕ) (t : Tree) (m : Made) → Added (λ xs j. Shelved w xs j w' c) ns ms n t m → Added (λ xs j. Remembered w xs j levels w' c slots) ns ms n t m
-  desk-added w' ms t Full g = g
-  desk-added w' ms t (At m r) g = (g.0, record { desk = desk-shelved g.0 g.1; same = front_less g.1.same (omega arith) })
+  pub desk_added : (w' ms : List ℕ) (t : Tree) (m : Made) → Added (λ xs j. Shelved w xs j w' c) ns ms n t m → Added (λ xs j. Remembered w xs j levels w' c slots) ns ms n t m
+  desk_added w' ms t Full g = g
+  desk_added w' ms t (At m r) g = (g.0, record { desk = desk_shelved g.0 g.1; same = front_less g.1.same (omega arith) })
 
   -- a result is noted
-  desk-noted : (i a b d r : ℕ) → Spot c slots i → Key n a b d → Ref (treesOf ns n) r (recalled levels (treesOf ns n) a b d) → Desk ns n levels (noted w i a b d r) c slots
-  desk-noted i a b d r p q v =
-      let inside = spot-inside p in
-      let long = work-long in
+  desk_noted : (i a b d r : ℕ) → Spot c slots i → Key n a b d → Ref (trees_of ns n) r (recalled levels (trees_of ns n) a b d) → Desk ns n levels (noted w i a b d r) c slots
+  desk_noted i a b d r p q v =
+      let inside = spot_inside p in
+      let long = work_long in
       let first : 5 * c ≤ i = omega (arith, p.is) in
       let other = noted_other w i a b d r (omega arith) in
       record {
-        shelf = shelf-same k.shelf (simp length-set) (λ x h. other x (λ _. omega arith));
+        shelf = shelf_same k.shelf (simp length-set) (λ x h. other x (λ _. omega arith));
         some = k.some;
         fits = k.fits;
         complements = map_same (λ x h l. other x (λ z. absurd (omega arith))) k.complements;
-        memory = memory-note k.memory i a b d r p (omega arith) q v;
+        memory = memory_note k.memory i a b d r p (omega arith) q v;
       }
 
   -- a complement is noted
-  desk-mapped : (j r : ℕ) → j < n → Ref (treesOf ns n) r (notT levels (at (treesOf ns n) (j + 2))) → Desk ns n levels (set w (4 * c + j) (r + 1)) c slots
-  desk-mapped j r h v =
-      let long = work-long in
+  desk_mapped : (j r : ℕ) → j < n → Ref (trees_of ns n) r (not_t levels (at (trees_of ns n) (j + 2))) → Desk ns n levels (set w (4 * c + j) (r + 1)) c slots
+  desk_mapped j r h v =
+      let long = work_long in
       let few : j < c = omega (arith, k.shelf.size, k.shelf.table.fits) in
       let other : (x : ℕ) → 5 * c ≤ x → get_or (set w (4 * c + j) (r + 1)) x 0 ≡ get_or w x 0 = λ x l. get_or-set_other w (4 * c + j) x (r + 1) 0 (λ e. omega arith) in
       record {
-        shelf = shelf-same k.shelf (simp length-set) (λ x l. other x (omega arith));
+        shelf = shelf_same k.shelf (simp length-set) (λ x l. other x (omega arith));
         some = k.some;
         fits = k.fits;
-        complements = map-set k.complements j r h (omega arith) v;
-        memory = memory-same k.fits (λ x l _. other x l) k.memory;
+        complements = map_set k.complements j r h (omega arith) v;
+        memory = memory_same k.fits (λ x l _. other x l) k.memory;
       }
 
 -- the diagram that was made is what a key stands for, and is noted
-pub desk-keep : {ns : List ℕ} {n levels : ℕ} {w : List ℕ} {c slots : ℕ} → Desk ns n levels w c slots → (i a b d : ℕ) → Spot c slots i → Key n a b d
-    → {ms : List ℕ} {m r : ℕ} {t : Tree} {w' : List ℕ} → recalled levels (treesOf ns n) a b d ≡ t → Grown ns ms n m r t → Shelved w ms m w' c → Remembered w ms m levels (noted w' i a b d r) c slots
-desk-keep {levels = levels} {w} {c} k i a b d p q {r = r} {w' = w'} e g s =
-    let k' = desk-shelved k g s in
-    let long = work-long k' in
-    let inside = spot-inside k' p in
+pub desk_keep : {ns : List ℕ} {n levels : ℕ} {w : List ℕ} {c slots : ℕ} → Desk ns n levels w c slots → (i a b d : ℕ) → Spot c slots i → Key n a b d
+    → {ms : List ℕ} {m r : ℕ} {t : Tree} {w' : List ℕ} → recalled levels (trees_of ns n) a b d ≡ t → Grown ns ms n m r t → Shelved w ms m w' c → Remembered w ms m levels (noted w' i a b d r) c slots
+desk_keep {levels = levels} {w} {c} k i a b d p q {r = r} {w' = w'} e g s =
+    let k' = desk_shelved k g s in
+    let long = work_long k' in
+    let inside = spot_inside k' p in
     let first : 5 * c ≤ i = omega (arith, p.is) in
     record {
-      desk = desk-noted k' i a b d r p (key-later (grown-count g) q) (rw (recalled-kept g levels a b d q, e) g.ref);
+      desk = desk_noted k' i a b d r p (key_later (grown_count g) q) (rw (recalled_kept g levels a b d q, e) g.ref);
       same = record { eq = λ x h. noted_other w' i a b d r (omega arith) x (λ z. absurd (omega arith)) ∙ s.same.eq x (omega arith) };
     }
 
 -- nothing is made
-pub desk-stays : {ns : List ℕ} {n levels : ℕ} {w : List ℕ} {c slots : ℕ} → Desk ns n levels w c slots → Remembered w ns n levels w c slots
-desk-stays k = record { desk = k; same = record { eq = λ i h. refl } }
+pub desk_stays : {ns : List ℕ} {n levels : ℕ} {w : List ℕ} {c slots : ℕ} → Desk ns n levels w c slots → Remembered w ns n levels w c slots
+desk_stays k = record { desk = k; same = record { eq = λ i h. refl } }
 
 -- one walk after another, each of which only makes and remembers
-pub desk-then : (c : ℕ) {w₀ w₁ : List ℕ} → Front (5 * c) w₀ w₁ → (levels slots : ℕ) (w₂ ns ms : List ℕ) (n : ℕ) (t : Tree) (m : Made)
+pub desk_then : (c : ℕ) {w₀ w₁ : List ℕ} → Front (5 * c) w₀ w₁ → (levels slots : ℕ) (w₂ ns ms : List ℕ) (n : ℕ) (t : Tree) (m : Made)
     → Added (λ xs j. Remembered w₁ xs j levels w₂ c slots) ns ms n t m → Added (λ xs j. Remembered w₀ xs j levels w₂ c slots) ns ms n t m
-desk-then c e levels slots w₂ ns ms n t Full g = g
-desk-then c e levels slots w₂ ns ms n t (At m r) g = (g.0, record { desk = g.1.desk; same = front-trans e g.1.same (omega arith) })
+desk_then c e levels slots w₂ ns ms n t Full g = g
+desk_then c e levels slots w₂ ns ms n t (At m r) g = (g.0, record { desk = g.1.desk; same = front_trans e g.1.same (omega arith) })
 
 -- the same of a complement
-pub desk-keep-not : {ns : List ℕ} {n levels : ℕ} {w : List ℕ} {c slots : ℕ} → Desk ns n levels w c slots → (p : ℕ) → 2 ≤ p → p < n + 2
-    → {ms : List ℕ} {m r : ℕ} {t : Tree} {w' : List ℕ} → notT levels (at (treesOf ns n) p) ≡ t → Grown ns ms n m r t → Shelved w ms m w' c → Desk ms m levels (set w' (4 * c + (p - 2)) (r + 1)) c slots
-desk-keep-not {levels = levels} k p h l {r = r} e g s =
+pub desk_keep_not : {ns : List ℕ} {n levels : ℕ} {w : List ℕ} {c slots : ℕ} → Desk ns n levels w c slots → (p : ℕ) → 2 ≤ p → p < n + 2
+    → {ms : List ℕ} {m r : ℕ} {t : Tree} {w' : List ℕ} → not_t levels (at (trees_of ns n) p) ≡ t → Grown ns ms n m r t → Shelved w ms m w' c → Desk ms m levels (set w' (4 * c + (p - 2)) (r + 1)) c slots
+desk_keep_not {levels = levels} k p h l {r = r} e g s =
     let q : p - 2 + 2 ≡ p = omega arith in
-    desk-mapped (desk-shelved k g s) (p - 2) r (omega (arith, grown-count g)) (rw (q, kept g p l, e) g.ref)
+    desk_mapped (desk_shelved k g s) (p - 2) r (omega (arith, grown_count g)) (rw (q, kept g p l, e) g.ref)

@@ -6,51 +6,51 @@ use native.Mathlib.Decide.{ℕ_discrete}
 use native.Mathlib.Omega.{arith}
 use lib.ListN.{length, get_or, set, length-set}
 use lib.Seq.{get_or-set_same, get_or-set_other}
-use Rattle.trees.specs.Tree.{Tree, mk, sinceT, dropT}
-use Rattle.trees.specs.Table.{at, treesOf, Ref}
+use Rattle.trees.specs.Tree.{Tree, mk, since_t, drop_t}
+use Rattle.trees.specs.Table.{at, trees_of, Ref}
 use Rattle.trees.proofs.TableLaws.{goes_ref}
 use Rattle.nodes.specs.Nodes.{Table, Grown}
 use Rattle.walks.specs.Walks.{Within}
 use Rattle.walks.specs.Desks.{recalled, Key, Memory}
 use Rattle.making.specs.Tables.{Spot, SlotIs, noted, Looked}
-use Rattle.trees.proofs.ReadLaws.{length-trees}
-use Rattle.nodes.proofs.ReadLaws.{grown-goes, grown-count, grown-ref, stays}
+use Rattle.trees.proofs.ReadLaws.{length_trees}
+use Rattle.nodes.proofs.ReadLaws.{grown_goes, grown_count, grown_ref, stays}
 use Rattle.making.proofs.WalkLaws.{kept}
 
 -- the key of a since
-pub recalled-since : (levels : ℕ) (ts : List Tree) (a b c : ℕ) → 1 ≤ a → recalled levels ts a b c ≡ sinceT levels (at ts a) (at ts b) (at ts c)
+pub recalled_since : (levels : ℕ) (ts : List Tree) (a b c : ℕ) → 1 ≤ a → recalled levels ts a b c ≡ since_t levels (at ts a) (at ts b) (at ts c)
 unfolding recalled
-recalled-since levels ts zero b c h = absurd (omega arith)
-recalled-since levels ts (suc a) b c h = refl
+recalled_since levels ts zero b c h = absurd (omega arith)
+recalled_since levels ts (suc a) b c h = refl
 
 -- the key of a removal
-pub recalled-drop : (levels : ℕ) (ts : List Tree) (b c : ℕ) → recalled levels ts 0 b c ≡ dropT levels b (at ts c)
+pub recalled_drop : (levels : ℕ) (ts : List Tree) (b c : ℕ) → recalled levels ts 0 b c ≡ drop_t levels b (at ts c)
 unfolding recalled
-recalled-drop levels ts b c = refl
+recalled_drop levels ts b c = refl
 
 -- a key stays one while the table grows
-pub key-later : {n m a b c : ℕ} → n ≤ m → Key n a b c → Key m a b c
-key-later le k = record { first = omega (arith, k.first); second = λ h. omega (arith, k.second h); third = omega (arith, k.third) }
+pub key_later : {n m a b c : ℕ} → n ≤ m → Key n a b c → Key m a b c
+key_later le k = record { first = omega (arith, k.first); second = λ h. omega (arith, k.second h); third = omega (arith, k.third) }
 
 -- three references are a key
-pub since-key : {ns : List ℕ} {n levels left a b c : ℕ} → Within ns n levels left a → Within ns n levels left b → Within ns n levels left c → Key n a b c
-since-key wa wb wc = record { first = wa.below; second = λ _. wb.below; third = wc.below }
+pub since_key : {ns : List ℕ} {n levels left a b c : ℕ} → Within ns n levels left a → Within ns n levels left b → Within ns n levels left c → Key n a b c
+since_key wa wb wc = record { first = wa.below; second = λ _. wb.below; third = wc.below }
 
 -- a level and a reference are a key
-pub drop-key : {ns : List ℕ} {n levels left p : ℕ} (v : ℕ) → Within ns n levels left p → Key n 0 v p
-drop-key v w = record { first = omega arith; second = λ h. absurd (omega arith); third = w.below }
+pub drop_key : {ns : List ℕ} {n levels left p : ℕ} (v : ℕ) → Within ns n levels left p → Key n 0 v p
+drop_key v w = record { first = omega arith; second = λ h. absurd (omega arith); third = w.below }
 
 -- a key stands for the same while the table grows
-pub recalled-kept : {ns ms : List ℕ} {n m r : ℕ} {d : Tree} → Grown ns ms n m r d → (levels a b c : ℕ) → Key n a b c
-    → recalled levels (treesOf ms m) a b c ≡ recalled levels (treesOf ns n) a b c
+pub recalled_kept : {ns ms : List ℕ} {n m r : ℕ} {d : Tree} → Grown ns ms n m r d → (levels a b c : ℕ) → Key n a b c
+    → recalled levels (trees_of ms m) a b c ≡ recalled levels (trees_of ns n) a b c
 unfolding recalled
-recalled-kept g levels zero b c k = rw (kept g c k.third)
-recalled-kept g levels (suc a) b c k = rw (kept g (suc a) k.first, kept g b (k.second (omega arith)), kept g c k.third)
+recalled_kept g levels zero b c k = rw (kept g c k.third)
+recalled_kept g levels (suc a) b c k = rw (kept g (suc a) k.first, kept g b (k.second (omega arith)), kept g c k.third)
 
 -- the memory does not change where only other numbers do
-pub memory-same : {ns w w' : List ℕ} {n levels c slots : ℕ} → slots ≤ 2 * c → ((x : ℕ) → 5 * c ≤ x → x < 13 * c → get_or w' x 0 ≡ get_or w x 0)
+pub memory_same : {ns w w' : List ℕ} {n levels c slots : ℕ} → slots ≤ 2 * c → ((x : ℕ) → 5 * c ≤ x → x < 13 * c → get_or w' x 0 ≡ get_or w x 0)
     → Memory ns n levels w c slots → Memory ns n levels w' c slots
-memory-same few e o = record {
+memory_same few e o = record {
   hit = λ i a b d r p s.
       let q = p.is in
       let h = p.inside in
@@ -63,16 +63,16 @@ memory-same few e o = record {
 }
 
 -- a memory stays one while the table grows
-pub memory-grown : {ns ms : List ℕ} {n m r levels : ℕ} {d : Tree} {w : List ℕ} {c slots : ℕ} → Grown ns ms n m r d → Memory ns n levels w c slots → Memory ms m levels w c slots
-memory-grown {levels = levels} g o = record {
-  hit = λ i a b d r p s. let k = o.hit i a b d r p s in (key-later (grown-count g) k.0, rw (recalled-kept g levels a b d k.0) (goes_ref (grown-goes g) k.1));
+pub memory_grown : {ns ms : List ℕ} {n m r levels : ℕ} {d : Tree} {w : List ℕ} {c slots : ℕ} → Grown ns ms n m r d → Memory ns n levels w c slots → Memory ms m levels w c slots
+memory_grown {levels = levels} g o = record {
+  hit = λ i a b d r p s. let k = o.hit i a b d r p s in (key_later (grown_count g) k.0, rw (recalled_kept g levels a b d k.0) (goes_ref (grown_goes g) k.1));
 }
 
 -- the four numbers of a slot that is written, and of any other slot
 module _ (w : List ℕ) (i a b d r : ℕ) (room : i + 3 < length w) where
   -- the numbers of the slot
-  slot-own : SlotIs (noted w i a b d r) i a b d (r + 1)
-  slot-own = record {
+  slot_own : SlotIs (noted w i a b d r) i a b d (r + 1)
+  slot_own = record {
     first = rw (
       get_or-set_other _ (i + 3) i (r + 1) 0 (omega arith),
       get_or-set_other _ (i + 2) i d 0 (omega arith),
@@ -98,8 +98,8 @@ module _ (w : List ℕ) (i a b d r : ℕ) (room : i + 3 < length w) where
   )
 
   -- the numbers of another slot
-  slot-other : (j x y z q : ℕ) → (i ≤ j + 3 → i + 3 < j) → SlotIs (noted w i a b d r) j x y z q → SlotIs w j x y z q
-  slot-other j x y z q f s = record {
+  slot_other : (j x y z q : ℕ) → (i ≤ j + 3 → i + 3 < j) → SlotIs (noted w i a b d r) j x y z q → SlotIs w j x y z q
+  slot_other j x y z q f s = record {
     first = sym (noted_other j (λ h. f (omega arith))) ∙ s.first;
     second = sym (noted_other (j + 1) (λ h. omega (arith, f (omega arith)))) ∙ s.second;
     third = sym (noted_other (j + 2) (λ h. omega (arith, f (omega arith)))) ∙ s.third;
@@ -107,35 +107,35 @@ module _ (w : List ℕ) (i a b d r : ℕ) (room : i + 3 < length w) where
   }
 
 -- one more note
-pub memory-note : {ns w : List ℕ} {n levels c slots : ℕ} → Memory ns n levels w c slots → (i a b d r : ℕ) → Spot c slots i → i + 3 < length w
-    → Key n a b d → Ref (treesOf ns n) r (recalled levels (treesOf ns n) a b d) → Memory ns n levels (noted w i a b d r) c slots
-memory-note {ns} {w} {n} {levels} {c} {slots} o i a b d r at_i room k v = record { hit = λ j x y z q p s. go j x y z q p s (ℕ_discrete j i) }
+pub memory_note : {ns w : List ℕ} {n levels c slots : ℕ} → Memory ns n levels w c slots → (i a b d r : ℕ) → Spot c slots i → i + 3 < length w
+    → Key n a b d → Ref (trees_of ns n) r (recalled levels (trees_of ns n) a b d) → Memory ns n levels (noted w i a b d r) c slots
+memory_note {ns} {w} {n} {levels} {c} {slots} o i a b d r at_i room k v = record { hit = λ j x y z q p s. go j x y z q p s (ℕ_discrete j i) }
   where
-    go : (j x y z q : ℕ) → Spot c slots j → SlotIs (noted w i a b d r) j x y z (q + 1) → Dec (j ≡ i) → Key n x y z × Ref (treesOf ns n) q (recalled levels (treesOf ns n) x y z)
+    go : (j x y z q : ℕ) → Spot c slots j → SlotIs (noted w i a b d r) j x y z (q + 1) → Dec (j ≡ i) → Key n x y z × Ref (trees_of ns n) q (recalled levels (trees_of ns n) x y z)
     go j x y z q p s (yes e) =
-        let own = slot-own w i a b d r room in
+        let own = slot_own w i a b d r room in
         let t = rw e at s in
         let ea : x ≡ a = sym t.first ∙ own.first in
         let eb : y ≡ b = sym t.second ∙ own.second in
         let ed : z ≡ d = sym t.third ∙ own.third in
         let er : q ≡ r = omega (arith, t.result, own.result) in
         rw (ea, eb, ed, er) (k, v)
-    go j x y z q p s (no e) = o.hit j x y z q p (slot-other w i a b d r room j x y z (q + 1) (λ h. apart h) s)
+    go j x y z q p s (no e) = o.hit j x y z q p (slot_other w i a b d r room j x y z (q + 1) (λ h. apart h) s)
       where
         apart : i ≤ j + 3 → i + 3 < j
         apart h = let u = p.is in let v = at_i.is in omega arith
 
 -- what the memory has for a key is the result
-pub memory-hit : {ns w : List ℕ} {n levels c slots : ℕ} → Table ns n → Memory ns n levels w c slots → {i : ℕ} → Spot c slots i → (a b d h : ℕ) → Looked w i a b d h → 0 < h
-    → Grown ns ns n n (h - 1) (recalled levels (treesOf ns n) a b d)
-memory-hit {ns} {w} {n} t o {i} p a b d h f k =
+pub memory_hit : {ns w : List ℕ} {n levels c slots : ℕ} → Table ns n → Memory ns n levels w c slots → {i : ℕ} → Spot c slots i → (a b d h : ℕ) → Looked w i a b d h → 0 < h
+    → Grown ns ns n n (h - 1) (recalled levels (trees_of ns n) a b d)
+memory_hit {ns} {w} {n} t o {i} p a b d h f k =
     let e : h ≡ h - 1 + 1 = omega arith in
     let v = (o.hit i a b d (h - 1) p (rw e at (f.found k))).1 in
-    stays ns n (h - 1) _ t (omega (arith, v.below, length-trees ns n)) (sym v.is)
+    stays ns n (h - 1) _ t (omega (arith, v.below, length_trees ns n)) (sym v.is)
 
 -- what a key stands for, after the diagrams of both sides are there
-pub recalled-over : {ns ns₁ ns₂ : List ℕ} {n n₁ n₂ p q : ℕ} {x y : Tree} (levels l a b c : ℕ) → recalled levels (treesOf ns n) a b c ≡ mk l x y
+pub recalled_over : {ns ns₁ ns₂ : List ℕ} {n n₁ n₂ p q : ℕ} {x y : Tree} (levels l a b c : ℕ) → recalled levels (trees_of ns n) a b c ≡ mk l x y
     → Grown ns ns₁ n n₁ p x → Grown ns₁ ns₂ n₁ n₂ q y → Key n a b c
-    → recalled levels (treesOf ns₂ n₂) a b c ≡ mk l (at (treesOf ns₂ n₂) p) (at (treesOf ns₂ n₂) q)
-recalled-over {p = p} levels l a b c e g h k =
-    rw (recalled-kept h levels a b c (key-later (grown-count g) k), recalled-kept g levels a b c k, kept h p (grown-ref g), g.ref.is, h.ref.is) e
+    → recalled levels (trees_of ns₂ n₂) a b c ≡ mk l (at (trees_of ns₂ n₂) p) (at (trees_of ns₂ n₂) q)
+recalled_over {p = p} levels l a b c e g h k =
+    rw (recalled_kept h levels a b c (key_later (grown_count g) k), recalled_kept g levels a b c k, kept h p (grown_ref g), g.ref.is, h.ref.is) e

@@ -4,8 +4,8 @@
 // With c nodes in the node slice, the work slice has the map of complements from 4 * c on, the memory of results, of so many
 // slots, from 5 * c on, and the chains of nodes from 13 * c on and before 15 * c. Assumes that the first n nodes are a table.
 ghost use Rattle.std.specs.Prelude.{◌≡◌, ◌+◌, ◌<◌, ◌≤◌, min, max};
-ghost use Rattle.trees.specs.Tree.{mk, notT, sinceT, dropT};
-ghost use Rattle.trees.specs.Table.{at, treesOf};
+ghost use Rattle.trees.specs.Tree.{mk, not_t, since_t, drop_t};
+ghost use Rattle.trees.specs.Table.{at, trees_of};
 ghost use Rattle.nodes.specs.Nodes.{Table};
 ghost use Rattle.making.specs.Tables.{Added, Spot};
 ghost use Rattle.walks.specs.Walks.{Within, Eased, Forks};
@@ -138,8 +138,8 @@ fn keep(
 ) -> Made
     requires desk { Desk nodes.old n levels work.old c slots }
     requires spot { Spot c slots i × Key n a b d × (x.low < n + 2) × (x.high < n + 2) }
-    requires d_value { recalled levels (treesOf nodes.old n) a b d ≡ mk x.level (at (treesOf nodes.old n) x.low) (at (treesOf nodes.old n) x.high) }
-    ensures { Added (λ ns j. Remembered work.old ns j levels work.new c slots) nodes.old nodes.new n (mk x.level (at (treesOf nodes.old n) x.low) (at (treesOf nodes.old n) x.high)) result }
+    requires d_value { recalled levels (trees_of nodes.old n) a b d ≡ mk x.level (at (trees_of nodes.old n) x.low) (at (trees_of nodes.old n) x.high) }
+    ensures { Added (λ ns j. Remembered work.old ns j levels work.new c slots) nodes.old nodes.new n (mk x.level (at (trees_of nodes.old n) x.low) (at (trees_of nodes.old n) x.high)) result }
 {
     let Made::At(k, r) = make(nodes, work, c, n, x.level, x.low, x.high) else {
         return Made::Full;
@@ -163,7 +163,7 @@ pub fn since_walk(
 ) -> Made
     requires desk { Desk nodes.old n levels work.old c slots }
     requires left_le_levels { (left ≤ levels) × Within nodes.old n levels left l × Within nodes.old n levels left r × Within nodes.old n levels left o }
-    ensures { Added (λ ns j. Remembered work.old ns j levels work.new c slots) nodes.old nodes.new n (sinceT levels (at (treesOf nodes.old n) l) (at (treesOf nodes.old n) r) (at (treesOf nodes.old n) o)) result }
+    ensures { Added (λ ns j. Remembered work.old ns j levels work.new c slots) nodes.old nodes.new n (since_t levels (at (trees_of nodes.old n) l) (at (trees_of nodes.old n) r) (at (trees_of nodes.old n) o)) result }
 {
     let s = settle(l, r, o);
     if s.l == 0 {
@@ -223,8 +223,8 @@ fn keep_not(
 ) -> Counted
     requires desk { Desk nodes.old n levels work.old c slots }
     requires le_p { (2 ≤ p) × (p < n + 2) × (x.low < n + 2) × (x.high < n + 2) }
-    requires p_value { notT levels (at (treesOf nodes.old n) p) ≡ mk x.level (at (treesOf nodes.old n) x.low) (at (treesOf nodes.old n) x.high) }
-    ensures { KeptNot nodes.old nodes.new n levels (mk x.level (at (treesOf nodes.old n) x.low) (at (treesOf nodes.old n) x.high)) p visits work.old work.new c slots result }
+    requires p_value { not_t levels (at (trees_of nodes.old n) p) ≡ mk x.level (at (trees_of nodes.old n) x.low) (at (trees_of nodes.old n) x.high) }
+    ensures { KeptNot nodes.old nodes.new n levels (mk x.level (at (trees_of nodes.old n) x.low) (at (trees_of nodes.old n) x.high)) p visits work.old work.new c slots result }
 {
     let Made::At(k, r) = make(nodes, work, c, n, x.level, x.low, x.high) else {
         return Counted::Full;
@@ -284,7 +284,7 @@ pub fn drop_walk(
 ) -> Made
     requires desk { Desk nodes.old n levels work.old c slots }
     requires left_le_levels { (left ≤ levels) × Within nodes.old n levels left p }
-    ensures { Added (λ ns j. Remembered work.old ns j levels work.new c slots) nodes.old nodes.new n (dropT levels v (at (treesOf nodes.old n) p)) result }
+    ensures { Added (λ ns j. Remembered work.old ns j levels work.new c slots) nodes.old nodes.new n (drop_t levels v (at (trees_of nodes.old n) p)) result }
 {
     if p < 2 {
         return Made::At(n, p);

@@ -7,7 +7,7 @@ use lib.ListN.{length, set, length-set}
 use lib.Seq.{get_or-set_other}
 use Rattle.nodes.specs.Nodes.{Rest}
 use Rattle.age_check.specs.Marks.{Marked}
-use Rattle.age_check.proofs.MarkLaws.{marks-none, marks-more}
+use Rattle.age_check.proofs.MarkLaws.{marks_none, marks_more}
 use Rattle.age_check.proofs.mark_all.Statement.{statement}
 use Rattle.age_check.proofs.mark_all.Tie as tie
 
@@ -28,7 +28,7 @@ slice-write-work-2 : tie.Need-slice-write-work-2 invariant-loop decreases-loop
 slice-write-work-2 c = simp length-set (omega arith)
 
 loop-holds : tie.Need-loop-init invariant-loop decreases-loop
-loop-holds c = let s = c.before.before in (omega arith, omega arith, refl, marks-none s.args.base s.args.nodes.now s.args.kept s.args.work.now (omega arith), record { eq = λ i h. refl })
+loop-holds c = let s = c.before.before in (omega arith, omega arith, refl, marks_none s.args.base s.args.nodes.now s.args.kept s.args.work.now (omega arith), record { eq = λ i h. refl })
 
 add-loop : tie.Need-overflow-add-loop invariant-loop decreases-loop
 add-loop c = let t = c.before.before.before.requires.0 in omega (arith, t.fits, t.small)
@@ -64,7 +64,7 @@ loop-again c =
       omega arith,
       omega (arith, v.1),
       length-set l.loop.work l.loop.r c.weigh.result ∙ v.2,
-      marks-more v.3 (omega (arith, size l, s.requires.1)) c.weigh.ensures,
+      marks_more v.3 (omega (arith, size l, s.requires.1)) c.weigh.ensures,
       record { eq = λ i g. get_or-set_other l.loop.work l.loop.r i c.weigh.result 0 (omega arith) ∙ v.4.eq i g },
     )
 

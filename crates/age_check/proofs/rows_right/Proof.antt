@@ -2,7 +2,7 @@
 use Prim.Native.Nat.{◌-◌, ◌≤◌}
 use native.Mathlib.Omega.{arith}
 use Rattle.age_check.specs.Marks.{AgesRight}
-use Rattle.age_check.proofs.MarkLaws.{rows_more, row-fails}
+use Rattle.age_check.proofs.MarkLaws.{rows_more, row_fails}
 use Rattle.age_check.proofs.rows_right.Statement.{statement}
 use Rattle.age_check.proofs.rows_right.Tie as tie
 
@@ -48,7 +48,7 @@ returns c =
     let l = c.before.before.before.before.before in
     let s = l.before.before.before in
     let k = c.before.before.before.before.loop-test.true in
-    row-fails k (s.requires.1.0 l.loop.i k).1 c.before.age-of.ensures c.if1.true
+    row_fails k (s.requires.1.0 l.loop.i k).1 c.before.age_of_law.ensures c.if1.true
 
 add-i : tie.Need-overflow-add-i invariant-loop decreases-loop
 add-i c = omega arith
@@ -61,7 +61,7 @@ loop-again c =
     let l = c.before.before.before.before.before in
     let s = l.before.before.before in
     let k = c.before.before.before.before.loop-test.true in
-    (omega arith, rows_more l.loop.invariant.1 (s.requires.1.0 l.loop.i k).1 c.before.age-of.ensures (omega (arith, c.if1.false)))
+    (omega arith, rows_more l.loop.invariant.1 (s.requires.1.0 l.loop.i k).1 c.before.age_of_law.ensures (omega (arith, c.if1.false)))
 
 returns-2 : tie.Need-returns-2 invariant-loop decreases-loop
 returns-2 c = record { each = λ i h. c.before.loop.invariant.1.each i (omega (arith, c.loop-test.false)) }

@@ -3,7 +3,7 @@ use Prim.Native.Nat.{max}
 use mathlib.Core.Path.{sym, ap₂, ◌∙◌}
 use native.Mathlib.Omega.{arith}
 use Rattle.nodes.proofs.ReadLaws.{read_below}
-use Rattle.age_check.proofs.MarkLaws.{mark-high, mark-past, mark-none, mark-both, mark-odd, mark-even, bits-le}
+use Rattle.age_check.proofs.MarkLaws.{mark_high, mark_past, mark_none, mark_both, mark_odd, mark_even, bits_le}
 use borrow.Author.Rules.{rules}
 use Rattle.age_check.proofs.weigh.Statement.{statement}
 use Rattle.age_check.proofs.weigh.Tie as tie
@@ -34,7 +34,7 @@ returns : tie.Need-returns
 returns c =
     let at_read = c.before.before.before.before.before in
     let s = at_read.before.before.before in
-    c.greater.ensures ∙ ap₂ max c.before.before.age-of.ensures c.before.age-of2.ensures ∙ sym (mark-high s.requires.0.0 at_read.read.ensures s.args.base c.before.before.before.if1.true)
+    c.greater.ensures ∙ ap₂ max c.before.before.age_of_law.ensures c.before.age-of2.ensures ∙ sym (mark_high s.requires.0.0 at_read.read.ensures s.args.base c.before.before.before.if1.true)
 
 add-if2 : tie.Need-overflow-add-if2
 add-if2 c = search rules
@@ -43,13 +43,13 @@ returns-2 : tie.Need-returns-2
 returns-2 c =
     let at_read = c.before.before.before.before in
     let s = at_read.before.before.before in
-    mark-past s.requires.0.0 at_read.read.ensures s.args.base c.if2.true
+    mark_past s.requires.0.0 at_read.read.ensures s.args.base c.if2.true
 
 returns-3 : tie.Need-returns-3
 returns-3 c =
     let at_read = c.before.before.before.before.before.before.before.before in
     let s = at_read.before.before.before in
-    mark-none s.requires.0.0 at_read.read.ensures s.args.base (omega (arith, c.before.before.before.before.before.before.if1.false)) (omega (arith, c.before.before.before.before.if2.false)) c.before.before.if3.true c.if4.true
+    mark_none s.requires.0.0 at_read.read.ensures s.args.base (omega (arith, c.before.before.before.before.before.before.if1.false)) (omega (arith, c.before.before.before.before.if2.false)) c.before.before.if3.true c.if4.true
 
 bits-of-requires : tie.Need-bits-of-requires
 bits-of-requires c κs =
@@ -63,24 +63,24 @@ returns-4 : tie.Need-returns-4
 returns-4 c =
     let at_read = c.before.before.before.before.before.before.before.before.before.before in
     let s = at_read.before.before.before in
-    (mark-odd s.requires.0.0 at_read.read.ensures s.args.base (omega (arith, c.before.before.before.before.before.before.before.before.if1.false)) (omega (arith, c.before.before.before.before.before.before.if2.false)) _ c.before.before.before.before.if3.true c.before.before.if4.false c.before.bits_of.ensures).0 c.if5.true
+    (mark_odd s.requires.0.0 at_read.read.ensures s.args.base (omega (arith, c.before.before.before.before.before.before.before.before.if1.false)) (omega (arith, c.before.before.before.before.before.before.if2.false)) _ c.before.before.before.before.if3.true c.before.before.if4.false c.before.bits_of.ensures).0 c.if5.true
 
 mul-result : tie.Need-overflow-mul-result
 mul-result c =
     let s = c.before.before.before.before.before.before.before.before.before.before.before.before.before in
-    omega (arith, (bits-le s.args.base _ _ _ (omega (arith, c.before.before.before.before.before.before.before.before.if1.false)) c.before.bits_of.ensures).1)
+    omega (arith, (bits_le s.args.base _ _ _ (omega (arith, c.before.before.before.before.before.before.before.before.if1.false)) c.before.bits_of.ensures).1)
 
 returns-5 : tie.Need-returns-5
 returns-5 c =
     let at_read = c.before.before.before.before.before.before.before.before.before.before in
     let s = at_read.before.before.before in
-    (mark-odd s.requires.0.0 at_read.read.ensures s.args.base (omega (arith, c.before.before.before.before.before.before.before.before.if1.false)) (omega (arith, c.before.before.before.before.before.before.if2.false)) _ c.before.before.before.before.if3.true c.before.before.if4.false c.before.bits_of.ensures).1 c.if5.false
+    (mark_odd s.requires.0.0 at_read.read.ensures s.args.base (omega (arith, c.before.before.before.before.before.before.before.before.if1.false)) (omega (arith, c.before.before.before.before.before.before.if2.false)) _ c.before.before.before.before.if3.true c.before.before.if4.false c.before.bits_of.ensures).1 c.if5.false
 
 returns-6 : tie.Need-returns-6
 returns-6 c =
     let at_read = c.before.before.before.before.before.before.before.before in
     let s = at_read.before.before.before in
-    mark-both s.requires.0.0 at_read.read.ensures s.args.base (omega (arith, c.before.before.before.before.before.before.if1.false)) (omega (arith, c.before.before.before.before.if2.false)) c.before.before.if3.false c.if6.true
+    mark_both s.requires.0.0 at_read.read.ensures s.args.base (omega (arith, c.before.before.before.before.before.before.if1.false)) (omega (arith, c.before.before.before.before.if2.false)) c.before.before.if3.false c.if6.true
 
 bits-of-requires-2 : tie.Need-bits-of-requires-2
 bits-of-requires-2 c κs =
@@ -94,23 +94,23 @@ returns-7 : tie.Need-returns-7
 returns-7 c =
     let at_read = c.before.before.before.before.before.before.before.before.before.before in
     let s = at_read.before.before.before in
-    (mark-even s.requires.0.0 at_read.read.ensures s.args.base (omega (arith, c.before.before.before.before.before.before.before.before.if1.false)) (omega (arith, c.before.before.before.before.before.before.if2.false)) _ c.before.before.before.before.if3.false (omega (arith, c.before.before.if6.false)) c.before.bits-of2.ensures).0 c.if7.true
+    (mark_even s.requires.0.0 at_read.read.ensures s.args.base (omega (arith, c.before.before.before.before.before.before.before.before.if1.false)) (omega (arith, c.before.before.before.before.before.before.if2.false)) _ c.before.before.before.before.if3.false (omega (arith, c.before.before.if6.false)) c.before.bits-of2.ensures).0 c.if7.true
 
 mul-result-2 : tie.Need-overflow-mul-result-2
 mul-result-2 c =
     let s = c.before.before.before.before.before.before.before.before.before.before.before.before.before in
-    omega (arith, (bits-le s.args.base _ _ _ (omega (arith, c.before.before.before.before.before.before.before.before.if1.false)) c.before.bits-of2.ensures).1)
+    omega (arith, (bits_le s.args.base _ _ _ (omega (arith, c.before.before.before.before.before.before.before.before.if1.false)) c.before.bits-of2.ensures).1)
 
 sub-result : tie.Need-overflow-sub-result
 sub-result c =
     let s = c.before.before.before.before.before.before.before.before.before.before.before.before.before in
-    omega (arith, (bits-le s.args.base _ _ _ (omega (arith, c.before.before.before.before.before.before.before.before.if1.false)) c.before.bits-of2.ensures).0)
+    omega (arith, (bits_le s.args.base _ _ _ (omega (arith, c.before.before.before.before.before.before.before.before.if1.false)) c.before.bits-of2.ensures).0)
 
 returns-8 : tie.Need-returns-8
 returns-8 c =
     let at_read = c.before.before.before.before.before.before.before.before.before.before in
     let s = at_read.before.before.before in
-    (mark-even s.requires.0.0 at_read.read.ensures s.args.base (omega (arith, c.before.before.before.before.before.before.before.before.if1.false)) (omega (arith, c.before.before.before.before.before.before.if2.false)) _ c.before.before.before.before.if3.false (omega (arith, c.before.before.if6.false)) c.before.bits-of2.ensures).1 c.if7.false
+    (mark_even s.requires.0.0 at_read.read.ensures s.args.base (omega (arith, c.before.before.before.before.before.before.before.before.if1.false)) (omega (arith, c.before.before.before.before.before.before.if2.false)) _ c.before.before.before.before.if3.false (omega (arith, c.before.before.if6.false)) c.before.bits-of2.ensures).1 c.if7.false
 
 pub weigh-spec : {M : Type 1} → statement M
 weigh-spec =

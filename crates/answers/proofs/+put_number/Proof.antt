@@ -6,8 +6,8 @@ use borrow.Fn.Kinds.{In}
 use borrow.Fn.PlainCycle.{Measures, is, falls, and}
 use mathlib.Core.Path.{sym, ap}
 use lib.ListN.{length, length-append, length-set}
-use Rattle.lines.proofs.Numeral.{numeral-small}
-use Rattle.answers.proofs.PutLaws.{put_byte, put_both, put_same, numeral-last}
+use Rattle.lines.proofs.Numeral.{numeral_small}
+use Rattle.answers.proofs.PutLaws.{put_byte, put_both, put_same, numeral_last}
 use Rattle.answers.proofs.put_number.Reads as own
 use Rattle.answers.proofs.put_number.Kinds as kinds
 use Rattle.answers.proofs.+put_number.Lts-put_number as lts
@@ -35,23 +35,23 @@ module _ (t : ℕ) where
   add-out c = omega arith
 
   slice-write-out : lts.Need-slice-write-out calls (now-at t) own.Post
-  slice-write-out c = omega (arith, c.before.before.requires.1, ap length (numeral-small c.before.before.args.n c.if1.true))
+  slice-write-out c = omega (arith, c.before.before.requires.1, ap length (numeral_small c.before.before.args.n c.if1.true))
 
   add-result : lts.Need-overflow-add-result calls (now-at t) own.Post
-  add-result c = omega (arith, c.before.before.requires.1, ap length (numeral-small c.before.before.args.n c.if1.true))
+  add-result c = omega (arith, c.before.before.requires.1, ap length (numeral_small c.before.before.args.n c.if1.true))
 
   same_length : lts.Need-same-length calls (now-at t) own.Post
   same_length c = simp length-set
 
   returns : lts.Need-returns calls (now-at t) own.Post
   returns c =
-      put_same (sym (numeral-small _ c.if1.true))
-      (put_byte _ (omega (arith, c.before.before.requires.1, ap length (numeral-small c.before.before.args.n c.if1.true))))
+      put_same (sym (numeral_small _ c.if1.true))
+      (put_byte _ (omega (arith, c.before.before.requires.1, ap length (numeral_small c.before.before.args.n c.if1.true))))
 
   put-number-requires : lts.Need-put-number-requires calls (now-at t) own.Post
   put-number-requires c κs =
       let s = c.before.before.before in
-      let tenth = numeral-last s.args.n c.before.if1.false in
+      let tenth = numeral_last s.args.n c.before.if1.false in
       (omega (arith, s.requires.0, c.before.if1.false), omega (arith, s.requires.1, simp length-append at (ap length tenth)))
 
   cast-out-2 : lts.Need-overflow-cast-out-2 calls (now-at t) own.Post
@@ -63,7 +63,7 @@ module _ (t : ℕ) where
   slice-write-out-2 : lts.Need-slice-write-out-2 calls (now-at t) own.Post
   slice-write-out-2 c =
       let s = c.before.before.before.before.before.before in
-      let tenth = numeral-last s.args.n c.before.before.before.before.if1.false in
+      let tenth = numeral_last s.args.n c.before.before.before.before.if1.false in
       omega (arith, s.requires.1, simp length-append at (ap length tenth), c.before.before.put-number.ensures.past, c.before.before.put-number.auto.0)
 
   add-result-2 : lts.Need-overflow-add-result-2 calls (now-at t) own.Post
@@ -75,7 +75,7 @@ module _ (t : ℕ) where
   returns-2 : lts.Need-returns-2 calls (now-at t) own.Post
   returns-2 c =
       let s = c.before.before.before.before.before.before in
-      let tenth = numeral-last s.args.n c.before.before.before.before.if1.false in
+      let tenth = numeral_last s.args.n c.before.before.before.before.if1.false in
       put_same (sym tenth)
       (put_both c.before.before.put-number.ensures
       (put_byte _ (omega (arith, s.requires.1, simp length-append at (ap length tenth), c.before.before.put-number.ensures.past, c.before.before.put-number.auto.0))))

@@ -3,7 +3,7 @@
 use Prim.Native.Nat.{◌-◌}
 use native.Mathlib.Omega.{arith}
 use lib.ListN.{length}
-use Rattle.answers.proofs.PutLaws.{Putting, putting-none, putting-more, putting-all}
+use Rattle.answers.proofs.PutLaws.{Putting, putting_none, putting_more, putting_all}
 use Rattle.answers.proofs.put.Statement.{statement}
 use Rattle.answers.proofs.put.Tie as tie
 
@@ -14,7 +14,7 @@ abbrev decreases-loop : tie.decreases-loop
 decreases-loop out₀ at bytes i₀ out i = length bytes - i
 
 loop-holds : tie.Need-loop-init invariant-loop decreases-loop
-loop-holds c = putting-none _ _ _
+loop-holds c = putting_none _ _ _
 
 shared-slice-read-out : tie.Need-shared-slice-read-out invariant-loop decreases-loop
 shared-slice-read-out c = omega arith
@@ -32,7 +32,7 @@ loop-less : tie.Need-loop-smaller invariant-loop decreases-loop
 loop-less c = omega arith
 
 loop-again : tie.Need-loop-preserved invariant-loop decreases-loop
-loop-again c = putting-more (omega arith) c.before.before.loop.invariant (omega arith)
+loop-again c = putting_more (omega arith) c.before.before.loop.invariant (omega arith)
 
 add-result : tie.Need-overflow-add-result invariant-loop decreases-loop
 add-result c = omega arith
@@ -41,7 +41,7 @@ same_length : tie.Need-same-length invariant-loop decreases-loop
 same_length c = c.before.loop.invariant.size
 
 returns : tie.Need-returns invariant-loop decreases-loop
-returns c = putting-all (omega arith) c.before.loop.invariant (omega arith)
+returns c = putting_all (omega arith) c.before.loop.invariant (omega arith)
 
 pub put_spec : {M : Type 1} → statement M
 put_spec =

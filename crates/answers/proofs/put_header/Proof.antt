@@ -1,6 +1,6 @@
 -- `answers::put_header` meets its contract, by what is asked for. Assumes nothing.
 use native.Mathlib.Omega.{arith}
-use Rattle.answers.proofs.PutLaws.{put-none}
+use Rattle.answers.proofs.PutLaws.{put_none}
 use borrow.Author.Rules.{rules}
 use Rattle.answers.proofs.put_header.Statement.{statement}
 use Rattle.answers.proofs.put_header.Tie as tie
@@ -18,7 +18,7 @@ returns : tie.Need-returns
 returns c = rw c.before.before.before.before.before.if1.true (c.before.before.put.ensures, omega (arith, c.before.before.put.ensures.past))
 
 returns-2 : tie.Need-returns-2
-returns-2 c = rw c.if1.false (put-none (omega arith), omega arith)
+returns-2 c = rw c.if1.false (put_none (omega arith), omega arith)
 
 pub put-header-spec : {M : Type 1} → statement M
 put-header-spec =

@@ -1,6 +1,6 @@
 -- `answers::put_line` meets its contract: four texts, one behind another. Assumes nothing.
 use native.Mathlib.Omega.{arith}
-use Rattle.answers.proofs.PutLaws.{put_both, put_same, word-line}
+use Rattle.answers.proofs.PutLaws.{put_both, put_same, word_line_law}
 use borrow.Author.Rules.{rules}
 use Rattle.answers.proofs.put_line.Statement.{statement}
 use Rattle.answers.proofs.put_line.Tie as tie
@@ -25,7 +25,7 @@ same_length c = search rules
 
 returns : tie.Need-returns
 returns c =
-    (put_same (word-line _ _ _) (put_both c.before.before.before.before.before.before.before.before.before.before.before.before.before.before.before.put.ensures (put_both c.before.before.before.before.before.before.before.before.before.before.before.put-spaced.ensures.0 (put_both c.before.before.before.before.before.before.before.put-spaced2.ensures.0 c.before.before.put2.ensures))), omega (arith, c.before.before.before.before.before.before.before.before.before.before.before.before.before.before.before.put.ensures.past, c.before.before.before.before.before.before.before.before.before.before.before.put-spaced.ensures.1, c.before.before.before.before.before.before.before.put-spaced2.ensures.1, c.before.before.put2.ensures.past))
+    (put_same (word_line_law _ _ _) (put_both c.before.before.before.before.before.before.before.before.before.before.before.before.before.before.before.put.ensures (put_both c.before.before.before.before.before.before.before.before.before.before.before.put-spaced.ensures.0 (put_both c.before.before.before.before.before.before.before.put-spaced2.ensures.0 c.before.before.put2.ensures))), omega (arith, c.before.before.before.before.before.before.before.before.before.before.before.before.before.before.before.put.ensures.past, c.before.before.before.before.before.before.before.before.before.before.before.put-spaced.ensures.1, c.before.before.before.before.before.before.before.put-spaced2.ensures.1, c.before.before.put2.ensures.past))
 
 pub put-line-spec : {M : Type 1} → statement M
 put-line-spec =

@@ -1,7 +1,7 @@
 -- `answers::put_said` meets its contract, by what is said. Assumes nothing.
 use native.Mathlib.Omega.{arith}
-use Rattle.answers.proofs.PutLaws.{put-none}
-use Rattle.answers.specs.Answers.{saidLine, noStart}
+use Rattle.answers.proofs.PutLaws.{put_none}
+use Rattle.answers.specs.Answers.{said_line, no_start}
 use borrow.Author.Rules.{rules}
 use Rattle.answers.proofs.put_said.Statement.{statement}
 use Rattle.answers.proofs.put_said.Tie as tie
@@ -34,28 +34,28 @@ put-answer-requires : tie.Need-put-answer-requires
 put-answer-requires c κs = search rules
 
 returns : tie.Need-returns
-unfolding saidLine
-returns c = rw c.enum_told.given.1 (put-none (omega (arith, c.before.before.before.requires)), omega arith)
+unfolding said_line
+returns c = rw c.enum_told.given.1 (put_none (omega (arith, c.before.before.before.requires)), omega arith)
 
 same_length : tie.Need-same-length
 same_length c = search rules
 
 returns-2 : tie.Need-returns-2
-unfolding saidLine
+unfolding said_line
 returns-2 c = rw c.before.before.before.before.before.enum-told2.given.1 (c.before.before.put.ensures, omega (arith, c.before.before.put.ensures.past))
 
 same-length-2 : tie.Need-same-length-2
 same-length-2 c = search rules
 
 returns-3 : tie.Need-returns-3
-unfolding saidLine noStart
+unfolding said_line no_start
 returns-3 c = rw c.before.before.before.before.before.before.said.given.1 (c.before.before.put-line.ensures.0, omega (arith, c.before.before.put-line.ensures.1))
 
 same-length-3 : tie.Need-same-length-3
 same-length-3 c = search rules
 
 returns-4 : tie.Need-returns-4
-unfolding saidLine
+unfolding said_line
 returns-4 c = rw c.before.before.before.before.before.said2.given.1 c.before.before.put-answer.ensures
 
 pub put-said-spec : {M : Type 1} → statement M

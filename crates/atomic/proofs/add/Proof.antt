@@ -1,5 +1,5 @@
 -- `add` meets its contract. Assumes nothing.
-use Rattle.atomic.proofs.AddLaws.{add-name, add-number, add_none}
+use Rattle.atomic.proofs.AddLaws.{add_name, add_number, add_none}
 use borrow.Author.Rules.{rules}
 use Rattle.atomic.proofs.add.Statement.{statement}
 use Rattle.atomic.proofs.add.Tie as tie
@@ -16,7 +16,7 @@ put-requires : tie.Need-put-requires
 put-requires c κs = search rules
 
 returns : tie.Need-returns
-returns c = add-name _ _ _ _ _ _ c.before.before.if1.true c.before.find.ensures.0 c.put.ensures
+returns c = add_name _ _ _ _ _ _ c.before.before.if1.true c.before.find.ensures.0 c.put.ensures
 
 sub-value-of : tie.Need-overflow-sub-value-of
 sub-value-of c = search rules
@@ -37,7 +37,7 @@ put-requires-2 : tie.Need-put-requires-2
 put-requires-2 c κs = search rules
 
 returns-2 : tie.Need-returns-2
-returns-2 c = add-number _ _ _ _ _ _ c.before.before.before.if2.true c.before.value_of.ensures c.put2.ensures
+returns-2 c = add_number _ _ _ _ _ _ c.before.before.before.if2.true c.before.value_of.ensures c.put2.ensures
 
 returns-3 : tie.Need-returns-3
 returns-3 c = add_none _ _ _ _ c.before.if1.false c.if2.false

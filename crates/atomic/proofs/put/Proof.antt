@@ -1,5 +1,5 @@
 -- `put` meets its contract. Assumes nothing.
-use Rattle.atomic.proofs.PutLaws.{put_first, put_second, put-third, put-none}
+use Rattle.atomic.proofs.PutLaws.{put_first, put_second, put_third, put_none}
 use borrow.Author.Rules.{rules}
 use Rattle.atomic.proofs.put.Statement.{statement}
 use Rattle.atomic.proofs.put.Tie as tie
@@ -41,10 +41,10 @@ array-write-all-9 : tie.Need-array-write-all-9
 array-write-all-9 c = search rules
 
 returns-3 : tie.Need-returns-3
-returns-3 c = put-third _ _ _ c.if3.true
+returns-3 c = put_third _ _ _ c.if3.true
 
 returns-4 : tie.Need-returns-4
-returns-4 c = put-none c.before.before.before.args.t1 c.before.before.before.args.mark c.before.before.before.args.value c.before.before.if1.false c.before.if2.false c.if3.false
+returns-4 c = put_none c.before.before.before.args.t1 c.before.before.before.args.mark c.before.before.before.args.value c.before.before.if1.false c.before.if2.false c.if3.false
 
 pub put_spec : {M : Type 1} → statement M
 put_spec =

@@ -6,16 +6,16 @@ use native.Mathlib.Nat.{mul-le-mul_right}
 use native.Mathlib.Omega.{arith}
 use lib.ListN.{length}
 use lib.Pow.{pow_mono}
-use Rattle.trees.specs.Table.{at, treesOf}
+use Rattle.trees.specs.Table.{at, trees_of}
 use Rattle.nodes.specs.Nodes.{Rest}
 use Rattle.binding.specs.Fixing.{Fixes}
-use Rattle.binding.proofs.FixLaws.{settles-small, fixes-none, fixes-same, fixes-lt, fixes-more}
+use Rattle.binding.proofs.FixLaws.{settles_small, fixes_none, fixes_same, fixes_lt, fixes_more}
 use Rattle.binding.proofs.least.Statement.{statement}
 use Rattle.binding.proofs.least.Tie as tie
 
 abbrev invariant-loop : tie.invariant-loop
 invariant-loop nodes kept p k v fixed₀ work₀ base n₀ done₀ fixed work n done =
-    (done ≤ k) × (length work ≡ length work₀) × Rest (kept + 2) work₀ work × Fixes (at (treesOf nodes kept) p) (v * k + (k - done)) done fixed₀ fixed n
+    (done ≤ k) × (length work ≡ length work₀) × Rest (kept + 2) work₀ work × Fixes (at (trees_of nodes kept) p) (v * k + (k - done)) done fixed₀ fixed n
 
 abbrev decreases-loop : tie.decreases-loop
 decreases-loop nodes kept p k v fixed₀ work₀ base n₀ done₀ fixed work n done = k - done
@@ -28,7 +28,7 @@ below v k h g = let m : suc v * k ≤ 4 * k = mul-le-mul_right k h in omega arit
 small : (l : tie.At-loop invariant-loop decreases-loop) → l.loop.n < 1024
 small l =
     let s = l.before.before.before in
-    omega (arith, fixes-lt _ s.requires.0.1 l.loop.invariant.3, pow_mono (fits s.args.k l.loop.done l.loop.invariant.0 s.requires.1.1.0.0))
+    omega (arith, fixes_lt _ s.requires.0.1 l.loop.invariant.3, pow_mono (fits s.args.k l.loop.done l.loop.invariant.0 s.requires.1.1.0.0))
   where
     fits : (k n : ℕ) → n ≤ k → k ≤ 10 → n ≤ 10
     fits k n g h = omega arith
@@ -37,7 +37,7 @@ mul-base : tie.Need-overflow-mul-base invariant-loop decreases-loop
 mul-base c = let s = c.before.before in omega (arith, below s.args.v s.args.k s.requires.1.1.0.1 s.requires.1.1.0.0)
 
 loop-holds : tie.Need-loop-init invariant-loop decreases-loop
-loop-holds c = let s = c.before.before in (omega arith, refl, record { eq = λ i h. refl }, fixes-none _ _ _ _ refl s.requires.1.1.1.0)
+loop-holds c = let s = c.before.before in (omega arith, refl, record { eq = λ i h. refl }, fixes_none _ _ _ _ refl s.requires.1.1.1.0)
 
 add_done : tie.Need-overflow-add-done invariant-loop decreases-loop
 add_done c = omega (arith, c.loop-test.true, c.before.before.before.before.requires.1.1.0.0)
@@ -59,7 +59,7 @@ mul-n : tie.Need-overflow-mul-n invariant-loop decreases-loop
 mul-n c = omega (arith, small c.before.before.before.before.before.before)
 
 add-n : tie.Need-overflow-add-n invariant-loop decreases-loop
-add-n c = omega (arith, small c.before.before.before.before.before.before, settles-small c.before.before.settle.ensures.0)
+add-n c = omega (arith, small c.before.before.before.before.before.before, settles_small c.before.before.settle.ensures.0)
 
 loop-less : tie.Need-loop-smaller invariant-loop decreases-loop
 loop-less c = omega (arith, c.before.before.before.before.before.loop-test.true)
@@ -73,11 +73,11 @@ loop-again c =
     let e = c.before.before.settle.ensures in
     let wide = below s.args.v s.args.k s.requires.1.1.0.1 s.requires.1.1.0.0 in
     let level = s.args.v * s.args.k + (s.args.k - (l.loop.done + 1)) in
-    let more = fixes-more _ level l.loop.done _ _ _ (fixes-same (omega (arith, h)) refl v.3) (omega (arith, h, wide, s.requires.1.1.0.2)) (s.requires.1.1.1.1.each level (omega arith) (omega (arith, h))) _ s.requires.0.1 e.0 in (
+    let more = fixes_more _ level l.loop.done _ _ _ (fixes_same (omega (arith, h)) refl v.3) (omega (arith, h, wide, s.requires.1.1.0.2)) (s.requires.1.1.1.1.each level (omega arith) (omega (arith, h))) _ s.requires.0.1 e.0 in (
       omega (arith, h),
       c.before.before.settle.auto.1.1.1.1.1.0 ∙ v.1,
       record { eq = λ i q. e.1.eq i q ∙ v.2.eq i q },
-      fixes-same refl (omega arith) more,
+      fixes_same refl (omega arith) more,
     )
 
 same_length : tie.Need-same-length invariant-loop decreases-loop
@@ -86,7 +86,7 @@ same_length c = c.before.loop.invariant.1
 returns : tie.Need-returns invariant-loop decreases-loop
 returns c =
     let v = c.before.loop.invariant in
-    (fixes-same (omega (arith, v.0, c.loop-test.false)) (omega (arith, v.0, c.loop-test.false)) v.3, v.2)
+    (fixes_same (omega (arith, v.0, c.loop-test.false)) (omega (arith, v.0, c.loop-test.false)) v.3, v.2)
 
 pub least-spec : {M : Type 1} → statement M
 least-spec =

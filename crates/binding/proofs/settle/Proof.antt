@@ -1,6 +1,6 @@
 -- `settle` meets its contract. Assumes nothing.
 use borrow.Author.Rules.{rules}
-use Rattle.binding.proofs.FixLaws.{settles-zero, settles-one}
+use Rattle.binding.proofs.FixLaws.{settles_zero, settles_one}
 use Rattle.binding.proofs.settle.Statement.{statement}
 use Rattle.binding.proofs.settle.Tie as tie
 
@@ -20,7 +20,7 @@ returns : tie.Need-returns
 returns c =
     let s = c.before.before.before.before.before.before.before.before in
     let e = c.before.before.before.possible.ensures in
-    (settles-zero _ s.args.level s.args.fixed.now e.0 c.if1.true, e.1)
+    (settles_zero _ s.args.level s.args.fixed.now e.0 c.if1.true, e.1)
 
 mul-fixed-2 : tie.Need-overflow-mul-fixed-2
 mul-fixed-2 c = search rules
@@ -35,7 +35,7 @@ returns-2 : tie.Need-returns-2
 returns-2 c =
     let s = c.before.before.before.before.before.before.before.before in
     let e = c.before.before.before.possible.ensures in
-    (settles-one _ s.args.level s.args.fixed.now e.0 c.if1.false, e.1)
+    (settles_one _ s.args.level s.args.fixed.now e.0 c.if1.false, e.1)
 
 pub settle-spec : {M : Type 1} → statement M
 settle-spec =

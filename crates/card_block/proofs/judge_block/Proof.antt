@@ -3,7 +3,7 @@ use borrow.Author.Rules.{rules}
 use mathlib.Core.Path.{◌∙◌, ap}
 use native.Mathlib.Omega.{arith}
 use Rattle.card_block.specs.Judging.{settled}
-use Rattle.card_block.proofs.JudgeLaws.{judged-on, judged-anew}
+use Rattle.card_block.proofs.JudgeLaws.{judged_on, judged_anew}
 use Rattle.card_block.proofs.judge_block.Statement.{statement}
 use Rattle.card_block.proofs.judge_block.Tie as tie
 
@@ -23,7 +23,7 @@ settle-requires : tie.Need-settle-requires
 settle-requires c κs = search rules
 
 returns : tie.Need-returns
-returns c = c.settle.ensures ∙ ap (settled c.before.before.before.before.number_at.result c.before.before.before.before.before.before.args.before.next) c.before.walk.ensures ∙ judged-on c.before.before.before.before.before.before.args.piece.now c.before.before.before.before.before.before.args.before c.before.before.before.before.before.before.requires c.before.before.before.before.number_at.result c.before.before.before.type_size.result c.before.before.before.before.number_at.ensures c.before.before.before.type_size.ensures c.before.before.if1.true
+returns c = c.settle.ensures ∙ ap (settled c.before.before.before.before.number_at.result c.before.before.before.before.before.before.args.before.next) c.before.walk.ensures ∙ judged_on c.before.before.before.before.before.before.args.piece.now c.before.before.before.before.before.before.args.before c.before.before.before.before.before.before.requires c.before.before.before.before.number_at.result c.before.before.before.type_size.result c.before.before.before.before.number_at.ensures c.before.before.before.type_size.ensures c.before.before.if1.true
 
 walk-requires-2 : tie.Need-walk-requires-2
 walk-requires-2 c κs = search rules
@@ -32,7 +32,7 @@ settle-requires-2 : tie.Need-settle-requires-2
 settle-requires-2 c κs = search rules
 
 returns-2 : tie.Need-returns-2
-returns-2 c = c.settle2.ensures ∙ ap (settled c.before.before.before.before.number_at.result c.before.before.before.before.before.before.args.before.next) c.before.walk2.ensures ∙ judged-anew c.before.before.before.before.before.before.args.piece.now c.before.before.before.before.before.before.args.before c.before.before.before.before.before.before.requires c.before.before.before.before.number_at.result c.before.before.before.type_size.result c.before.before.before.before.number_at.ensures c.before.before.before.type_size.ensures c.before.before.if1.false
+returns-2 c = c.settle2.ensures ∙ ap (settled c.before.before.before.before.number_at.result c.before.before.before.before.before.before.args.before.next) c.before.walk2.ensures ∙ judged_anew c.before.before.before.before.before.before.args.piece.now c.before.before.before.before.before.before.args.before c.before.before.before.before.before.before.requires c.before.before.before.before.number_at.result c.before.before.before.type_size.result c.before.before.before.before.number_at.ensures c.before.before.before.type_size.ensures c.before.before.if1.false
 
 pub judge-block-spec : {M : Type 1} → statement M
 judge-block-spec =

@@ -2,7 +2,7 @@
 use native.Mathlib.Omega.{arith}
 use mathlib.Core.Path.{refl}
 use borrow.Author.Rules.{rules}
-use Rattle.card_log.proofs.RowLaws.{fact-row}
+use Rattle.card_log.proofs.RowLaws.{fact_row}
 use Rattle.card_log.proofs.fact_of.Statement.{statement}
 use Rattle.card_log.proofs.fact_of.Tie as tie
 
@@ -70,7 +70,7 @@ shared-slice-read-t28 : tie.Need-shared-slice-read-t28
 shared-slice-read-t28 c = search rules
 
 returns : tie.Need-returns
-returns c = (fact-row c.before.before.before.before.before.before.before.args.rows.now _ _ refl refl refl refl refl refl refl, refl)
+returns c = (fact_row c.before.before.before.before.before.before.before.args.rows.now _ _ refl refl refl refl refl refl refl, refl)
 
 pub fact-of-spec : {M : Type 1} → statement M
 fact-of-spec =

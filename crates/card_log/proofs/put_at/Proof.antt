@@ -6,9 +6,9 @@ use native.Mathlib.Omega.{arith}
 use borrow.Author.Rules.{rules}
 use lib.Seq.{sets}
 use Rattle.cards.specs.Moments.{Record}
-use Rattle.cards.specs.Blocks.{blockBytes}
-use Rattle.card_writer.specs.Sheets.{blockWith}
-use Rattle.card_log.proofs.RowLaws.{rows-part}
+use Rattle.cards.specs.Blocks.{block_bytes}
+use Rattle.card_writer.specs.Sheets.{block_with}
+use Rattle.card_log.proofs.RowLaws.{rows_part}
 use Rattle.card_log.proofs.put_at.Statement.{statement}
 use Rattle.card_log.proofs.put_at.Tie as tie
 
@@ -37,7 +37,7 @@ same_length : tie.Need-same-length
 same_length c = search rules
 
 returns : tie.Need-returns
-returns c = c.before.before.copy-block.ensures ∙ ap (sets c.before.before.before.before.before.before.before.before.before.before.before.args.out.now (512 * c.before.before.before.before.before.before.before.before.before.before.before.args.b)) (c.before.before.before.before.before.before.put-rows.ensures ∙ ap (λ (l : List Record). blockBytes (blockWith c.before.before.before.before.before.before.before.before.before.before.before.args.b l)) (sym (rows-part c.before.before.before.before.before.before.before.before.before.before.before.args.rows.now c.before.before.before.before.before.before.before.before.before.before.before.args.n c.before.before.before.before.before.before.before.before.before.before.before.args.b (21 * c.before.before.before.before.before.before.before.before.before.before.before.args.b) c.before.before.before.before.before.before.before.before.end_of_lem.result refl c.before.before.before.before.before.before.before.before.end_of_lem.ensures (omega arith))))
+returns c = c.before.before.copy-block.ensures ∙ ap (sets c.before.before.before.before.before.before.before.before.before.before.before.args.out.now (512 * c.before.before.before.before.before.before.before.before.before.before.before.args.b)) (c.before.before.before.before.before.before.put-rows.ensures ∙ ap (λ (l : List Record). block_bytes (block_with c.before.before.before.before.before.before.before.before.before.before.before.args.b l)) (sym (rows_part c.before.before.before.before.before.before.before.before.before.before.before.args.rows.now c.before.before.before.before.before.before.before.before.before.before.before.args.n c.before.before.before.before.before.before.before.before.before.before.before.args.b (21 * c.before.before.before.before.before.before.before.before.before.before.before.args.b) c.before.before.before.before.before.before.before.before.end_of_lem.result refl c.before.before.before.before.before.before.before.before.end_of_lem.ensures (omega arith))))
 
 pub put-at-spec : {M : Type 1} → statement M
 put-at-spec =

@@ -4,10 +4,10 @@ use mathlib.Core.Path.{ap, sym, ◌∙◌}
 use native.Mathlib.Omega.{arith}
 use lib.ListN.{length, drop}
 use borrow.Author.Rules.{rules}
-use Rattle.cards.proofs.BlockLaws.{length-block}
-use Rattle.card_writer.specs.Sheets.{blockWith}
+use Rattle.cards.proofs.BlockLaws.{length_block}
+use Rattle.card_writer.specs.Sheets.{block_with}
 use Rattle.card_log.specs.Rows.{rows_from}
-use Rattle.card_log.proofs.RowLaws.{Rowing, rowing_start, rowing_more, rowing-all}
+use Rattle.card_log.proofs.RowLaws.{Rowing, rowing_start, rowing_more, rowing_all}
 use Rattle.card_log.proofs.put_rows.Statement.{statement}
 use Rattle.card_log.proofs.put_rows.Tie as tie
 
@@ -39,16 +39,16 @@ loop-less : tie.Need-loop-smaller invariant-loop decreases-loop
 loop-less c = omega arith
 
 loop-again : tie.Need-loop-preserved invariant-loop decreases-loop
-loop-again c = rowing_more _ _ c.before.before.before.before.before.before.loop.invariant (omega arith) c.before.before.before.fact-of.ensures.0 c.before.before.add-fact.ensures
+loop-again c = rowing_more _ _ c.before.before.before.before.before.before.loop.invariant (omega arith) c.before.before.before.fact_of_law.ensures.0 c.before.before.add-fact.ensures
 
 end-block-requires : tie.Need-end-block-requires invariant-loop decreases-loop
 end-block-requires c κs = c.before.before.loop.invariant.holds.size
 
 same_length : tie.Need-same-length invariant-loop decreases-loop
-same_length c = ap length (rowing-all c.before.before.end-block.new.0 c.before.before.before.before.before.loop.invariant (omega arith) c.before.before.end-block.ensures) ∙ length-block (blockWith c.before.before.before.before.before.before.before.before.before.before.before.before.args.number (rows_from (c.before.before.before.before.before.before.before.before.before.before.before.before.args.to - c.before.before.before.before.before.before.before.before.before.before.before.before.args.«from») (drop (7 * c.before.before.before.before.before.before.before.before.before.before.before.before.args.«from») c.before.before.before.before.before.before.before.before.before.before.before.before.args.rows.now))) ∙ sym c.before.before.before.before.before.before.before.before.before.before.before.before.requires.3
+same_length c = ap length (rowing_all c.before.before.end-block.new.0 c.before.before.before.before.before.loop.invariant (omega arith) c.before.before.end-block.ensures) ∙ length_block (block_with c.before.before.before.before.before.before.before.before.before.before.before.before.args.number (rows_from (c.before.before.before.before.before.before.before.before.before.before.before.before.args.to - c.before.before.before.before.before.before.before.before.before.before.before.before.args.«from») (drop (7 * c.before.before.before.before.before.before.before.before.before.before.before.before.args.«from») c.before.before.before.before.before.before.before.before.before.before.before.before.args.rows.now))) ∙ sym c.before.before.before.before.before.before.before.before.before.before.before.before.requires.3
 
 returns : tie.Need-returns invariant-loop decreases-loop
-returns c = rowing-all c.before.before.end-block.new.0 c.before.before.before.before.before.loop.invariant (omega arith) c.before.before.end-block.ensures
+returns c = rowing_all c.before.before.end-block.new.0 c.before.before.before.before.before.loop.invariant (omega arith) c.before.before.end-block.ensures
 
 pub put-rows-spec : {M : Type 1} → statement M
 put-rows-spec =

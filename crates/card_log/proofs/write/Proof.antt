@@ -5,7 +5,7 @@ use mathlib.Core.Bool.{true≢false}
 use native.Mathlib.Omega.{arith}
 use borrow.Author.Rules.{rules}
 use borrow.Author.Tests.{not-true, not-false}
-use Rattle.card_log.proofs.FillLaws.{Filling, filling-start, filling-more, filling-end, block_inside}
+use Rattle.card_log.proofs.FillLaws.{Filling, filling_start, filling_more, filling_end, block_inside}
 use Rattle.card_log.proofs.write.Statement.{statement}
 use Rattle.card_log.proofs.write.Tie as tie
 
@@ -34,7 +34,7 @@ returns-4 : tie.Need-returns-4 invariant-loop decreases-loop
 returns-4 c = record { right = (record { whole = c.before.before.before.before.before.if1.false; moments = sym c.before.before.rows_right.ensures ∙ not-false _ c.before.if3.false; few = omega (arith, c.before.before.before.if2.false, c.before.before.before.before.blocks-in.ensures) }); small = λ r. omega (arith, r, c.if4.true, c.before.before.before.before.blocks-in.ensures); same_out = refl }
 
 loop-holds : tie.Need-loop-init invariant-loop decreases-loop
-loop-holds c = filling-start _ _ _
+loop-holds c = filling_start _ _ _
 
 put-at-requires : tie.Need-put-at-requires invariant-loop decreases-loop
 put-at-requires c κs = (omega arith, block_inside _ _ (omega (arith, c.before.before.before.before.before.before.before.blocks-in.ensures)), omega (arith, c.before.before.before.before.before.before.if2.false), omega (arith, c.before.before.before.if4.false, c.before.before.loop.invariant.size))
@@ -46,7 +46,7 @@ loop-less : tie.Need-loop-smaller invariant-loop decreases-loop
 loop-less c = omega arith
 
 loop-again : tie.Need-loop-preserved invariant-loop decreases-loop
-loop-again c = filling-more _ c.before.before.before.before.before.loop.invariant (omega (arith, c.before.before.before.before.before.before.before.before.before.before.blocks-in.ensures)) (omega (arith, c.before.before.before.before.before.before.if4.false, c.before.before.before.before.before.loop.invariant.size)) c.before.before.put-at.ensures
+loop-again c = filling_more _ c.before.before.before.before.before.loop.invariant (omega (arith, c.before.before.before.before.before.before.before.before.before.before.blocks-in.ensures)) (omega (arith, c.before.before.before.before.before.before.if4.false, c.before.before.before.before.before.loop.invariant.size)) c.before.before.put-at.ensures
 
 mul-t6 : tie.Need-overflow-mul-t6 invariant-loop decreases-loop
 mul-t6 c = omega (arith, c.before.before.if4.false)
@@ -55,7 +55,7 @@ same_length : tie.Need-same-length invariant-loop decreases-loop
 same_length c = c.before.loop.invariant.size
 
 returns-5 : tie.Need-returns-5 invariant-loop decreases-loop
-returns-5 c = rw c.before.before.before.before.before.before.blocks-in.ensures (filling-end c.before.loop.invariant (omega (arith, c.before.before.before.before.before.before.blocks-in.ensures)) (record { whole = c.before.before.before.before.before.before.before.if1.false; moments = sym c.before.before.before.before.rows_right.ensures ∙ not-false _ c.before.before.before.if3.false; few = omega (arith, c.before.before.before.before.before.if2.false, c.before.before.before.before.before.before.blocks-in.ensures) }) (omega (arith, c.before.before.if4.false, c.before.before.before.before.before.before.blocks-in.ensures)))
+returns-5 c = rw c.before.before.before.before.before.before.blocks-in.ensures (filling_end c.before.loop.invariant (omega (arith, c.before.before.before.before.before.before.blocks-in.ensures)) (record { whole = c.before.before.before.before.before.before.before.if1.false; moments = sym c.before.before.before.before.rows_right.ensures ∙ not-false _ c.before.before.before.if3.false; few = omega (arith, c.before.before.before.before.before.if2.false, c.before.before.before.before.before.before.blocks-in.ensures) }) (omega (arith, c.before.before.if4.false, c.before.before.before.before.before.before.blocks-in.ensures)))
 
 pub write_spec : {M : Type 1} → statement M
 write_spec =

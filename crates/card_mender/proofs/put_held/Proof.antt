@@ -5,7 +5,7 @@ use native.Mathlib.Omega.{arith}
 use borrow.Author.Rules.{rules}
 use lib.ListN.{take, drop, length-take, length-drop}
 use lib.Seq.{sets}
-use Rattle.card_mender.proofs.GoingLaws.{whole_long, to-between}
+use Rattle.card_mender.proofs.GoingLaws.{whole_long, to_between}
 use Rattle.card_mender.proofs.put_held.Statement.{statement}
 use Rattle.card_mender.proofs.put_held.Tie as tie
 
@@ -25,7 +25,7 @@ slice-aggregate-put-kept : tie.Need-slice-aggregate-put-kept
 slice-aggregate-put-kept c = search rules
 
 put-kept-requires : tie.Need-put-kept-requires
-put-kept-requires c κs = (omega (arith, whole_long c.before.before.before.before.before.requires.0, (to-between _ c.before.before.stay-to.result c.before.before.before.before.before.requires.0 (c.before.before.stay-to.ensures c.before.before.before.before.before.requires.0.before c.before.before.before.before.before.requires.0.carries)).1, c.before.before.before.before.before.requires.0.few), (to-between _ c.before.before.stay-to.result c.before.before.before.before.before.requires.0 (c.before.before.stay-to.ensures c.before.before.before.before.before.requires.0.before c.before.before.before.before.before.requires.0.carries)).0, omega (arith, (to-between _ c.before.before.stay-to.result c.before.before.before.before.before.requires.0 (c.before.before.stay-to.ensures c.before.before.before.before.before.requires.0.before c.before.before.before.before.before.requires.0.carries)).1, c.before.before.before.before.before.requires.0.few), search rules)
+put-kept-requires c κs = (omega (arith, whole_long c.before.before.before.before.before.requires.0, (to_between _ c.before.before.stay-to.result c.before.before.before.before.before.requires.0 (c.before.before.stay-to.ensures c.before.before.before.before.before.requires.0.before c.before.before.before.before.before.requires.0.carries)).1, c.before.before.before.before.before.requires.0.few), (to_between _ c.before.before.stay-to.result c.before.before.before.before.before.requires.0 (c.before.before.stay-to.ensures c.before.before.before.before.before.requires.0.before c.before.before.before.before.before.requires.0.carries)).0, omega (arith, (to_between _ c.before.before.stay-to.result c.before.before.before.before.before.requires.0 (c.before.before.stay-to.ensures c.before.before.before.before.before.requires.0.before c.before.before.before.before.before.requires.0.carries)).1, c.before.before.before.before.before.requires.0.few), search rules)
 
 copy-block-requires : tie.Need-copy-block-requires
 copy-block-requires c κs = search rules

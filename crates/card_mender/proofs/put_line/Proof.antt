@@ -2,7 +2,7 @@
 use native.Mathlib.Omega.{arith}
 use borrow.Author.Rules.{rules}
 use lib.ListN.{length-set}
-use Rattle.card_mender.proofs.PutLaws.{line-put}
+use Rattle.card_mender.proofs.PutLaws.{line_put}
 use Rattle.card_mender.proofs.put_line.Statement.{statement}
 use Rattle.card_mender.proofs.put_line.Tie as tie
 
@@ -31,7 +31,7 @@ same_length : tie.Need-same-length
 same_length c = search rules
 
 returns : tie.Need-returns
-returns c = line-put c.args.list.now c.args.place c.args.word c.args.count
+returns c = line_put c.args.list.now c.args.place c.args.word c.args.count
 
 pub put-line-spec : {M : Type 1} → statement M
 put-line-spec =

@@ -2,7 +2,7 @@
 use mathlib.Core.Path.{refl, sym, ◌∙◌}
 use native.Mathlib.Omega.{arith}
 use borrow.Author.Rules.{rules}
-use Rattle.card_mender.proofs.GoingLaws.{going-gone, going-kept, held_whole, to-between}
+use Rattle.card_mender.proofs.GoingLaws.{going_gone, going_kept, held_whole, to_between}
 use Rattle.card_mender.proofs.turn.Statement.{statement}
 use Rattle.card_mender.proofs.turn.Tie as tie
 
@@ -34,10 +34,10 @@ put-held-requires : tie.Need-put-held-requires
 put-held-requires c κs = (held_whole c.before.before.before.before.before.before.before.before.before.before.requires _ (sym c.before.before.held.given.1 ∙ c.before.before.before.before.weigh.ensures), omega (arith, c.before.before.before.before.before.before.before.before.before.before.requires.behind, c.before.before.before.before.before.before.before.before.before.before.requires.bytes, (held_whole c.before.before.before.before.before.before.before.before.before.before.requires _ (sym c.before.before.held.given.1 ∙ c.before.before.before.before.weigh.ensures)).whole, (held_whole c.before.before.before.before.before.before.before.before.before.before.requires _ (sym c.before.before.held.given.1 ∙ c.before.before.before.before.weigh.ensures)).inside))
 
 sub-put-line : tie.Need-overflow-sub-put-line
-sub-put-line c = (to-between _ c.before.before.before.before.put-held.result (held_whole c.before.before.before.before.before.before.before.before.before.before.before.before.before.before.before.requires _ (sym c.before.before.before.before.before.before.before.held.given.1 ∙ c.before.before.before.before.before.before.before.before.before.weigh.ensures)) (c.before.before.before.before.put-held.ensures (held_whole c.before.before.before.before.before.before.before.before.before.before.before.before.before.before.before.requires _ (sym c.before.before.before.before.before.before.before.held.given.1 ∙ c.before.before.before.before.before.before.before.before.before.weigh.ensures)).before (held_whole c.before.before.before.before.before.before.before.before.before.before.before.before.before.before.before.requires _ (sym c.before.before.before.before.before.before.before.held.given.1 ∙ c.before.before.before.before.before.before.before.before.before.weigh.ensures)).carries).to_is).0
+sub-put-line c = (to_between _ c.before.before.before.before.put-held.result (held_whole c.before.before.before.before.before.before.before.before.before.before.before.before.before.before.before.requires _ (sym c.before.before.before.before.before.before.before.held.given.1 ∙ c.before.before.before.before.before.before.before.before.before.weigh.ensures)) (c.before.before.before.before.put-held.ensures (held_whole c.before.before.before.before.before.before.before.before.before.before.before.before.before.before.before.requires _ (sym c.before.before.before.before.before.before.before.held.given.1 ∙ c.before.before.before.before.before.before.before.before.before.weigh.ensures)).before (held_whole c.before.before.before.before.before.before.before.before.before.before.before.before.before.before.before.requires _ (sym c.before.before.before.before.before.before.before.held.given.1 ∙ c.before.before.before.before.before.before.before.before.before.weigh.ensures)).carries).to_is).0
 
 sub-put-line-2 : tie.Need-overflow-sub-put-line-2
-sub-put-line-2 c = omega (arith, (to-between _ c.before.before.before.before.before.put-held.result (held_whole c.before.before.before.before.before.before.before.before.before.before.before.before.before.before.before.before.requires _ (sym c.before.before.before.before.before.before.before.before.held.given.1 ∙ c.before.before.before.before.before.before.before.before.before.before.weigh.ensures)) (c.before.before.before.before.before.put-held.ensures (held_whole c.before.before.before.before.before.before.before.before.before.before.before.before.before.before.before.before.requires _ (sym c.before.before.before.before.before.before.before.before.held.given.1 ∙ c.before.before.before.before.before.before.before.before.before.before.weigh.ensures)).before (held_whole c.before.before.before.before.before.before.before.before.before.before.before.before.before.before.before.before.requires _ (sym c.before.before.before.before.before.before.before.before.held.given.1 ∙ c.before.before.before.before.before.before.before.before.before.before.weigh.ensures)).carries).to_is).0, (to-between _ c.before.before.before.before.before.put-held.result (held_whole c.before.before.before.before.before.before.before.before.before.before.before.before.before.before.before.before.requires _ (sym c.before.before.before.before.before.before.before.before.held.given.1 ∙ c.before.before.before.before.before.before.before.before.before.before.weigh.ensures)) (c.before.before.before.before.before.put-held.ensures (held_whole c.before.before.before.before.before.before.before.before.before.before.before.before.before.before.before.before.requires _ (sym c.before.before.before.before.before.before.before.before.held.given.1 ∙ c.before.before.before.before.before.before.before.before.before.before.weigh.ensures)).before (held_whole c.before.before.before.before.before.before.before.before.before.before.before.before.before.before.before.before.requires _ (sym c.before.before.before.before.before.before.before.before.held.given.1 ∙ c.before.before.before.before.before.before.before.before.before.before.weigh.ensures)).carries).to_is).1)
+sub-put-line-2 c = omega (arith, (to_between _ c.before.before.before.before.before.put-held.result (held_whole c.before.before.before.before.before.before.before.before.before.before.before.before.before.before.before.before.requires _ (sym c.before.before.before.before.before.before.before.before.held.given.1 ∙ c.before.before.before.before.before.before.before.before.before.before.weigh.ensures)) (c.before.before.before.before.before.put-held.ensures (held_whole c.before.before.before.before.before.before.before.before.before.before.before.before.before.before.before.before.requires _ (sym c.before.before.before.before.before.before.before.before.held.given.1 ∙ c.before.before.before.before.before.before.before.before.before.before.weigh.ensures)).before (held_whole c.before.before.before.before.before.before.before.before.before.before.before.before.before.before.before.before.requires _ (sym c.before.before.before.before.before.before.before.before.held.given.1 ∙ c.before.before.before.before.before.before.before.before.before.before.weigh.ensures)).carries).to_is).0, (to_between _ c.before.before.before.before.before.put-held.result (held_whole c.before.before.before.before.before.before.before.before.before.before.before.before.before.before.before.before.requires _ (sym c.before.before.before.before.before.before.before.before.held.given.1 ∙ c.before.before.before.before.before.before.before.before.before.before.weigh.ensures)) (c.before.before.before.before.before.put-held.ensures (held_whole c.before.before.before.before.before.before.before.before.before.before.before.before.before.before.before.before.requires _ (sym c.before.before.before.before.before.before.before.before.held.given.1 ∙ c.before.before.before.before.before.before.before.before.before.before.weigh.ensures)).before (held_whole c.before.before.before.before.before.before.before.before.before.before.before.before.before.before.before.before.requires _ (sym c.before.before.before.before.before.before.before.before.held.given.1 ∙ c.before.before.before.before.before.before.before.before.before.before.weigh.ensures)).carries).to_is).1)
 
 cast-put-line : tie.Need-overflow-cast-put-line
 cast-put-line c = omega (arith, (held_whole c.before.before.before.before.before.before.before.before.before.before.before.before.before.before.before.before.requires _ (sym c.before.before.before.before.before.before.before.before.held.given.1 ∙ c.before.before.before.before.before.before.before.before.before.before.weigh.ensures)).few)
@@ -52,7 +52,7 @@ same_length : tie.Need-same-length
 same_length c = search rules
 
 returns : tie.Need-returns
-returns c = going-gone c.before.before.before.before.before.before.before.before.before.before.before.before.before.before.requires _ _ _ (sym c.before.before.before.before.before.before.why.given.1 ∙ c.before.before.before.before.before.before.before.before.weigh.ensures) c.before.before.before.word_of.ensures c.before.before.put-line.ensures
+returns c = going_gone c.before.before.before.before.before.before.before.before.before.before.before.before.before.before.requires _ _ _ (sym c.before.before.before.before.before.before.why.given.1 ∙ c.before.before.before.before.before.before.before.before.weigh.ensures) c.before.before.before.word_of.ensures c.before.before.put-line.ensures
 
 same-length-2 : tie.Need-same-length-2
 same-length-2 c = search rules
@@ -61,7 +61,7 @@ same-length-3 : tie.Need-same-length-3
 same-length-3 c = search rules
 
 returns-2 : tie.Need-returns-2
-returns-2 c = going-kept c.before.before.before.before.before.before.before.before.before.before.before.before.before.before.before.before.before.before.before.before.requires _ _ _ _ _ _ (sym c.before.before.before.before.before.before.before.before.before.before.before.before.held.given.1 ∙ c.before.before.before.before.before.before.before.before.before.before.before.before.before.before.weigh.ensures) c.before.before.before.before.before.before.before.before.before.put-held.ensures refl c.before.before.before.put-line2.ensures refl
+returns-2 c = going_kept c.before.before.before.before.before.before.before.before.before.before.before.before.before.before.before.before.before.before.before.before.requires _ _ _ _ _ _ (sym c.before.before.before.before.before.before.before.before.before.before.before.before.held.given.1 ∙ c.before.before.before.before.before.before.before.before.before.before.before.before.before.before.weigh.ensures) c.before.before.before.before.before.before.before.before.before.put-held.ensures refl c.before.before.before.put-line2.ensures refl
 
 pub turn_spec : {M : Type 1} → statement M
 turn_spec =

@@ -1,6 +1,6 @@
 -- `word_of` meets its contract. Assumes nothing.
 use borrow.Author.Rules.{rules}
-use Rattle.card_mender.proofs.PutLaws.{word-check, word-shape, word_number}
+use Rattle.card_mender.proofs.PutLaws.{word_check, word_shape, word_number}
 use Rattle.card_mender.proofs.word_of.Statement.{statement}
 use Rattle.card_mender.proofs.word_of.Tie as tie
 
@@ -14,10 +14,10 @@ enum-told-3 : tie.Need-enum-told-3
 enum-told-3 c = search rules
 
 returns : tie.Need-returns
-returns c = word-check _ c.enum_told.given.1
+returns c = word_check _ c.enum_told.given.1
 
 returns-2 : tie.Need-returns-2
-returns-2 c = word-shape _ c.enum-told2.given.1
+returns-2 c = word_shape _ c.enum-told2.given.1
 
 returns-3 : tie.Need-returns-3
 returns-3 c = word_number _ c.enum-told3.given.1

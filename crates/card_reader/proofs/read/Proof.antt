@@ -4,7 +4,7 @@ use native.Mathlib.Omega.{arith}
 use mathlib.Core.Logic.{⊎_elim}
 use borrow.Author.Rules.{rules}
 use lib.ListN.{length}
-use Rattle.card_reader.proofs.StepLaws.{Reached, reached-start, reached-bad, reached-open, reached-some, reached-none, reached-end-open, reached-end-fine, finds-fine, finds-bad, finds-open}
+use Rattle.card_reader.proofs.StepLaws.{Reached, reached_start, reached_bad, reached_open, reached_some, reached_none, reached_end_open, reached_end_fine, finds_fine, finds_bad, finds_open}
 use Rattle.card_reader.proofs.read.Statement.{statement}
 use Rattle.card_reader.proofs.read.Tie as tie
 
@@ -18,7 +18,7 @@ begun-requires : tie.Need-begun-requires invariant-loop decreases-loop
 begun-requires c κs = search rules
 
 loop-holds : tie.Need-loop-init invariant-loop decreases-loop
-loop-holds c = rw c.begun.ensures (reached-start _)
+loop-holds c = rw c.begun.ensures (reached_start _)
 
 end-of-requires : tie.Need-end-of-requires invariant-loop decreases-loop
 end-of-requires c κs = c.before.loop.invariant.within
@@ -39,13 +39,13 @@ enum-known-why : tie.Need-enum-known-why invariant-loop decreases-loop
 enum-known-why c = search rules
 
 returns : tie.Need-returns invariant-loop decreases-loop
-returns c = finds-bad _ _ _ (reached-bad c.before.before.before.before.before.before.before.loop.invariant _ (omega arith) c.before.before.before.before.before.end_of_lem.ensures _ c.before.before.before.read-piece.ensures _ c.before.why.given.1)
+returns c = finds_bad _ _ _ (reached_bad c.before.before.before.before.before.before.before.loop.invariant _ (omega arith) c.before.before.before.before.before.end_of_lem.ensures _ c.before.before.before.read-piece.ensures _ c.before.why.given.1)
 
 enum_told : tie.Need-enum-told invariant-loop decreases-loop
 enum_told c = search rules
 
 returns-2 : tie.Need-returns-2 invariant-loop decreases-loop
-returns-2 c = finds-open _ _ (reached-open c.before.before.before.before.before.before.loop.invariant _ (omega arith) c.before.before.before.before.end_of_lem.ensures _ c.before.before.read-piece.ensures c.enum_told.given.1)
+returns-2 c = finds_open _ _ (reached_open c.before.before.before.before.before.before.loop.invariant _ (omega arith) c.before.before.before.before.end_of_lem.ensures _ c.before.before.read-piece.ensures c.enum_told.given.1)
 
 enum-known-onward : tie.Need-enum-known-onward invariant-loop decreases-loop
 enum-known-onward c = search rules
@@ -57,13 +57,13 @@ loop-less : tie.Need-loop-smaller invariant-loop decreases-loop
 loop-less c = omega (arith, c.before.before.before.before.before.before.before.before.end_of_lem.ensures)
 
 loop-again : tie.Need-loop-preserved invariant-loop decreases-loop
-loop-again c = ⊎_elim (λ w. rw w.1 (reached-some c.before.before.before.before.before.before.before.before.before.before.loop.invariant _ (omega arith) c.before.before.before.before.before.before.before.before.end_of_lem.ensures _ c.before.before.before.before.before.before.read-piece.ensures _ c.before.before.before.before.onward.given.1 w.0.taken)) (λ w. rw w.1 (reached-none c.before.before.before.before.before.before.before.before.before.before.loop.invariant _ (omega arith) c.before.before.before.before.before.before.before.before.end_of_lem.ensures _ c.before.before.before.before.before.before.read-piece.ensures _ c.before.before.before.before.onward.given.1 w.0.left)) c.if1.branch
+loop-again c = ⊎_elim (λ w. rw w.1 (reached_some c.before.before.before.before.before.before.before.before.before.before.loop.invariant _ (omega arith) c.before.before.before.before.before.before.before.before.end_of_lem.ensures _ c.before.before.before.before.before.before.read-piece.ensures _ c.before.before.before.before.onward.given.1 w.0.taken)) (λ w. rw w.1 (reached_none c.before.before.before.before.before.before.before.before.before.before.loop.invariant _ (omega arith) c.before.before.before.before.before.before.before.before.end_of_lem.ensures _ c.before.before.before.before.before.before.read-piece.ensures _ c.before.before.before.before.onward.given.1 w.0.left)) c.if1.branch
 
 returns-3 : tie.Need-returns-3 invariant-loop decreases-loop
-returns-3 c = finds-open _ _ (reached-end-open c.before.before.before.loop.invariant (omega arith) c.if2.true)
+returns-3 c = finds_open _ _ (reached_end_open c.before.before.before.loop.invariant (omega arith) c.if2.true)
 
 returns-4 : tie.Need-returns-4 invariant-loop decreases-loop
-returns-4 c = finds-fine _ (reached-end-fine c.before.before.before.loop.invariant (omega arith) c.if2.false)
+returns-4 c = finds_fine _ (reached_end_fine c.before.before.before.loop.invariant (omega arith) c.if2.false)
 
 pub read_spec : {M : Type 1} → statement M
 read_spec =

@@ -2,7 +2,7 @@
 use native.Mathlib.Omega.{arith}
 use mathlib.Core.Path.{refl}
 use borrow.Author.Rules.{rules}
-use Rattle.card_records.proofs.FactLaws.{fact-says}
+use Rattle.card_records.proofs.FactLaws.{fact_says}
 use Rattle.card_records.proofs.fact_at.Statement.{statement}
 use Rattle.card_records.proofs.fact_at.Tie as tie
 
@@ -55,7 +55,7 @@ number-at-requires-5 : tie.Need-number-at-requires-5
 number-at-requires-5 c κs = search rules
 
 returns : tie.Need-returns
-returns c = fact-says c.before.before.before.before.before.before.before.before.before.args.piece.now _ _ c.before.before.before.before.before.before.before.number_at.ensures c.before.before.before.before.before.before.number-at2.ensures c.before.before.before.before.wide.ensures refl c.before.before.number-at3.ensures c.before.number-at4.ensures c.number-at5.ensures
+returns c = fact_says c.before.before.before.before.before.before.before.before.before.args.piece.now _ _ c.before.before.before.before.before.before.before.number_at.ensures c.before.before.before.before.before.before.number-at2.ensures c.before.before.before.before.wide.ensures refl c.before.before.number-at3.ensures c.before.number-at4.ensures c.number-at5.ensures
 
 pub fact-at-spec : {M : Type 1} → statement M
 fact-at-spec =

@@ -1,7 +1,7 @@
 -- `put_fact` meets its contract. Assumes nothing.
 use native.Mathlib.Omega.{arith}
 use borrow.Author.Rules.{rules}
-use Rattle.card_records.proofs.FactLaws.{fact-put}
+use Rattle.card_records.proofs.FactLaws.{fact_put}
 use Rattle.card_records.proofs.put_fact.Statement.{statement}
 use Rattle.card_records.proofs.put_fact.Tie as tie
 
@@ -30,7 +30,7 @@ same_length : tie.Need-same-length
 same_length c = search rules
 
 returns : tie.Need-returns
-returns c = fact-put _ _ _ _ _ _ c.before.before.before.before.before.before.before.before.before.before.before.before.before.before.before.before.before.args.f c.before.before.before.before.before.before.before.before.before.before.before.before.before.before.put-number.ensures c.before.before.before.before.before.before.before.before.before.before.put-number2.ensures c.before.before.before.before.before.before.put-marks.ensures c.before.before.put-values.ensures
+returns c = fact_put _ _ _ _ _ _ c.before.before.before.before.before.before.before.before.before.before.before.before.before.before.before.before.before.args.f c.before.before.before.before.before.before.before.before.before.before.before.before.before.before.put-number.ensures c.before.before.before.before.before.before.before.before.before.before.put-number2.ensures c.before.before.before.before.before.before.put-marks.ensures c.before.before.put-values.ensures
 
 pub put-fact-spec : {M : Type 1} → statement M
 put-fact-spec =

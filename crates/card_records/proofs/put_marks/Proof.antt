@@ -2,7 +2,7 @@
 use native.Mathlib.Omega.{arith}
 use borrow.Author.Rules.{rules}
 use lib.ListN.{length-set}
-use Rattle.card_records.proofs.FactLaws.{sets-marks}
+use Rattle.card_records.proofs.FactLaws.{sets_marks}
 use Rattle.card_records.proofs.put_marks.Statement.{statement}
 use Rattle.card_records.proofs.put_marks.Tie as tie
 
@@ -37,7 +37,7 @@ same_length : tie.Need-same-length
 same_length c = search rules
 
 returns : tie.Need-returns
-returns c = sets-marks _ _ _ _ _ _ c.before.count_of.ensures c.flag-of.ensures
+returns c = sets_marks _ _ _ _ _ _ c.before.count_of.ensures c.flag-of.ensures
 
 pub put-marks-spec : {M : Type 1} → statement M
 put-marks-spec =

@@ -2,7 +2,7 @@
 use native.Mathlib.Omega.{arith}
 use borrow.Author.Rules.{rules}
 use lib.ListN.{length-set}
-use Rattle.card_records.proofs.FactLaws.{sets-number}
+use Rattle.card_records.proofs.FactLaws.{sets_number}
 use Rattle.card_records.proofs.put_number.Statement.{statement}
 use Rattle.card_records.proofs.put_number.Tie as tie
 
@@ -43,7 +43,7 @@ same_length : tie.Need-same-length
 same_length c = search rules
 
 returns : tie.Need-returns
-returns c = sets-number _ _ _
+returns c = sets_number _ _ _
 
 pub put-number-spec : {M : Type 1} → statement M
 put-number-spec =

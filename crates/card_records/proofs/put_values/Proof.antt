@@ -1,7 +1,7 @@
 -- `put_values` meets its contract. Assumes nothing.
 use native.Mathlib.Omega.{arith}
 use borrow.Author.Rules.{rules}
-use Rattle.card_records.proofs.FactLaws.{values-put}
+use Rattle.card_records.proofs.FactLaws.{values_put}
 use Rattle.card_records.proofs.put_values.Statement.{statement}
 use Rattle.card_records.proofs.put_values.Tie as tie
 
@@ -33,7 +33,7 @@ same_length : tie.Need-same-length
 same_length c = search rules
 
 returns : tie.Need-returns
-returns c = values-put _ _ _ _ _ _ _ _ _ c.before.before.before.before.before.before.before.before.before.before.before.before.before.value_of.ensures c.before.before.before.before.before.before.before.before.value-of2.ensures c.before.before.before.value-of3.ensures c.before.before.before.before.before.before.before.before.before.before.before.before.put-number.ensures c.before.before.before.before.before.before.before.put-number2.ensures c.before.before.put-number3.ensures
+returns c = values_put _ _ _ _ _ _ _ _ _ c.before.before.before.before.before.before.before.before.before.before.before.before.before.value_of.ensures c.before.before.before.before.before.before.before.before.value-of2.ensures c.before.before.before.value-of3.ensures c.before.before.before.before.before.before.before.before.before.before.before.before.put-number.ensures c.before.before.before.before.before.before.before.put-number2.ensures c.before.before.put-number3.ensures
 
 pub put-values-spec : {M : Type 1} → statement M
 put-values-spec =

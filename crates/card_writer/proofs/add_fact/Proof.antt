@@ -3,7 +3,7 @@ use native.Mathlib.Omega.{arith}
 use mathlib.Core.Path.{refl, ap}
 use borrow.Author.Rules.{rules}
 use lib.ListN.{set}
-use Rattle.card_writer.proofs.SheetLaws.{holding-more}
+use Rattle.card_writer.proofs.SheetLaws.{holding_more}
 use Rattle.card_writer.proofs.add_fact.Statement.{statement}
 use Rattle.card_writer.proofs.add_fact.Tie as tie
 
@@ -29,7 +29,7 @@ same_length : tie.Need-same-length
 same_length c = search rules
 
 returns : tie.Need-returns
-returns c = λ n rs h e. holding-more _ _ n _ rs _ h e c.before.before.before.before.before.requires.1 (rw c.before.before.put-fact.ensures refl)
+returns c = λ n rs h e. holding_more _ _ n _ rs _ h e c.before.before.before.before.before.requires.1 (rw c.before.before.put-fact.ensures refl)
 
 pub add-fact-spec : {M : Type 1} → statement M
 add-fact-spec =

@@ -3,7 +3,7 @@ use Prim.Native.Nat.{◌-◌}
 use native.Mathlib.Omega.{arith}
 use borrow.Author.Rules.{rules}
 use lib.ListN.{length, length-set}
-use Rattle.card_writer.proofs.SheetLaws.{Cleared, cleared-none, cleared_more, cleared-all}
+use Rattle.card_writer.proofs.SheetLaws.{Cleared, cleared_none, cleared_more, cleared_all}
 use Rattle.card_writer.proofs.clear.Statement.{statement}
 use Rattle.card_writer.proofs.clear.Tie as tie
 
@@ -14,7 +14,7 @@ abbrev decreases-loop : tie.decreases-loop
 decreases-loop out₀ i₀ out i = length out₀ - i
 
 loop-holds : tie.Need-loop-init invariant-loop decreases-loop
-loop-holds c = cleared-none _
+loop-holds c = cleared_none _
 
 slice-write-out : tie.Need-slice-write-out invariant-loop decreases-loop
 slice-write-out c = omega arith
@@ -32,7 +32,7 @@ same_length : tie.Need-same-length invariant-loop decreases-loop
 same_length c = c.before.loop.invariant.size
 
 returns : tie.Need-returns invariant-loop decreases-loop
-returns c = cleared-all c.before.loop.invariant (omega arith)
+returns c = cleared_all c.before.loop.invariant (omega arith)
 
 pub clear_spec : {M : Type 1} → statement M
 clear_spec =

@@ -2,7 +2,7 @@
 use Prim.Native.Nat.{◌-◌}
 use native.Mathlib.Omega.{arith}
 use borrow.Author.Rules.{rules}
-use Rattle.card_writer.proofs.StoreLaws.{Copied, copied-start, copied_more, copied-size, copied_all}
+use Rattle.card_writer.proofs.StoreLaws.{Copied, copied_start, copied_more, copied_size, copied_all}
 use Rattle.card_writer.proofs.copy_block.Statement.{statement}
 use Rattle.card_writer.proofs.copy_block.Tie as tie
 
@@ -13,7 +13,7 @@ abbrev decreases-loop : tie.decreases-loop
 decreases-loop block out₀ at i₀ out i = 512 - i
 
 loop-holds : tie.Need-loop-init invariant-loop decreases-loop
-loop-holds c = copied-start _ _ _
+loop-holds c = copied_start _ _ _
 
 element-copy-out-out : tie.Need-element-copy-out-out invariant-loop decreases-loop
 element-copy-out-out c = omega (arith, c.before.before.requires.0)
@@ -22,7 +22,7 @@ add-out : tie.Need-overflow-add-out invariant-loop decreases-loop
 add-out c = omega (arith, c.before.before.before.requires.1)
 
 slice-write-out : tie.Need-slice-write-out invariant-loop decreases-loop
-slice-write-out c = omega (arith, c.before.before.before.requires.1, copied-size c.before.before.loop.invariant)
+slice-write-out c = omega (arith, c.before.before.before.requires.1, copied_size c.before.before.loop.invariant)
 
 add-i : tie.Need-overflow-add-i invariant-loop decreases-loop
 add-i c = omega arith
@@ -34,7 +34,7 @@ loop-again : tie.Need-loop-preserved invariant-loop decreases-loop
 loop-again c = copied_more c.before.before.loop.invariant (omega arith) c.before.before.before.requires.0
 
 same_length : tie.Need-same-length invariant-loop decreases-loop
-same_length c = copied-size c.before.loop.invariant
+same_length c = copied_size c.before.loop.invariant
 
 returns : tie.Need-returns invariant-loop decreases-loop
 returns c = copied_all c.before.loop.invariant (omega arith) c.before.before.requires.0

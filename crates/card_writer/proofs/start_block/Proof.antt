@@ -5,7 +5,7 @@ use mathlib.Core.List.{[]}
 use borrow.Author.Rules.{rules}
 use lib.ListN.{length-set}
 use Rattle.cards.specs.Bytes.{filled}
-use Rattle.card_writer.proofs.SheetLaws.{cleared-long, holding-none}
+use Rattle.card_writer.proofs.SheetLaws.{cleared_long, holding_none}
 use Prim.Native.Nat.{ℕ}
 use Rattle.card_writer.proofs.start_block.Statement.{statement}
 use Rattle.card_writer.proofs.start_block.Tie as tie
@@ -17,13 +17,13 @@ slice-write-out : tie.Need-slice-write-out
 slice-write-out c = search rules
 
 put-number-requires : tie.Need-put-number-requires
-put-number-requires c κs = simp length-set (omega (arith, cleared-long _ (c.before.before.before.clear.ensures ∙ ap (λ (n : ℕ). filled n []) c.before.before.before.before.before.before.requires)))
+put-number-requires c κs = simp length-set (omega (arith, cleared_long _ (c.before.before.before.clear.ensures ∙ ap (λ (n : ℕ). filled n []) c.before.before.before.before.before.before.requires)))
 
 same_length : tie.Need-same-length
-same_length c = (holding-none _ _ _ (c.before.before.before.before.before.before.clear.ensures ∙ ap (λ (n : ℕ). filled n []) c.before.before.before.before.before.before.before.before.before.requires) c.before.before.put-number.ensures).size ∙ sym c.before.before.before.before.before.before.before.before.before.requires
+same_length c = (holding_none _ _ _ (c.before.before.before.before.before.before.clear.ensures ∙ ap (λ (n : ℕ). filled n []) c.before.before.before.before.before.before.before.before.before.requires) c.before.before.put-number.ensures).size ∙ sym c.before.before.before.before.before.before.before.before.before.requires
 
 returns : tie.Need-returns
-returns c = holding-none _ _ _ (c.before.before.before.before.before.before.clear.ensures ∙ ap (λ (n : ℕ). filled n []) c.before.before.before.before.before.before.before.before.before.requires) c.before.before.put-number.ensures
+returns c = holding_none _ _ _ (c.before.before.before.before.before.before.clear.ensures ∙ ap (λ (n : ℕ). filled n []) c.before.before.before.before.before.before.before.before.before.requires) c.before.before.put-number.ensures
 
 pub start-block-spec : {M : Type 1} → statement M
 start-block-spec =

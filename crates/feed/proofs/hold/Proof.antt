@@ -2,7 +2,7 @@
 use native.Mathlib.Omega.{arith}
 use Prim.Native.Nat.{◌-◌}
 use lib.ListN.{length}
-use Rattle.feed.proofs.HeldLaws.{Holding, hold-none, hold-more, hold-rest, hold-all}
+use Rattle.feed.proofs.HeldLaws.{Holding, hold_none, hold_more, hold_rest, hold_all}
 use Rattle.feed.proofs.hold.Statement.{statement}
 use Rattle.feed.proofs.hold.Tie as tie
 
@@ -13,13 +13,13 @@ abbrev decreases-loop : tie.decreases-loop
 decreases-loop held bytes line₀ n₀ i₀ line n i = length bytes - i
 
 loop-holds : tie.Need-loop-init invariant-loop decreases-loop
-loop-holds c = hold-none _ _ _ (omega arith)
+loop-holds c = hold_none _ _ _ (omega arith)
 
 same_length : tie.Need-same-length invariant-loop decreases-loop
 same_length c = c.before.before.loop.invariant.size
 
 returns : tie.Need-returns invariant-loop decreases-loop
-returns c = (c.before.before.loop.invariant.few, hold-rest c.before.before.loop.invariant (omega (arith, c.before.before.loop.invariant.size)))
+returns c = (c.before.before.loop.invariant.few, hold_rest c.before.before.loop.invariant (omega (arith, c.before.before.loop.invariant.size)))
 
 shared-slice-read-line : tie.Need-shared-slice-read-line invariant-loop decreases-loop
 shared-slice-read-line c = omega arith
@@ -37,13 +37,13 @@ loop-less : tie.Need-loop-smaller invariant-loop decreases-loop
 loop-less c = omega arith
 
 loop-again : tie.Need-loop-preserved invariant-loop decreases-loop
-loop-again c = hold-more c.before.before.before.loop.invariant (omega arith) (omega (arith, c.before.before.before.loop.invariant.size))
+loop-again c = hold_more c.before.before.before.loop.invariant (omega arith) (omega (arith, c.before.before.before.loop.invariant.size))
 
 same-length-2 : tie.Need-same-length-2 invariant-loop decreases-loop
 same-length-2 c = c.before.loop.invariant.size
 
 returns-2 : tie.Need-returns-2 invariant-loop decreases-loop
-returns-2 c = (c.before.loop.invariant.few, hold-all c.before.loop.invariant (omega arith))
+returns-2 c = (c.before.loop.invariant.few, hold_all c.before.loop.invariant (omega arith))
 
 pub hold-spec : {M : Type 1} → statement M
 hold-spec =

@@ -5,7 +5,7 @@ use mathlib.Core.Path.{◌≡◌}
 use Prim.Native.Nat.{◌+◌, ◌-◌, ◌≤◌}
 use lib.Seq.{slice}
 use Rattle.feed.specs.Feeds.{before}
-use Rattle.feed.proofs.EndLaws.{end-here, end_later, end_none}
+use Rattle.feed.proofs.EndLaws.{end_here, end_later, end_none}
 use Rattle.feed.proofs.line_end.Statement.{statement}
 use Rattle.feed.proofs.line_end.Tie as tie
 
@@ -24,7 +24,7 @@ shared-slice-read-if1 c = omega arith
 returns : tie.Need-returns invariant-loop decreases-loop
 returns c =
     let s = c.before.before.before in
-    let none = end-here s.before.args.block.now s.loop.i s.before.args.n (omega arith) (omega arith) c.if1.true in
+    let none = end_here s.before.args.block.now s.loop.i s.before.args.n (omega arith) (omega arith) c.if1.true in
     (omega (arith, s.loop.invariant.0, none), omega arith)
 
 add-i : tie.Need-overflow-add-i invariant-loop decreases-loop

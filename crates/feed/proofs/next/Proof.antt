@@ -1,7 +1,7 @@
 -- `feed::next` meets its contract: the bytes before the first line end are held. Assumes nothing.
 use native.Mathlib.Omega.{arith}
 use borrow.Author.Rules.{rules}
-use Rattle.feed.proofs.EndLaws.{passed-all, passed-one}
+use Rattle.feed.proofs.EndLaws.{passed_all, passed_one}
 use Rattle.feed.proofs.next.Statement.{statement}
 use Rattle.feed.proofs.next.Tie as tie
 
@@ -24,7 +24,7 @@ returns : tie.Need-returns
 returns c =
     let s = c.before.before.before.before.before.before in
     let e = c.before.before.before.before.line-end in
-    passed-all s.args.from s.args.n s.args.block.now s.args.held s.args.line.now c.before.hold.new.1.1.0 c.before.hold.result e.result s.requires.1 s.requires.2 e.ensures.0 e.ensures.1 (omega (arith, c.before.hold.ensures.0)) c.before.hold.ensures.1 c.if1.true
+    passed_all s.args.from s.args.n s.args.block.now s.args.held s.args.line.now c.before.hold.new.1.1.0 c.before.hold.result e.result s.requires.1 s.requires.2 e.ensures.0 e.ensures.1 (omega (arith, c.before.hold.ensures.0)) c.before.hold.ensures.1 c.if1.true
 
 add-t9 : tie.Need-overflow-add-t9
 add-t9 c = search rules
@@ -33,7 +33,7 @@ returns-2 : tie.Need-returns-2
 returns-2 c =
     let s = c.before.before.before.before.before.before in
     let e = c.before.before.before.before.line-end in
-    passed-one s.args.from s.args.n s.args.block.now s.args.held s.args.line.now c.before.hold.new.1.1.0 c.before.hold.result e.result s.requires.1 s.requires.2 e.ensures.0 e.ensures.1 (omega (arith, c.before.hold.ensures.0)) c.before.hold.ensures.1 c.if1.false
+    passed_one s.args.from s.args.n s.args.block.now s.args.held s.args.line.now c.before.hold.new.1.1.0 c.before.hold.result e.result s.requires.1 s.requires.2 e.ensures.0 e.ensures.1 (omega (arith, c.before.hold.ensures.0)) c.before.hold.ensures.1 c.if1.false
 
 pub next-spec : {M : Type 1} → statement M
 next-spec =

@@ -2,8 +2,8 @@
 use mathlib.Core.Path.{refl}
 use borrow.Author.Rules.{rules}
 use Rattle.rule.specs.Decoded.{row_of}
-use Rattle.instructions.specs.Read.{rowTurn}
-use Rattle.instructions.proofs.ReadLaws.{row_is, hit-yes, hit-no}
+use Rattle.instructions.specs.Read.{row_turn}
+use Rattle.instructions.proofs.ReadLaws.{row_is, hit_yes, hit_no}
 use Rattle.instructions.proofs.turn.Statement.{statement}
 use Rattle.instructions.proofs.turn.Tie as tie
 
@@ -41,35 +41,35 @@ enum-told-6 : tie.Need-enum-told-6
 enum-told-6 c = search rules
 
 returns : tie.Need-returns
-unfolding row_of rowTurn
+unfolding row_of row_turn
 returns c = rw c.enum_told.given.1 refl
 
 returns-2 : tie.Need-returns-2
-unfolding row_of rowTurn
-returns-2 c = row_is _ _ _ c.before.before.before.before.before.before.row.given.1 (hit-yes _ c.before.before.before.before.before.before.before.before.args.matched _ _ c.before.before.before.before.if1.true c.before.before.before.place-of.ensures c.before.before.place-of2.ensures c.before.place-of3.ensures c.place-of4.ensures)
+unfolding row_of row_turn
+returns-2 c = row_is _ _ _ c.before.before.before.before.before.before.row.given.1 (hit_yes _ c.before.before.before.before.before.before.before.before.args.matched _ _ c.before.before.before.before.if1.true c.before.before.before.place_of_law.ensures c.before.before.place-of2.ensures c.before.place-of3.ensures c.place-of4.ensures)
 
 returns-3 : tie.Need-returns-3
-unfolding row_of rowTurn
-returns-3 c = row_is _ _ _ c.before.before.row.given.1 (hit-no _ c.before.before.before.before.args.matched _ _ c.if1.false)
+unfolding row_of row_turn
+returns-3 c = row_is _ _ _ c.before.before.row.given.1 (hit_no _ c.before.before.before.before.args.matched _ _ c.if1.false)
 
 returns-4 : tie.Need-returns-4
-unfolding row_of rowTurn
+unfolding row_of row_turn
 returns-4 c = rw c.enum-told2.given.1 refl
 
 returns-5 : tie.Need-returns-5
-unfolding row_of rowTurn
+unfolding row_of row_turn
 returns-5 c = rw c.enum-told3.given.1 refl
 
 returns-6 : tie.Need-returns-6
-unfolding row_of rowTurn
+unfolding row_of row_turn
 returns-6 c = rw c.enum-told4.given.1 refl
 
 returns-7 : tie.Need-returns-7
-unfolding row_of rowTurn
+unfolding row_of row_turn
 returns-7 c = rw c.enum-told5.given.1 refl
 
 returns-8 : tie.Need-returns-8
-unfolding row_of rowTurn
+unfolding row_of row_turn
 returns-8 c = rw c.enum-told6.given.1 refl
 
 pub turn_spec : {M : Type 1} → statement M

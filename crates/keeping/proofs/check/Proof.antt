@@ -4,8 +4,8 @@ use native.Mathlib.Omega.{arith}
 use mathlib.Core.Path.{◌∙◌}
 use lib.ListN.{length}
 use Rattle.keeping.specs.Checks.{Inside, ZeroFrom, Right, Apart, InRowOrder}
-use Rattle.keeping.proofs.CheckLaws.{says-yes}
-use Rattle.keeping.proofs.VerdictLaws.{Passed, passed-table, passed-rows, kept-right, kept-order, refused, refused-by, verdict, leaves-no, leaves_all}
+use Rattle.keeping.proofs.CheckLaws.{says_yes}
+use Rattle.keeping.proofs.VerdictLaws.{Passed, passed_table, passed_rows, kept_right, kept_order, refused, refused_by, verdict, leaves_no, leaves_all}
 use Rattle.nodes.proofs.ChainLaws.{chained_same}
 use borrow.Author.Rules.{rules}
 use borrow.Author.Tests.{not-false}
@@ -40,7 +40,7 @@ inside-requires c κs = search rules
 returns-2 : tie.Need-returns-2
 returns-2 c =
     let s = start1 c.before.before in
-    let no-inside = refused-by _ _ _ _ _ _ _ (Inside s.args.refs.now s.args.count s.args.kept) c.before.inside.result c.before.inside.ensures c.if2.true in
+    let no-inside = refused_by _ _ _ _ _ _ _ (Inside s.args.refs.now s.args.count s.args.kept) c.before.inside.result c.before.inside.ensures c.if2.true in
     (no-inside (λ w. w.inside), leaves_all _ _ _)
 
 rest-zero-requires : tie.Need-rest-zero-requires
@@ -49,7 +49,7 @@ rest-zero-requires c κs = search rules
 returns-3 : tie.Need-returns-3
 returns-3 c =
     let s = start2 c.before.before.before in
-    let no-past = refused-by _ _ _ _ _ _ _ (ZeroFrom s.args.count s.args.refs.now) c.before.rest-zero.result c.before.rest-zero.ensures c.if3.true in
+    let no-past = refused_by _ _ _ _ _ _ _ (ZeroFrom s.args.count s.args.refs.now) c.before.rest-zero.result c.before.rest-zero.ensures c.if3.true in
     (no-past (λ w. w.none), leaves_all _ _ _)
 
 mul-rest-zero : tie.Need-overflow-mul-rest-zero
@@ -61,7 +61,7 @@ rest-zero-requires-2 c κs = search rules
 returns-4 : tie.Need-returns-4
 returns-4 c =
     let s = start3 c.before.before in
-    let no-rest-zero = refused-by _ _ _ _ _ _ _ (ZeroFrom (3 * s.args.kept) s.args.nodes.now) c.before.rest-zero2.result c.before.rest-zero2.ensures c.if4.true in
+    let no-rest-zero = refused_by _ _ _ _ _ _ _ (ZeroFrom (3 * s.args.kept) s.args.nodes.now) c.before.rest-zero2.result c.before.rest-zero2.ensures c.if4.true in
     (no-rest-zero (λ w. w.rest), leaves_all _ _ _)
 
 mul-all-right : tie.Need-overflow-mul-all-right
@@ -74,8 +74,8 @@ returns-5 : tie.Need-returns-5
 returns-5 c =
     let s = start4 c.before.before in
     let long = s.pre.0.3 in
-    let no-all-right = refused-by _ _ _ _ _ _ _ (Right s.args.nodes.now s.args.kept (4 * s.args.k)) c.before.all_right.result c.before.all_right.ensures c.if5.true in
-    (no-all-right (λ w. kept-right s.args.k _ _ _ s.args.refs.now _ _ (omega (arith, s.pre.0.0)) (omega (arith, long, s.pre.0.2)) w), leaves_all _ _ _)
+    let no-all-right = refused_by _ _ _ _ _ _ _ (Right s.args.nodes.now s.args.kept (4 * s.args.k)) c.before.all_right.result c.before.all_right.ensures c.if5.true in
+    (no-all-right (λ w. kept_right s.args.k _ _ _ s.args.refs.now _ _ (omega (arith, s.pre.0.0)) (omega (arith, long, s.pre.0.2)) w), leaves_all _ _ _)
 
 all-differ-requires : tie.Need-all-differ-requires
 all-differ-requires c κs = search rules
@@ -86,8 +86,8 @@ same_length c = search rules
 returns-6 : tie.Need-returns-6
 returns-6 c =
     let s = start5 c.before.before.before.before.before in
-    let no-all-differ = refused-by _ _ _ _ _ _ _ (Apart s.args.nodes.now s.args.kept) c.before.before.before.all-differ.result c.before.before.before.all-differ.ensures.0 c.if6.true in
-    (no-all-differ (λ w. w.apart), leaves-no c.before.before.before.all-differ.ensures.1.0.rest)
+    let no-all-differ = refused_by _ _ _ _ _ _ _ (Apart s.args.nodes.now s.args.kept) c.before.before.before.all-differ.result c.before.before.before.all-differ.ensures.0 c.if6.true in
+    (no-all-differ (λ w. w.apart), leaves_no c.before.before.before.all-differ.ensures.1.0.rest)
 
 -- what the passes before the order have shown
 passed : (c : tie.Else6) → Passed (start6 c).args.k (length (start6 c).args.nodes.now / 3) (start6 c).args.count (start6 c).args.refs.now (start6 c).args.kept (start6 c).args.nodes.now
@@ -100,17 +100,17 @@ passed c =
     let s = start6 c in
     record {
       fits = e1.if1.false;
-      inside = says-yes (Inside s.args.refs.now s.args.count s.args.kept) e2.before.inside.result e2.before.inside.ensures e2.if2.false;
-      none = says-yes (ZeroFrom s.args.count s.args.refs.now) e3.before.rest-zero.result e3.before.rest-zero.ensures e3.if3.false;
-      rest = says-yes (ZeroFrom (3 * s.args.kept) s.args.nodes.now) e4.before.rest-zero2.result e4.before.rest-zero2.ensures e4.if4.false;
-      right = says-yes (Right s.args.nodes.now s.args.kept (4 * s.args.k)) e5.before.all_right.result e5.before.all_right.ensures e5.if5.false;
-      apart = says-yes (Apart s.args.nodes.now s.args.kept) c.before.before.before.all-differ.result c.before.before.before.all-differ.ensures.0 c.if6.false;
+      inside = says_yes (Inside s.args.refs.now s.args.count s.args.kept) e2.before.inside.result e2.before.inside.ensures e2.if2.false;
+      none = says_yes (ZeroFrom s.args.count s.args.refs.now) e3.before.rest-zero.result e3.before.rest-zero.ensures e3.if3.false;
+      rest = says_yes (ZeroFrom (3 * s.args.kept) s.args.nodes.now) e4.before.rest-zero2.result e4.before.rest-zero2.ensures e4.if4.false;
+      right = says_yes (Right s.args.nodes.now s.args.kept (4 * s.args.k)) e5.before.all_right.result e5.before.all_right.ensures e5.if5.false;
+      apart = says_yes (Apart s.args.nodes.now s.args.kept) c.before.before.before.all-differ.result c.before.before.before.all-differ.ensures.0 c.if6.false;
     }
 
 rows-in-order-requires : tie.Need-rows-in-order-requires
 rows-in-order-requires c κs =
     let s = start6 c in
-    ((passed-table (passed c) s.pre.1.few s.pre.1.nodes, (passed c).inside), (s.pre.0.2, s.pre.0.3))
+    ((passed_table (passed c) s.pre.1.few s.pre.1.nodes, (passed c).inside), (s.pre.0.2, s.pre.0.3))
 
 same-length-2 : tie.Need-same-length-2
 same-length-2 c = search rules
@@ -118,8 +118,8 @@ same-length-2 c = search rules
 returns-7 : tie.Need-returns-7
 returns-7 c =
     let s = start6 c.before.before in
-    let no-rows-in-order = refused-by _ _ _ _ _ _ _ (InRowOrder s.args.nodes.now s.args.kept s.args.refs.now s.args.count) c.before.rows-in-order.result c.before.rows-in-order.ensures c.if7.true in
-    (no-rows-in-order (λ w. kept-order _ _ _ _ _ _ _ w), leaves-no c.before.before.before.before.before.all-differ.ensures.1.0.rest)
+    let no-rows-in-order = refused_by _ _ _ _ _ _ _ (InRowOrder s.args.nodes.now s.args.kept s.args.refs.now s.args.count) c.before.rows-in-order.result c.before.rows-in-order.ensures c.if7.true in
+    (no-rows-in-order (λ w. kept_order _ _ _ _ _ _ _ w), leaves_no c.before.before.before.before.before.all-differ.ensures.1.0.rest)
 
 free-only-requires : tie.Need-free-only-requires
 free-only-requires c κs =
@@ -127,7 +127,7 @@ free-only-requires c κs =
     let s = start6 c.before.before.before in
     let fits = p.fits in
     let size = c.before.before.before.before.before.before.all-differ.auto.1.1.0 in
-    ((passed-table p s.pre.1.few s.pre.1.nodes, p.right), (passed-rows p s.pre.0.2, (omega (arith, s.pre.1.room, size), omega (arith, s.pre.0.0), omega (arith, s.pre.0.1))))
+    ((passed_table p s.pre.1.few s.pre.1.nodes, p.right), (passed_rows p s.pre.0.2, (omega (arith, s.pre.1.room, size), omega (arith, s.pre.0.0), omega (arith, s.pre.0.1))))
 
 same-length-3 : tie.Need-same-length-3
 same-length-3 c = search rules
@@ -138,8 +138,8 @@ returns-8 c =
     let s = start6 e7.before.before in
     let p = passed e7.before.before in
     let fits = p.fits in
-    let order = says-yes (InRowOrder s.args.nodes.now s.args.kept s.args.refs.now s.args.count) e7.before.rows-in-order.result e7.before.rows-in-order.ensures e7.if7.false in
-    let last = c.before.before.free-only in
+    let order = says_yes (InRowOrder s.args.nodes.now s.args.kept s.args.refs.now s.args.count) e7.before.rows-in-order.result e7.before.rows-in-order.ensures e7.if7.false in
+    let last = c.before.before.free_only in
     let differ = e7.before.before.before.before.before.all-differ in
     let chains = differ.ensures.1 in (
       verdict _ s.args.allowed.now _ _ s.args.refs.now _ s.args.nodes.now p order last.result last.ensures.0,

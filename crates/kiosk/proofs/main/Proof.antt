@@ -4,16 +4,16 @@ use native.Mathlib.Omega.{arith}
 use borrow.Author.Rules.{rules}
 use Prim.Native.Nat.{◌+◌, ◌≤◌}
 use Rattle.session.specs.Sessions.{Sound}
-use Rattle.kiosk.specs.Desks.{deskOf}
+use Rattle.kiosk.specs.Desks.{desk_of}
 use Rattle.kiosk.specs.Runs.{Reached}
-use Rattle.kiosk.proofs.ReachLaws.{reached-first, reached-more, reached-answers}
-use Rattle.kiosk.proofs.ServeLaws.{opened-sound}
+use Rattle.kiosk.proofs.ReachLaws.{reached_first, reached_more, reached_answers}
+use Rattle.kiosk.proofs.ServeLaws.{opened_sound}
 use Rattle.kiosk.proofs.main.Statement.{statement}
 use Rattle.kiosk.proofs.main.Tie as tie
 
 abbrev invariant-loop : tie.invariant-loop
 invariant-loop block₀ line₀ rows₀ nodes₀ values₀ work₀ out₀ s₀ held₀ left₀ block line rows nodes values work out s held left =
-    Sound s × (held ≤ 101) × (s.ordinal + left ≤ 18446744073709551614) × Reached (deskOf s held line rows nodes values work)
+    Sound s × (held ≤ 101) × (s.ordinal + left ≤ 18446744073709551614) × Reached (desk_of s held line rows nodes values work)
 
 abbrev decreases-loop : tie.decreases-loop
 decreases-loop block₀ line₀ rows₀ nodes₀ values₀ work₀ out₀ s₀ held₀ left₀ block line rows nodes values work out s held left = left
@@ -26,8 +26,8 @@ sub-left c = omega arith
 
 loop-holds : tie.Need-loop-init invariant-loop decreases-loop
 loop-holds c =
-    let opened = opened-sound c.opened.ensures in
-    (opened.0, omega arith, omega (arith, opened.1), reached-first c.opened.ensures)
+    let opened = opened_sound c.opened.ensures in
+    (opened.0, omega arith, omega (arith, opened.1), reached_first c.opened.ensures)
 
 fill-requires : tie.Need-fill-requires invariant-loop decreases-loop
 fill-requires c κs = tt
@@ -50,7 +50,7 @@ over-requires : tie.Need-over-requires invariant-loop decreases-loop
 over-requires c κs = tt
 
 write-out-requires : tie.Need-write-out-requires invariant-loop decreases-loop
-write-out-requires c κs = (omega (arith, c.before.before.before.lines_of.ensures.0.near), reached-answers c.before.before.before.before.before.before.before.before.before.before.before.before.before.before.before.before.before.loop.invariant.3 c.before.before.before.lines_of.ensures.1)
+write-out-requires c κs = (omega (arith, c.before.before.before.lines_of.ensures.0.near), reached_answers c.before.before.before.before.before.before.before.before.before.before.before.before.before.before.before.before.before.loop.invariant.3 c.before.before.before.lines_of.ensures.1)
 
 left-after-requires : tie.Need-left-after-requires invariant-loop decreases-loop
 left-after-requires c κs =
@@ -61,7 +61,7 @@ loop-less : tie.Need-loop-smaller invariant-loop decreases-loop
 loop-less c = c.left_After.ensures.less
 
 loop-again : tie.Need-loop-preserved invariant-loop decreases-loop
-loop-again c = (c.before.before.before.before.before.lines_of.ensures.0.sound, c.before.before.before.before.before.lines_of.ensures.0.few, omega (arith, c.before.before.before.before.before.lines_of.ensures.0.counted, c.left_After.ensures.counted, c.before.before.before.before.before.before.before.before.before.before.before.before.before.before.before.before.before.before.before.loop.invariant.2), reached-more c.before.before.before.before.before.before.before.before.before.before.before.before.before.before.before.before.before.before.before.loop.invariant.3 c.before.before.before.before.before.lines_of.ensures.1)
+loop-again c = (c.before.before.before.before.before.lines_of.ensures.0.sound, c.before.before.before.before.before.lines_of.ensures.0.few, omega (arith, c.before.before.before.before.before.lines_of.ensures.0.counted, c.left_After.ensures.counted, c.before.before.before.before.before.before.before.before.before.before.before.before.before.before.before.before.before.before.before.loop.invariant.2), reached_more c.before.before.before.before.before.before.before.before.before.before.before.before.before.before.before.before.before.before.before.loop.invariant.3 c.before.before.before.before.before.lines_of.ensures.1)
 
 returns-2 : tie.Need-returns-2 invariant-loop decreases-loop
 returns-2 c = tt

@@ -2,7 +2,7 @@
 use borrow.Author.Rules.{rules}
 use native.Mathlib.Omega.{arith}
 use borrow.Author.Tests.{not-true, not-false}
-use Rattle.lines.proofs.Event.{event-no-run, event-no-predicate, event-too-many, event-written}
+use Rattle.lines.proofs.Event.{event_no_run, event_no_predicate, event_too_many, event_written}
 use Rattle.lines.proofs.event_line.Statement.{statement}
 use Rattle.lines.proofs.event_line.Tie as tie
 
@@ -11,22 +11,22 @@ numbers-from-requires c κs = search rules
 
 returns : tie.Need-returns
 returns c =
-    event-no-run
+    event_no_run
     c.before.before.before.before.requires
-    (c.before.before.numbers-from.ensures.none (not-true _ c.if1.true))
+    (c.before.before.numbers_from.ensures.none (not-true _ c.if1.true))
 
 returns-2 : tie.Need-returns-2
 returns-2 c =
-    event-no-predicate
+    event_no_predicate
     c.before.before.before.before.before.requires
-    (c.before.before.before.numbers-from.ensures.run (not-false _ c.before.if1.false))
+    (c.before.before.before.numbers_from.ensures.run (not-false _ c.before.if1.false))
     (omega arith)
 
 returns-3 : tie.Need-returns-3
 returns-3 c =
-    event-too-many
+    event_too_many
     c.before.before.before.before.before.before.requires
-    (c.before.before.before.before.numbers-from.ensures.run (not-false _ c.before.before.if1.false))
+    (c.before.before.before.before.numbers_from.ensures.run (not-false _ c.before.before.if1.false))
     (omega arith)
 
 array-read-t8 : tie.Need-array-read-t8
@@ -52,10 +52,10 @@ array-read-t22 c = search rules
 
 returns-4 : tie.Need-returns-4
 returns-4 c =
-    event-written
+    event_written
     _
     c.before.before.before.before.before.before.before.requires
-    (c.before.before.before.before.before.numbers-from.ensures.run (not-false _ c.before.before.before.if1.false))
+    (c.before.before.before.before.before.numbers_from.ensures.run (not-false _ c.before.before.before.if1.false))
     (omega arith)
     (omega arith)
 

@@ -4,8 +4,8 @@ use borrow.Author.Rules.{rules}
 use native.Mathlib.Omega.{arith}
 use Prim.Native.Nat.{◌-◌}
 use lib.ListN.{length}
-use Rattle.lines.proofs.Opens.{none-past, none_first}
-use Rattle.lines.proofs.Begun.{Begun, begun_first, begun_more, begun-stops, begun-ends, begun-zero, begun-over}
+use Rattle.lines.proofs.Opens.{none_past, none_first}
+use Rattle.lines.proofs.Begun.{Begun, begun_first, begun_more, begun_stops, begun_ends, begun_zero, begun_over}
 use Rattle.lines.proofs.number_at.Statement.{statement}
 use Rattle.lines.proofs.number_at.Tie as tie
 
@@ -16,7 +16,7 @@ abbrev decreases-loop : tie.decreases-loop
 decreases-loop line at first value₀ i₀ value i = length line - i
 
 returns : tie.Need-returns invariant-loop decreases-loop
-returns c = none-past (omega arith)
+returns c = none_past (omega arith)
 
 shared-slice-read-first : tie.Need-shared-slice-read-first invariant-loop decreases-loop
 shared-slice-read-first c = search rules
@@ -43,17 +43,17 @@ cast-t16 : tie.Need-overflow-cast-t16 invariant-loop decreases-loop
 cast-t16 c = search rules
 
 returns-4 : tie.Need-returns-4 invariant-loop decreases-loop
-returns-4 c = begun-stops c.before.before.before.loop.invariant (omega arith) (omega arith)
+returns-4 c = begun_stops c.before.before.before.loop.invariant (omega arith) (omega arith)
 
 cast-t17 : tie.Need-overflow-cast-t17 invariant-loop decreases-loop
 cast-t17 c = search rules
 
 returns-5 : tie.Need-returns-5 invariant-loop decreases-loop
-returns-5 c = begun-stops c.before.before.before.before.loop.invariant (omega arith) (omega arith)
+returns-5 c = begun_stops c.before.before.before.before.loop.invariant (omega arith) (omega arith)
 
 returns-6 : tie.Need-returns-6 invariant-loop decreases-loop
 returns-6 c =
-    begun-zero
+    begun_zero
     c.before.before.before.before.before.loop.invariant
     (omega arith)
     (omega arith)
@@ -70,7 +70,7 @@ add-more c = omega arith
 
 returns-7 : tie.Need-returns-7 invariant-loop decreases-loop
 returns-7 c =
-    begun-over
+    begun_over
     _
     c.before.before.before.before.before.before.before.loop.invariant
     (omega arith)
@@ -100,7 +100,7 @@ cast-t20 : tie.Need-overflow-cast-t20 invariant-loop decreases-loop
 cast-t20 c = search rules
 
 returns-8 : tie.Need-returns-8 invariant-loop decreases-loop
-returns-8 c = begun-ends c.before.loop.invariant (omega arith)
+returns-8 c = begun_ends c.before.loop.invariant (omega arith)
 
 pub number-at-spec : {M : Type 1} → statement M
 number-at-spec =

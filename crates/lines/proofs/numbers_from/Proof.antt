@@ -4,8 +4,8 @@ use borrow.Author.Rules.{rules}
 use native.Mathlib.Omega.{arith}
 use Prim.Native.Nat.{◌-◌}
 use lib.ListN.{length}
-use Rattle.lines.proofs.Run.{found-run, found_none}
-use Rattle.lines.proofs.Running.{Running, running-start, running_more, running-whole, running-gap, running-tenth, running_none}
+use Rattle.lines.proofs.Run.{found_run, found_none}
+use Rattle.lines.proofs.Running.{Running, running_start, running_more, running_whole, running_gap, running_tenth, running_none}
 use Rattle.lines.proofs.numbers_from.Statement.{statement}
 use Rattle.lines.proofs.numbers_from.Tie as tie
 
@@ -16,18 +16,18 @@ abbrev decreases-loop : tie.decreases-loop
 decreases-loop line at none all₀ count₀ i₀ all count i = length line - i
 
 loop-holds : tie.Need-loop-init invariant-loop decreases-loop
-loop-holds c = running-start _ _ c.before.requires
+loop-holds c = running_start _ _ c.before.requires
 
 shared-slice-read-if1 : tie.Need-shared-slice-read-if1 invariant-loop decreases-loop
 shared-slice-read-if1 c = search rules
 
 returns : tie.Need-returns invariant-loop decreases-loop
 returns c =
-    found_none (running-gap c.before.before.before.loop.invariant (omega arith) (omega arith))
+    found_none (running_gap c.before.before.before.loop.invariant (omega arith) (omega arith))
 
 returns-2 : tie.Need-returns-2 invariant-loop decreases-loop
 returns-2 c =
-    found_none (running-tenth c.before.before.before.before.loop.invariant (omega arith) (omega arith))
+    found_none (running_tenth c.before.before.before.before.loop.invariant (omega arith) (omega arith))
 
 add-number-at : tie.Need-overflow-add-number-at invariant-loop decreases-loop
 add-number-at c = search rules
@@ -73,7 +73,7 @@ loop-again c =
     (rw c.before.n.given.1 at c.before.before.before.number_at.ensures)
 
 returns-4 : tie.Need-returns-4 invariant-loop decreases-loop
-returns-4 c = found-run (running-whole c.before.loop.invariant (omega arith))
+returns-4 c = found_run (running_whole c.before.loop.invariant (omega arith))
 
 pub numbers-from-spec : {M : Type 1} → statement M
 numbers-from-spec =

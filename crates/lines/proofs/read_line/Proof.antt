@@ -1,11 +1,11 @@
 -- `lines::read_line` meets its contract: no line is empty, and the first byte says which part reads the line. Assumes nothing.
 use borrow.Author.Rules.{rules}
-use Rattle.lines.proofs.Text.{empty-none}
+use Rattle.lines.proofs.Text.{empty_none}
 use Rattle.lines.proofs.read_line.Statement.{statement}
 use Rattle.lines.proofs.read_line.Tie as tie
 
 returns : tie.Need-returns
-returns c = empty-none c.if1.true
+returns c = empty_none c.if1.true
 
 shared-slice-read-first : tie.Need-shared-slice-read-first
 shared-slice-read-first c = search rules

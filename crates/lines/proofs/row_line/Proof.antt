@@ -2,7 +2,7 @@
 use borrow.Author.Rules.{rules}
 use native.Mathlib.Omega.{arith}
 use borrow.Author.Tests.{not-true, not-false}
-use Rattle.lines.proofs.Row.{row-no-run, row_count, row_written}
+use Rattle.lines.proofs.Row.{row_no_run, row_count, row_written}
 use Rattle.lines.proofs.row_line.Statement.{statement}
 use Rattle.lines.proofs.row_line.Tie as tie
 
@@ -11,15 +11,15 @@ numbers-from-requires c κs = search rules
 
 returns : tie.Need-returns
 returns c =
-    row-no-run
+    row_no_run
     c.before.before.before.before.requires
-    (c.before.before.numbers-from.ensures.none (not-true _ c.if1.true))
+    (c.before.before.numbers_from.ensures.none (not-true _ c.if1.true))
 
 returns-2 : tie.Need-returns-2
 returns-2 c =
     row_count
     c.before.before.before.before.before.before.requires
-    (c.before.before.before.before.numbers-from.ensures.run (not-false _ c.before.before.if1.false))
+    (c.before.before.before.before.numbers_from.ensures.run (not-false _ c.before.before.if1.false))
     (omega arith)
 
 array-read-t7 : tie.Need-array-read-t7
@@ -53,7 +53,7 @@ returns-3 : tie.Need-returns-3
 returns-3 c =
     row_written
     c.before.before.before.before.before.before.before.requires
-    (c.before.before.before.before.before.numbers-from.ensures.run (not-false _ c.before.before.before.if1.false))
+    (c.before.before.before.before.before.numbers_from.ensures.run (not-false _ c.before.before.before.if1.false))
     (omega arith)
 
 pub row-line-spec : {M : Type 1} → statement M

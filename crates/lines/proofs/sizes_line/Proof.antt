@@ -2,7 +2,7 @@
 use borrow.Author.Rules.{rules}
 use native.Mathlib.Omega.{arith}
 use borrow.Author.Tests.{not-true, not-false}
-use Rattle.lines.proofs.Sizes.{sizes-no-number, sizes-no-run, sizes-count, sizes-large, sizes-written}
+use Rattle.lines.proofs.Sizes.{sizes_no_number, sizes_no_run, sizes_count, sizes_large, sizes_written}
 use Rattle.lines.proofs.sizes_line.Statement.{statement}
 use Rattle.lines.proofs.sizes_line.Tie as tie
 
@@ -17,7 +17,7 @@ enum_told c = search rules
 
 returns : tie.Need-returns
 returns c =
-    sizes-no-number
+    sizes_no_number
     c.before.before.before.before.requires
     (rw c.enum_told.given.1 at c.before.before.number_at.ensures)
 
@@ -26,17 +26,17 @@ numbers-from-requires c κs = (rw c.before.k.given.1 at c.before.before.before.n
 
 returns-2 : tie.Need-returns-2
 returns-2 c =
-    sizes-no-run
+    sizes_no_run
     c.before.before.before.before.before.before.before.requires
     (rw c.before.before.before.k.given.1 at c.before.before.before.before.before.number_at.ensures)
-    (c.before.numbers-from.ensures.none (not-true _ c.if1.true))
+    (c.before.numbers_from.ensures.none (not-true _ c.if1.true))
 
 returns-3 : tie.Need-returns-3
 returns-3 c =
-    sizes-count
+    sizes_count
     c.before.before.before.before.before.before.before.before.requires
     (rw c.before.before.before.before.k.given.1 at c.before.before.before.before.before.before.number_at.ensures)
-    (c.before.before.numbers-from.ensures.run (not-false _ c.before.if1.false))
+    (c.before.before.numbers_from.ensures.run (not-false _ c.before.if1.false))
     (omega arith)
 
 element-copy-out-c : tie.Need-element-copy-out-c
@@ -44,18 +44,18 @@ element-copy-out-c c = search rules
 
 returns-4 : tie.Need-returns-4
 returns-4 c =
-    sizes-large
+    sizes_large
     c.before.before.before.before.before.before.before.before.before.before.requires
     (rw c.before.before.before.before.before.before.k.given.1 at c.before.before.before.before.before.before.before.before.number_at.ensures)
-    (c.before.before.before.before.numbers-from.ensures.run (not-false _ c.before.before.before.if1.false))
+    (c.before.before.before.before.numbers_from.ensures.run (not-false _ c.before.before.before.if1.false))
     (omega arith)
     (omega arith)
 
 returns-5 : tie.Need-returns-5
 returns-5 c =
-    sizes-written
+    sizes_written
     (rw c.before.before.before.before.before.before.k.given.1 at c.before.before.before.before.before.before.before.before.number_at.ensures)
-    (c.before.before.before.before.numbers-from.ensures.run (not-false _ c.before.before.before.if1.false))
+    (c.before.before.before.before.numbers_from.ensures.run (not-false _ c.before.before.before.if1.false))
     (omega arith)
     (omega arith)
 

@@ -3,19 +3,19 @@
 use Prim.{tt}
 use mathlib.Core.Path.{◌∙◌}
 use Rattle.monitor.specs.Said.{whole, turn_of}
-use Rattle.linked.proofs.PackingLaws.{state-read, four-counts, many-references, many-sizes}
-use Rattle.linked.proofs.CallLaws.{other-state, other-answer, other-facts, whole-facts, event-not-made, event-made}
+use Rattle.linked.proofs.PackingLaws.{state_read, four_counts, many_references, many_sizes}
+use Rattle.linked.proofs.CallLaws.{other_state, other_answer, other_facts, whole_facts, event_not_made, event_made}
 use Rattle.linked.proofs.moheguzari_event.Statement.{statement}
 use Rattle.linked.proofs.moheguzari_event.Tie as tie
 
 returns : tie.Need-returns
-returns c = event-not-made _ _ _ _ _ _ _ (other-facts _ _ _ c.if1.true)
+returns c = event_not_made _ _ _ _ _ _ _ (other_facts _ _ _ c.if1.true)
 
 returns-2 : tie.Need-returns-2
-returns-2 c = event-not-made _ _ _ _ _ _ _ (whole-facts _ _ _ c.before.if1.false ∙ other-state _ _ c.if2.true)
+returns-2 c = event_not_made _ _ _ _ _ _ _ (whole_facts _ _ _ c.before.if1.false ∙ other_state _ _ c.if2.true)
 
 returns-3 : tie.Need-returns-3
-returns-3 c = event-not-made _ _ _ _ _ _ _ (whole-facts _ _ _ c.before.before.if1.false ∙ other-answer _ _ c.before.if2.false c.if3.true)
+returns-3 c = event_not_made _ _ _ _ _ _ _ (whole_facts _ _ _ c.before.before.if1.false ∙ other_answer _ _ c.before.if2.false c.if3.true)
 
 figures-requires : tie.Need-figures-requires
 figures-requires c κs = c.before.before.if2.false
@@ -32,9 +32,9 @@ event-requires c κs = tt
 event-on-requires : tie.Need-event-on-requires
 event-on-requires c κs =
     let h = c.before.before.before.before.before.before.before.before.before.before.before.before.before.if2.false in (
-      four-counts _ _ h c.before.before.before.before.before.before.before.before.before.before.figures.ensures,
-      many-references _ _ h c.before.before.before.before.before.before.before.before.references.ensures,
-      many-sizes _ _ h c.before.before.before.before.before.before.sizes.ensures,
+      four_counts _ _ h c.before.before.before.before.before.before.before.before.before.before.figures.ensures,
+      many_references _ _ h c.before.before.before.before.before.before.before.before.references.ensures,
+      many_sizes _ _ h c.before.before.before.before.before.before.sizes.ensures,
     )
 
 pack-requires : tie.Need-pack-requires
@@ -70,8 +70,8 @@ returns-4 c =
     let answer = before.before.before in
     let state = answer.before in
     let facts = state.before in
-    event-made _ _ _ _ _ _ _ (whole before.figures.result refs.references.result sizes.sizes.result) _ (turn_of said.event-on.result said.event-on.new.1.0 said.event-on.new.1.1.0) _ _ _ _ _ _ _ _
-    facts.if1.false state.if2.false answer.if3.false (state-read _ _ _ _ before.figures.ensures refs.references.ensures sizes.sizes.ensures) happening.event.ensures
+    event_made _ _ _ _ _ _ _ (whole before.figures.result refs.references.result sizes.sizes.result) _ (turn_of said.event-on.result said.event-on.new.1.0 said.event-on.new.1.1.0) _ _ _ _ _ _ _ _
+    facts.if1.false state.if2.false answer.if3.false (state_read _ _ _ _ before.figures.ensures refs.references.ensures sizes.sizes.ensures) happening.event.ensures
     said.event-on.ensures.0 said.event-on.ensures.1.0 said.event-on.ensures.1.1 packed.pack.ensures put.put.ensures
 
 pub moheguzari-event-spec : {M : Type 1} → statement M

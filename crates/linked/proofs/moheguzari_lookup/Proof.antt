@@ -1,15 +1,15 @@
 -- `moheguzari_lookup` meets its contract: the lengths first, then what `numbers::look_up` promises of the figures read, packed.
 -- Assumes nothing.
 use Prim.{tt}
-use Rattle.linked.proofs.CallLaws.{lookup-no-state, lookup-no-answer, lookup-made}
+use Rattle.linked.proofs.CallLaws.{lookup_no_state, lookup_no_answer, lookup_made}
 use Rattle.linked.proofs.moheguzari_lookup.Statement.{statement}
 use Rattle.linked.proofs.moheguzari_lookup.Tie as tie
 
 returns : tie.Need-returns
-returns c = lookup-no-state _ _ _ _ _ c.if1.true
+returns c = lookup_no_state _ _ _ _ _ c.if1.true
 
 returns-2 : tie.Need-returns-2
-returns-2 c = lookup-no-answer _ _ _ _ _ c.before.if1.false c.if2.true
+returns-2 c = lookup_no_answer _ _ _ _ _ c.before.if1.false c.if2.true
 
 figures-requires : tie.Need-figures-requires
 figures-requires c κs = c.before.if1.false
@@ -29,7 +29,7 @@ returns-3 c =
     let found = put.before.before in
     let read = found.before.before in
     let answer = read.before in
-    lookup-made _ _ _ _ _ read.figures.result found.look_up.result _ answer.before.if1.false answer.if2.false read.figures.ensures found.look_up.ensures put.put-found.ensures
+    lookup_made _ _ _ _ _ read.figures.result found.look_up.result _ answer.before.if1.false answer.if2.false read.figures.ensures found.look_up.ensures put.put-found.ensures
 
 pub moheguzari-lookup-spec : {M : Type 1} → statement M
 moheguzari-lookup-spec = tie.close (tie.spec returns returns-2 figures-requires look-up-requires put-found-requires same_length returns-3)

@@ -1,14 +1,14 @@
 -- `moheguzari_start` meets its contract: the lengths first, then what `monitor::start` promises, packed. Assumes nothing.
 use Prim.{tt}
-use Rattle.linked.proofs.CallLaws.{other-state, other-answer, start-not-made, start-made}
+use Rattle.linked.proofs.CallLaws.{other_state, other_answer, start_not_made, start_made}
 use Rattle.linked.proofs.moheguzari_start.Statement.{statement}
 use Rattle.linked.proofs.moheguzari_start.Tie as tie
 
 returns : tie.Need-returns
-returns c = let s = c.before.before.before.before.before.before in start-not-made _ _ _ _ _ _ (other-state s.args.state.now s.args.answer.now c.if1.true)
+returns c = let s = c.before.before.before.before.before.before in start_not_made _ _ _ _ _ _ (other_state s.args.state.now s.args.answer.now c.if1.true)
 
 returns-2 : tie.Need-returns-2
-returns-2 c = let s = c.before.before.before.before.before.before.before in start-not-made _ _ _ _ _ _ (other-answer s.args.state.now s.args.answer.now c.before.if1.false c.if2.true)
+returns-2 c = let s = c.before.before.before.before.before.before.before in start_not_made _ _ _ _ _ _ (other_answer s.args.state.now s.args.answer.now c.before.if1.false c.if2.true)
 
 start-requires : tie.Need-start-requires
 start-requires c κs = tt
@@ -37,7 +37,7 @@ returns-3 c =
     let m = p.before.before.before.before.before.before.before.before.before.before in
     let e = m.before.before.before in
     let s = e.before.before.before.before.before.before.before in
-    start-made s.args.k s.args.rows.now s.args.nodes.now s.args.values.now s.args.state.now s.args.answer.now m.start.result _ _ _ _
+    start_made s.args.k s.args.rows.now s.args.nodes.now s.args.values.now s.args.state.now s.args.answer.now m.start.result _ _ _ _
     e.before.if1.false e.if2.false m.start.ensures p.pack.ensures c.before.before.put.ensures
 
 pub moheguzari-start-spec : {M : Type 1} → statement M

@@ -1,7 +1,7 @@
 -- `monitor::refused_start` meets its contract: the turn made is the one of the definition. Assumes nothing.
 use mathlib.Core.Path.{refl}
 use borrow.Author.Rules.{rules}
-use Rattle.monitor.specs.Calls.{refusedTurn}
+use Rattle.monitor.specs.Calls.{refused_turn}
 use Rattle.monitor.proofs.refused_start.Statement.{statement}
 use Rattle.monitor.proofs.refused_start.Tie as tie
 
@@ -9,7 +9,7 @@ state-of-requires : tie.Need-state-of-requires
 state-of-requires c κs = search rules
 
 returns : tie.Need-returns
-unfolding refusedTurn
+unfolding refused_turn
 returns c = rw c.state-of.ensures refl
 
 pub refused-start-spec : {M : Type 1} → statement M

@@ -1,7 +1,7 @@
 -- `monitor::start` meets its contract: what is left is what the decision settles. Assumes nothing.
 use native.Mathlib.Omega.{arith}
 use borrow.Author.Rules.{rules}
-use Rattle.monitor.proofs.StartLaws.{few-rows, refuses, right-rule, starts}
+use Rattle.monitor.proofs.StartLaws.{few_rows, refuses, right_rule, starts}
 use Rattle.monitor.proofs.start.Statement.{statement}
 use Rattle.monitor.proofs.start.Tie as tie
 
@@ -39,7 +39,7 @@ cast-started : tie.Need-overflow-cast-started
 cast-started c =
     let d = c.before.before.before.before.before.before.before.before in
     let j = d.before.before in
-    omega (arith, few-rows _ (right-rule _ _ _ _ _ _ j.before.before.before.check.ensures.found j.judge.ensures d.enum_told.given.1))
+    omega (arith, few_rows _ (right_rule _ _ _ _ _ _ j.before.before.before.check.ensures.found j.judge.ensures d.enum_told.given.1))
 
 started-requires : tie.Need-started-requires
 started-requires c κs = search rules

@@ -1,7 +1,7 @@
 -- `monitor::started` meets its contract: the turn made is the one of the definition. Assumes nothing.
 use mathlib.Core.Path.{refl}
 use borrow.Author.Rules.{rules}
-use Rattle.monitor.specs.Calls.{startedTurn}
+use Rattle.monitor.specs.Calls.{started_turn}
 use Rattle.monitor.proofs.started.Statement.{statement}
 use Rattle.monitor.proofs.started.Tie as tie
 
@@ -9,7 +9,7 @@ state-of-requires : tie.Need-state-of-requires
 state-of-requires c κs = search rules
 
 returns : tie.Need-returns
-unfolding startedTurn
+unfolding started_turn
 returns c = rw c.state-of.ensures refl
 
 pub started-spec : {M : Type 1} → statement M

@@ -6,21 +6,21 @@ use native.Mathlib.Omega.{arith}
 use lib.ListN.{length, get_or, length-map}
 use borrow.Author.Count.{below_more}
 use borrow.Author.Tests.{not-true, not-false}
-use Rattle.meaning.specs.Rows.{ruleOf}
-use Rattle.meaning.specs.Outcome.{factRight}
-use Rattle.rule.proofs.AgreesLaws.{noFact, event-high, event-wrong, event-right}
+use Rattle.meaning.specs.Rows.{rule_of}
+use Rattle.meaning.specs.Outcome.{fact_right}
+use Rattle.rule.proofs.AgreesLaws.{no_fact, event_high, event_wrong, event_right}
 use Rattle.rule.proofs.agrees.Statement.{statement}
 use Rattle.rule.proofs.agrees.Tie as tie
 
 abbrev invariant-loop : tie.invariant-loop
 invariant-loop rows facts n i₀ i =
-    (i ≤ n) × (n ≤ 8) × (length facts ≡ 8) × ((j : ℕ) → j < i → factRight (ruleOf rows) (get_or facts j noFact) ≡ true)
+    (i ≤ n) × (n ≤ 8) × (length facts ≡ 8) × ((j : ℕ) → j < i → fact_right (rule_of rows) (get_or facts j no_fact) ≡ true)
 
 abbrev decreases-loop : tie.decreases-loop
 decreases-loop rows facts n i₀ i = n - i
 
 returns : tie.Need-returns invariant-loop decreases-loop
-returns c = event-high _ _ (omega arith)
+returns c = event_high _ _ (omega arith)
 
 cast-n : tie.Need-overflow-cast-n invariant-loop decreases-loop
 cast-n c = omega arith
@@ -42,7 +42,7 @@ fact-agrees-requires c κs = tt
 returns-2 : tie.Need-returns-2 invariant-loop decreases-loop
 returns-2 c =
     let s = c.before.before.before.before in
-    event-wrong _ _ s.loop.i (omega arith) (omega (arith, s.loop.invariant.2))
+    event_wrong _ _ s.loop.i (omega arith) (omega (arith, s.loop.invariant.2))
     (sym (c.before.fact-agrees.ensures.each _ refl refl) ∙ not-true _ c.if2.true)
 
 add-i : tie.Need-overflow-add-i invariant-loop decreases-loop
@@ -59,7 +59,7 @@ loop-again c =
 returns-3 : tie.Need-returns-3 invariant-loop decreases-loop
 returns-3 c =
     let s = c.before in
-    event-right _ _ s.loop.invariant.1 (omega (arith, s.loop.invariant.1, s.loop.invariant.2)) (λ j h. s.loop.invariant.3 j (omega arith))
+    event_right _ _ s.loop.invariant.1 (omega (arith, s.loop.invariant.1, s.loop.invariant.2)) (λ j h. s.loop.invariant.3 j (omega arith))
 
 pub agrees-spec : {M : Type 1} → statement M
 agrees-spec =

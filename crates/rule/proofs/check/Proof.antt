@@ -4,8 +4,8 @@ use mathlib.Core.Path.{◌≡◌, refl, sym, ◌∙◌}
 use native.Mathlib.Omega.{arith}
 use lib.ListN.{length}
 use borrow.Author.Tests.{not-true, not-false}
-use Rattle.meaning.specs.Rows.{rowCount}
-use Rattle.rule.proofs.CheckingLaws.{shaped, Walked, walk_start, walk_more, walk-all, agreed, fault-row, fault-count, parts-left, no_rows, many-rows, found-fault, found-open, found_right}
+use Rattle.meaning.specs.Rows.{count_of_rows}
+use Rattle.rule.proofs.CheckingLaws.{shaped, Walked, walk_start, walk_more, walk_all, agreed, fault_row, fault_count, parts_left, no_rows, many_rows, found_fault, found_open, found_right}
 use Rattle.rule.proofs.check.Statement.{statement}
 use Rattle.rule.proofs.check.Tie as tie
 
@@ -20,21 +20,21 @@ refused-requires : tie.Need-refused-requires invariant-loop decreases-loop
 refused-requires c κs = omega arith
 
 returns : tie.Need-returns invariant-loop decreases-loop
-returns c = rw c.refused.ensures (parts-left _ c.before.if1.true)
+returns c = rw c.refused.ensures (parts_left _ c.before.if1.true)
 
 refused-requires-2 : tie.Need-refused-requires-2 invariant-loop decreases-loop
 refused-requires-2 c κs = omega arith
 
 returns-2 : tie.Need-returns-2 invariant-loop decreases-loop
-unfolding rowCount
+unfolding count_of_rows
 returns-2 c = rw c.refused2.ensures (no_rows _ c.before.if2.true)
 
 refused-requires-3 : tie.Need-refused-requires-3 invariant-loop decreases-loop
 refused-requires-3 c κs = omega arith
 
 returns-3 : tie.Need-returns-3 invariant-loop decreases-loop
-unfolding rowCount
-returns-3 c = rw c.refused3.ensures (many-rows _ (omega arith))
+unfolding count_of_rows
+returns-3 c = rw c.refused3.ensures (many_rows _ (omega arith))
 
 loop-holds : tie.Need-loop-init invariant-loop decreases-loop
 loop-holds c = (refl, c.before.before.if1.false, omega arith, omega arith, omega arith, walk_start _)
@@ -46,10 +46,10 @@ refused-requires-4 : tie.Need-refused-requires-4 invariant-loop decreases-loop
 refused-requires-4 c κs = omega arith
 
 returns-4 : tie.Need-returns-4 invariant-loop decreases-loop
-unfolding rowCount
+unfolding count_of_rows
 returns-4 c =
-    rw c.refused4.ensures (found-fault _ (shaped _ _ c.before.before.before.before.loop.invariant.0 c.before.before.before.before.loop.invariant.1 c.before.before.before.before.loop.invariant.2 c.before.before.before.before.loop.invariant.3) _ (omega arith) c.before.before.before.before.loop.invariant.5.none
-    (fault-row _ _ (sym c.before.before.row-right.ensures ∙ not-true _ c.before.if4.true)))
+    rw c.refused4.ensures (found_fault _ (shaped _ _ c.before.before.before.before.loop.invariant.0 c.before.before.before.before.loop.invariant.1 c.before.before.before.before.loop.invariant.2 c.before.before.before.before.loop.invariant.3) _ (omega arith) c.before.before.before.before.loop.invariant.5.none
+    (fault_row _ _ (sym c.before.before.row_right_law.ensures ∙ not-true _ c.before.if4.true)))
 
 counts-agree-requires : tie.Need-counts-agree-requires invariant-loop decreases-loop
 counts-agree-requires c κs = (omega arith, λ j h. agreed _ j (c.before.before.before.loop.invariant.5.none j h))
@@ -58,10 +58,10 @@ refused-requires-5 : tie.Need-refused-requires-5 invariant-loop decreases-loop
 refused-requires-5 c κs = omega arith
 
 returns-5 : tie.Need-returns-5 invariant-loop decreases-loop
-unfolding rowCount
+unfolding count_of_rows
 returns-5 c =
-    rw c.refused5.ensures (found-fault _ (shaped _ _ c.before.before.before.before.before.before.loop.invariant.0 c.before.before.before.before.before.before.loop.invariant.1 c.before.before.before.before.before.before.loop.invariant.2 c.before.before.before.before.before.before.loop.invariant.3) _ (omega arith) c.before.before.before.before.before.before.loop.invariant.5.none
-    (fault-count _ _ (sym c.before.before.counts-agree.ensures ∙ not-true _ c.before.if5.true)))
+    rw c.refused5.ensures (found_fault _ (shaped _ _ c.before.before.before.before.before.before.loop.invariant.0 c.before.before.before.before.before.before.loop.invariant.1 c.before.before.before.before.before.before.loop.invariant.2 c.before.before.before.before.before.before.loop.invariant.3) _ (omega arith) c.before.before.before.before.before.before.loop.invariant.5.none
+    (fault_count _ _ (sym c.before.before.counts-agree.ensures ∙ not-true _ c.before.if5.true)))
 
 row-at-requires : tie.Need-row-at-requires invariant-loop decreases-loop
 row-at-requires c κs = omega arith
@@ -82,7 +82,7 @@ loop-less : tie.Need-loop-smaller invariant-loop decreases-loop
 loop-less c = omega arith
 
 loop-again : tie.Need-loop-preserved invariant-loop decreases-loop
-unfolding rowCount
+unfolding count_of_rows
 loop-again c =
     let l = c.before.before.before.before.before.before.before.before.loop in (
       l.invariant.0,
@@ -91,8 +91,8 @@ loop-again c =
       l.invariant.3,
       omega arith,
       walk_more _ _ _ _ l.invariant.5 (omega arith) (omega arith)
-          (sym c.before.before.before.before.before.before.row-right.ensures ∙ not-false _ c.before.before.before.before.before.if4.false) (sym c.before.before.before.before.counts-agree.ensures ∙ not-false _ c.before.before.before.if5.false)
-          (rw c.before.before.row-at.ensures.says at c.of_row.ensures),
+          (sym c.before.before.before.before.before.before.row_right_law.ensures ∙ not-false _ c.before.before.before.before.before.if4.false) (sym c.before.before.before.before.counts-agree.ensures ∙ not-false _ c.before.before.before.if5.false)
+          (rw c.before.before.row_at_law.ensures.says at c.of_row.ensures),
     )
 
 sub-if6 : tie.Need-overflow-sub-if6 invariant-loop decreases-loop
@@ -111,16 +111,16 @@ refused-requires-6 : tie.Need-refused-requires-6 invariant-loop decreases-loop
 refused-requires-6 c κs = omega arith
 
 returns-6 : tie.Need-returns-6 invariant-loop decreases-loop
-unfolding rowCount
+unfolding count_of_rows
 returns-6 c =
     let l = c.before.before.before.loop in
-    rw c.refused6.ensures (found-open _ l.free (shaped _ _ c.before.before.before.loop.invariant.0 c.before.before.before.loop.invariant.1 c.before.before.before.loop.invariant.2 c.before.before.before.loop.invariant.3) (walk-all _ _ _ l.invariant.5 (omega arith)) (λ z. omega arith))
+    rw c.refused6.ensures (found_open _ l.free (shaped _ _ c.before.before.before.loop.invariant.0 c.before.before.before.loop.invariant.1 c.before.before.before.loop.invariant.2 c.before.before.before.loop.invariant.3) (walk_all _ _ _ l.invariant.5 (omega arith)) (λ z. omega arith))
 
 returns-7 : tie.Need-returns-7 invariant-loop decreases-loop
-unfolding rowCount
+unfolding count_of_rows
 returns-7 c =
     let l = c.before.before.loop in
-    found_right _ l.free (shaped _ _ c.before.before.loop.invariant.0 c.before.before.loop.invariant.1 c.before.before.loop.invariant.2 c.before.before.loop.invariant.3) (walk-all _ _ _ l.invariant.5 (omega arith)) (omega arith)
+    found_right _ l.free (shaped _ _ c.before.before.loop.invariant.0 c.before.before.loop.invariant.1 c.before.before.loop.invariant.2 c.before.before.loop.invariant.3) (walk_all _ _ _ l.invariant.5 (omega arith)) (omega arith)
 
 pub check-spec : {M : Type 1} → statement M
 check-spec =

@@ -2,8 +2,8 @@
 use mathlib.Core.Path.{refl}
 use native.Mathlib.Omega.{arith}
 use borrow.Author.Rules.{rules}
-use Rattle.rule.specs.Decoded.{rowRead}
-use Rattle.rule.proofs.DecodedLaws.{row_read, kind-last, kind-first, argument-read, atom-read}
+use Rattle.rule.specs.Decoded.{row_read}
+use Rattle.rule.proofs.DecodedLaws.{row_read_law, kind_last, kind_first, argument_read_law, atom_read}
 use Rattle.rule.proofs.row_at.Statement.{statement}
 use Rattle.rule.proofs.row_at.Tie as tie
 
@@ -44,35 +44,35 @@ argument-of-requires-3 : tie.Need-argument-of-requires-3
 argument-of-requires-3 c κs = search rules
 
 returns : tie.Need-returns
-unfolding rowRead
+unfolding row_read
 returns c =
-    row_read _ _ 2 c.before.before.before.before.before.before.before.before.before.before.before.before.field_of.ensures c.before.before.before.before.before.before.before.before.before.before.before.field-of2.ensures c.before.before.before.before.before.before.before.before.before.before.field-of3.ensures c.before.before.before.before.before.before.before.before.before.match.keys1
-    (atom-read _ _
-    (argument-read c.before.before.before.before.before.before.before.before.field-of4.ensures c.before.before.before.before.before.before.before.field-of5.ensures c.before.before.before.before.before.before.argument-of.ensures)
-    (argument-read c.before.before.before.before.before.field-of6.ensures c.before.before.before.before.field-of7.ensures c.before.before.before.argument-of2.ensures)
-    (argument-read c.before.before.field-of8.ensures c.before.field-of9.ensures c.argument-of3.ensures))
+    row_read_law _ _ 2 c.before.before.before.before.before.before.before.before.before.before.before.before.field_of.ensures c.before.before.before.before.before.before.before.before.before.before.before.field-of2.ensures c.before.before.before.before.before.before.before.before.before.before.field-of3.ensures c.before.before.before.before.before.before.before.before.before.match.keys1
+    (atom_read _ _
+    (argument_read_law c.before.before.before.before.before.before.before.before.field-of4.ensures c.before.before.before.before.before.before.before.field-of5.ensures c.before.before.before.before.before.before.argument-of.ensures)
+    (argument_read_law c.before.before.before.before.before.field-of6.ensures c.before.before.before.before.field-of7.ensures c.before.before.before.argument-of2.ensures)
+    (argument_read_law c.before.before.field-of8.ensures c.before.field-of9.ensures c.argument-of3.ensures))
 
 returns-2 : tie.Need-returns-2
-unfolding rowRead
-returns-2 c = row_read _ _ 3 c.before.before.before.field_of.ensures c.before.before.field-of2.ensures c.before.field-of3.ensures c.match.keys2 refl
+unfolding row_read
+returns-2 c = row_read_law _ _ 3 c.before.before.before.field_of.ensures c.before.before.field-of2.ensures c.before.field-of3.ensures c.match.keys2 refl
 
 returns-3 : tie.Need-returns-3
-unfolding rowRead
-returns-3 c = row_read _ _ 4 c.before.before.before.field_of.ensures c.before.before.field-of2.ensures c.before.field-of3.ensures c.match.keys3 refl
+unfolding row_read
+returns-3 c = row_read_law _ _ 4 c.before.before.before.field_of.ensures c.before.before.field-of2.ensures c.before.field-of3.ensures c.match.keys3 refl
 
 returns-4 : tie.Need-returns-4
-unfolding rowRead
-returns-4 c = row_read _ _ 5 c.before.before.before.field_of.ensures c.before.before.field-of2.ensures c.before.field-of3.ensures c.match.keys4 refl
+unfolding row_read
+returns-4 c = row_read_law _ _ 5 c.before.before.before.field_of.ensures c.before.before.field-of2.ensures c.before.field-of3.ensures c.match.keys4 refl
 
 returns-5 : tie.Need-returns-5
-unfolding rowRead
-returns-5 c = row_read _ _ 6 c.before.before.before.field_of.ensures c.before.before.field-of2.ensures c.before.field-of3.ensures c.match.keys5 refl
+unfolding row_read
+returns-5 c = row_read_law _ _ 6 c.before.before.before.field_of.ensures c.before.before.field-of2.ensures c.before.field-of3.ensures c.match.keys5 refl
 
 returns-6 : tie.Need-returns-6
-returns-6 c = row_read _ _ _ c.before.before.before.before.field_of.ensures c.before.before.before.field-of2.ensures c.before.before.field-of3.ensures (refl) (kind-first _ _ _ _ _ _ (omega arith))
+returns-6 c = row_read_law _ _ _ c.before.before.before.before.field_of.ensures c.before.before.before.field-of2.ensures c.before.before.field-of3.ensures (refl) (kind_first _ _ _ _ _ _ (omega arith))
 
 returns-7 : tie.Need-returns-7
-returns-7 c = row_read _ _ _ c.before.before.before.before.field_of.ensures c.before.before.before.field-of2.ensures c.before.before.field-of3.ensures (refl) (kind-last _ _ _ _ _ _ (omega arith))
+returns-7 c = row_read_law _ _ _ c.before.before.before.before.field_of.ensures c.before.before.before.field-of2.ensures c.before.before.field-of3.ensures (refl) (kind_last _ _ _ _ _ _ (omega arith))
 
 pub row-at-spec : {M : Type 1} → statement M
 row-at-spec =

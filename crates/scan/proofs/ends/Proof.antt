@@ -1,7 +1,7 @@
 -- `scan::ends` meets its contract, by what is pending. Assumes nothing.
 use native.Mathlib.Omega.{arith}
 use Rattle.spelling.proofs.KindLaws.{code_lt}
-use Rattle.scan.proofs.StepLaws.{gap_ends, letters-ends, digits-ends, dash-ends}
+use Rattle.scan.proofs.StepLaws.{gap_ends, letters_ends, digits_ends, dash_ends}
 use borrow.Author.Rules.{rules}
 use Rattle.scan.proofs.ends.Statement.{statement}
 use Rattle.scan.proofs.ends.Tie as tie
@@ -32,7 +32,7 @@ may-end-requires-2 : tie.Need-may-end-requires-2
 may-end-requires-2 c κs = search rules
 
 returns-2 : tie.Need-returns-2
-returns-2 c = letters-ends _ _ _ _ _ _ _ _ _ c.before.before.before.before.if2.true c.before.before.word_of.ensures c.before.give.ensures c.may-end2.ensures
+returns-2 c = letters_ends _ _ _ _ _ _ _ _ _ c.before.before.before.before.if2.true c.before.before.word_of.ensures c.before.give.ensures c.may-end2.ensures
 
 give-requires-2 : tie.Need-give-requires-2
 give-requires-2 c κs = search rules
@@ -41,10 +41,10 @@ may-end-requires-3 : tie.Need-may-end-requires-3
 may-end-requires-3 c κs = search rules
 
 returns-3 : tie.Need-returns-3
-returns-3 c = digits-ends _ _ _ _ _ _ _ _ c.before.before.if3.true c.before.give2.ensures c.may-end3.ensures
+returns-3 c = digits_ends _ _ _ _ _ _ _ _ c.before.before.if3.true c.before.give2.ensures c.may-end3.ensures
 
 returns-4 : tie.Need-returns-4
-returns-4 c = dash-ends _ _ _ _ _ c.before.before.if1.false c.before.if2.false c.if3.false
+returns-4 c = dash_ends _ _ _ _ _ c.before.before.if1.false c.before.if2.false c.if3.false
 
 pub ends-spec : {M : Type 1} → statement M
 ends-spec =

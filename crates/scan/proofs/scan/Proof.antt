@@ -2,7 +2,7 @@
 use Prim.Native.Nat.{◌-◌}
 use native.Mathlib.Omega.{arith}
 use lib.ListN.{length}
-use Rattle.scan.proofs.ScanLaws.{Scanning, scan_begins, scan-stops, scan-more, scan-whole, scan-short}
+use Rattle.scan.proofs.ScanLaws.{Scanning, scan_begins, scan_stops, scan_more, scan_whole, scan_short}
 use Rattle.scan.proofs.scan.Statement.{statement}
 use Rattle.scan.proofs.scan.Tie as tie
 
@@ -19,7 +19,7 @@ step-requires : tie.Need-step-requires invariant-loop decreases-loop
 step-requires c κs = (omega arith, c.before.loop.invariant.sound)
 
 returns : tie.Need-returns invariant-loop decreases-loop
-returns c = scan-stops _ _ _ _ _ _ c.before.before.before.before.loop.invariant (omega arith) _ _ _ _ c.before.before.step.ensures c.if1.true
+returns c = scan_stops _ _ _ _ _ _ c.before.before.before.before.loop.invariant (omega arith) _ _ _ _ c.before.before.step.ensures c.if1.true
 
 add-i : tie.Need-overflow-add-i invariant-loop decreases-loop
 add-i c = omega arith
@@ -28,7 +28,7 @@ loop-less : tie.Need-loop-smaller invariant-loop decreases-loop
 loop-less c = omega arith
 
 loop-again : tie.Need-loop-preserved invariant-loop decreases-loop
-loop-again c = scan-more _ _ _ _ _ _ c.before.before.before.before.loop.invariant (omega arith) _ _ _ _ c.before.before.step.ensures c.if1.false
+loop-again c = scan_more _ _ _ _ _ _ c.before.before.before.before.loop.invariant (omega arith) _ _ _ _ c.before.before.step.ensures c.if1.false
 
 ends-requires : tie.Need-ends-requires invariant-loop decreases-loop
 ends-requires c κs = record {
@@ -38,10 +38,10 @@ ends-requires c κs = record {
 }
 
 returns-2 : tie.Need-returns-2 invariant-loop decreases-loop
-returns-2 c = scan-whole _ _ _ _ _ _ c.before.before.before.loop.invariant c.before.before.loop-test.false _ c.before.ends.ensures c.if2.true
+returns-2 c = scan_whole _ _ _ _ _ _ c.before.before.before.loop.invariant c.before.before.loop-test.false _ c.before.ends.ensures c.if2.true
 
 returns-3 : tie.Need-returns-3 invariant-loop decreases-loop
-returns-3 c = scan-short _ _ _ _ _ _ c.before.before.before.loop.invariant c.before.before.loop-test.false _ c.before.ends.ensures c.if2.false
+returns-3 c = scan_short _ _ _ _ _ _ c.before.before.before.loop.invariant c.before.before.loop-test.false _ c.before.ends.ensures c.if2.false
 
 pub scan-spec : {M : Type 1} → statement M
 scan-spec =

@@ -3,7 +3,7 @@ use native.Mathlib.Omega.{arith}
 use borrow.Author.Rules.{rules}
 use Prim.Native.Nat.{zero-le}
 use mathlib.Core.Path.{refl}
-use Rattle.session.proofs.TurnLaws.{begin-refused, begin-started}
+use Rattle.session.proofs.TurnLaws.{begin_refused, begin_started}
 use Rattle.session.proofs.begin.Statement.{statement}
 use Rattle.session.proofs.begin.Tie as tie
 
@@ -26,7 +26,7 @@ part-start-start-2 : tie.Need-slice-bounds-start-start-2
 part-start-start-2 c = zero-le
 
 part-start-end-2 : tie.Need-slice-bounds-start-end-2
-part-start-end-2 c = omega (arith, c.before.lend.ensures.nodes-few, c.before.before.before.before.before.requires.1.1)
+part-start-end-2 c = omega (arith, c.before.lend.ensures.nodes_few, c.before.before.before.before.before.requires.1.1)
 
 sub-start-3 : tie.Need-overflow-sub-start-3
 sub-start-3 c = zero-le
@@ -35,7 +35,7 @@ part-start-start-3 : tie.Need-slice-bounds-start-start-3
 part-start-start-3 c = zero-le
 
 part-start-end-3 : tie.Need-slice-bounds-start-end-3
-part-start-end-3 c = omega (arith, c.before.before.lend.ensures.values-few, c.before.before.before.before.before.before.requires.1.2)
+part-start-end-3 c = omega (arith, c.before.before.lend.ensures.values_few, c.before.before.before.before.before.before.requires.1.2)
 
 start-requires : tie.Need-start-requires
 start-requires c κs = tt
@@ -57,7 +57,7 @@ returns c =
     let s = c.before.before.before.before.before.before.before.before.before.before.before.before.before.before.before.before in
     let lend = c.before.before.before.before.before.before.before.before.before.before.before.before.lend in
     let start = c.before.before.before.before.before.before.before.before.start in
-    begin-refused s.args.s lend.result lend.ensures s.args.rows.now s.args.nodes.now s.args.values.now start.result start.new.1.1.0 start.new.1.1.1.0 start.ensures c.before.before.answer.given.1 c.turned.ensures
+    begin_refused s.args.s lend.result lend.ensures s.args.rows.now s.args.nodes.now s.args.values.now start.result start.new.1.1.0 start.new.1.1.1.0 start.ensures c.before.before.answer.given.1 c.turned.ensures
 
 same-length-3 : tie.Need-same-length-3
 same-length-3 c = search rules
@@ -70,7 +70,7 @@ returns-2 c =
     let s = c.before.before.before.before.before.before.before.before.before.before.before.before.before.before in
     let lend = c.before.before.before.before.before.before.before.before.before.before.lend in
     let start = c.before.before.before.before.before.before.start in
-    begin-started s.args.s lend.result lend.ensures s.args.rows.now s.args.nodes.now s.args.values.now start.result start.new.1.1.0 start.new.1.1.1.0 start.ensures _ c.before.match.keys2 refl
+    begin_started s.args.s lend.result lend.ensures s.args.rows.now s.args.nodes.now s.args.values.now start.result start.new.1.1.0 start.new.1.1.1.0 start.ensures _ c.before.match.keys2 refl
 
 pub begin-spec : {M : Type 1} → statement M
 begin-spec =

@@ -2,7 +2,7 @@
 use native.Mathlib.Omega.{arith}
 use borrow.Author.Rules.{rules}
 use Prim.Native.Nat.{zero-le}
-use Rattle.session.proofs.TurnLaws.{happen-left}
+use Rattle.session.proofs.TurnLaws.{happen_left_law}
 use Rattle.session.proofs.happen.Statement.{statement}
 use Rattle.session.proofs.happen.Tie as tie
 
@@ -25,7 +25,7 @@ part-event-start-2 : tie.Need-slice-bounds-event-start-2
 part-event-start-2 c = zero-le
 
 part-event-end-2 : tie.Need-slice-bounds-event-end-2
-part-event-end-2 c = omega (arith, c.before.before.lend.ensures.nodes-few, c.before.before.before.before.before.before.before.requires.1.nodes-long)
+part-event-end-2 c = omega (arith, c.before.before.lend.ensures.nodes_few, c.before.before.before.before.before.before.before.requires.1.nodes_long)
 
 sub-event-3 : tie.Need-overflow-sub-event-3
 sub-event-3 c = zero-le
@@ -34,7 +34,7 @@ part-event-start-3 : tie.Need-slice-bounds-event-start-3
 part-event-start-3 c = zero-le
 
 part-event-end-3 : tie.Need-slice-bounds-event-end-3
-part-event-end-3 c = omega (arith, c.before.before.before.lend.ensures.values-few, c.before.before.before.before.before.before.before.before.requires.1.values-long)
+part-event-end-3 c = omega (arith, c.before.before.before.lend.ensures.values_few, c.before.before.before.before.before.before.before.before.requires.1.values_long)
 
 sub-event-4 : tie.Need-overflow-sub-event-4
 sub-event-4 c = zero-le
@@ -43,7 +43,7 @@ part-event-start-4 : tie.Need-slice-bounds-event-start-4
 part-event-start-4 c = zero-le
 
 part-event-end-4 : tie.Need-slice-bounds-event-end-4
-part-event-end-4 c = omega (arith, c.before.before.before.before.lend.ensures.work-few, c.before.before.before.before.before.before.before.before.before.requires.1.work-long)
+part-event-end-4 c = omega (arith, c.before.before.before.before.lend.ensures.work_few, c.before.before.before.before.before.before.before.before.before.requires.1.work_long)
 
 event-requires : tie.Need-event-requires
 event-requires c κs = tt
@@ -65,7 +65,7 @@ returns c =
     let s = c.before.before.before.before.before.before.before.before.before.before.before.before.before.before.before.before.before.before.before in
     let lend = c.before.before.before.before.before.before.before.before.before.before.before.before.before.before.lend in
     let event = c.before.before.before.before.before.before.before.before.event in
-    happen-left s.args.s lend.result lend.ensures s.args.header s.args.event s.args.rows.now s.args.nodes.now s.args.values.now s.args.work.now event.result event.new.1.1.0 event.new.1.1.1.0 event.new.1.1.1.1.0 event.ensures
+    happen_left_law s.args.s lend.result lend.ensures s.args.header s.args.event s.args.rows.now s.args.nodes.now s.args.values.now s.args.work.now event.result event.new.1.1.0 event.new.1.1.1.0 event.new.1.1.1.1.0 event.ensures
 
 pub happen-spec : {M : Type 1} → statement M
 happen-spec =

@@ -4,7 +4,7 @@ use borrow.Author.Rules.{rules}
 use Prim.Native.Nat.{◌-◌}
 use mathlib.Core.Path.{◌≡◌}
 use lib.ListN.{length}
-use Rattle.answers.proofs.PutLaws.{Putting, putting-none, putting-more}
+use Rattle.answers.proofs.PutLaws.{Putting, putting_none, putting_more}
 use Rattle.session.proofs.SessionLaws.{row_put}
 use Rattle.session.proofs.put_row.Statement.{statement}
 use Rattle.session.proofs.put_row.Tie as tie
@@ -16,7 +16,7 @@ abbrev decreases-loop : tie.decreases-loop
 decreases-loop rows₀ at nine i₀ rows i = 9 - i
 
 loop-holds : tie.Need-loop-init invariant-loop decreases-loop
-loop-holds c = (search rules, putting-none _ _ _)
+loop-holds c = (search rules, putting_none _ _ _)
 
 mul-rows : tie.Need-overflow-mul-rows invariant-loop decreases-loop
 mul-rows c = omega arith
@@ -40,7 +40,7 @@ loop-less : tie.Need-loop-smaller invariant-loop decreases-loop
 loop-less c = omega arith
 
 loop-again : tie.Need-loop-preserved invariant-loop decreases-loop
-loop-again c = (c.before.loop.invariant.0, putting-more (omega arith) c.before.loop.invariant.1 (omega (arith, c.before.loop.invariant.0)))
+loop-again c = (c.before.loop.invariant.0, putting_more (omega arith) c.before.loop.invariant.1 (omega (arith, c.before.loop.invariant.0)))
 
 same_length : tie.Need-same-length invariant-loop decreases-loop
 same_length c = c.before.loop.invariant.1.size

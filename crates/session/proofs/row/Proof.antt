@@ -2,7 +2,7 @@
 use native.Mathlib.Omega.{arith}
 use mathlib.Core.Path.{◌∙◌, ap}
 use Rattle.session.specs.Lefts.{Rowed}
-use Rattle.session.proofs.PartLaws.{row-many, row_more, row_other}
+use Rattle.session.proofs.PartLaws.{row_many, row_more, row_other}
 use borrow.Author.Rules.{rules}
 use Rattle.session.proofs.row.Statement.{statement}
 use Rattle.session.proofs.row.Tie as tie
@@ -23,7 +23,7 @@ bad-requires-2 c κs = search rules
 
 returns-2 : tie.Need-returns-2
 returns-2 c =
-    let e = row-many _ c.before.before.before.before.args.s _ _ c.before.before.enum_told.given.1 (omega (arith, c.before.if1.true)) in
+    let e = row_many _ c.before.before.before.before.args.s _ _ c.before.before.enum_told.given.1 (omega (arith, c.before.if1.true)) in
     (c.bad2.ensures ∙ ap (λ (r : Rowed). r.after) e, ap (λ (r : Rowed). r.rows) e)
 
 put-row-requires : tie.Need-put-row-requires

@@ -6,7 +6,7 @@ use mathlib.Core.List.{List}
 use native.Mathlib.Omega.{arith}
 use lib.ListN.{get_or}
 use Rattle.nodes.specs.Nodes.{Front}
-use Rattle.sizes.proofs.ListLaws.{alike-more, alike_all}
+use Rattle.sizes.proofs.ListLaws.{alike_more, alike_all}
 use Rattle.sizes.proofs.alike.Statement.{statement}
 use Rattle.sizes.proofs.alike.Tie as tie
 
@@ -41,7 +41,7 @@ loop-less : tie.Need-loop-smaller invariant-loop decreases-loop
 loop-less c = omega arith
 
 loop-again : tie.Need-loop-preserved invariant-loop decreases-loop
-loop-again c = (omega arith, alike-more c.before.before.before.before.loop.i _ _ (sym c.if1.false) c.before.before.before.before.loop.invariant.1)
+loop-again c = (omega arith, alike_more c.before.before.before.before.loop.i _ _ (sym c.if1.false) c.before.before.before.before.loop.invariant.1)
 
 returns-2 : tie.Need-returns-2 invariant-loop decreases-loop
 returns-2 c =

@@ -5,7 +5,7 @@ use mathlib.Core.Path.{◌≡◌}
 use mathlib.Core.List.{List}
 use native.Mathlib.Omega.{arith}
 use lib.Count.{count_trailing_zeros}
-use Rattle.sizes.proofs.CountingLaws.{Left, left-all, left-none, lowest-inside, left_less, left-small, left-next}
+use Rattle.sizes.proofs.CountingLaws.{Left, left_all, left_none, lowest_inside, left_less, left_small, left_next}
 use Rattle.sizes.proofs.count_rows.Statement.{statement}
 use Rattle.sizes.proofs.count_rows.Tie as tie
 
@@ -17,10 +17,10 @@ decreases-loop word base sizes₀ w₀ sizes w = w
 
 -- where the lowest row of w stands
 lowest-row : {base word w : ℕ} {xs ys : List ℕ} → (w ≡ 0 → ⊥) → (w < 4294967296) × Left base word w xs ys → base ≤ 32 → base + count_trailing_zeros 32 w < 64
-lowest-row {base} {word} {w} {xs} {ys} p v h = let z = lowest-inside base word w xs ys (omega arith) v.0 v.1 in omega arith
+lowest-row {base} {word} {w} {xs} {ys} p v h = let z = lowest_inside base word w xs ys (omega arith) v.0 v.1 in omega arith
 
 loop-holds : tie.Need-loop-init invariant-loop decreases-loop
-loop-holds c = (omega (arith, c.ranges.word.fits), left-all _ _ _)
+loop-holds c = (omega (arith, c.ranges.word.fits), left_all _ _ _)
 
 cast-i : tie.Need-overflow-cast-i invariant-loop decreases-loop
 cast-i c = let z = lowest-row c.loop-test.true c.before.loop.invariant c.before.before.requires.0 in omega arith
@@ -38,7 +38,7 @@ add-sizes : tie.Need-overflow-add-sizes invariant-loop decreases-loop
 add-sizes c =
     let v = c.before.before.loop.invariant in
     let s = c.before.before.before in
-    omega (arith, left-small s.args.base s.args.word c.before.before.loop.w s.args.sizes.now c.before.before.loop.sizes (omega (arith, c.before.loop-test.true)) v.0 v.1 (omega (arith, s.requires.1, lowest-row c.before.loop-test.true v s.requires.0)) (s.requires.2 _))
+    omega (arith, left_small s.args.base s.args.word c.before.before.loop.w s.args.sizes.now c.before.before.loop.sizes (omega (arith, c.before.loop-test.true)) v.0 v.1 (omega (arith, s.requires.1, lowest-row c.before.loop-test.true v s.requires.0)) (s.requires.2 _))
 
 mul-sizes-2 : tie.Need-overflow-mul-sizes-2 invariant-loop decreases-loop
 mul-sizes-2 c =
@@ -64,10 +64,10 @@ loop-again c =
     let s = c.before.before.before in
     let w = c.before.before.loop.w in
     let p : 0 < w = omega (arith, c.before.loop-test.true) in
-    (omega (arith, v.0, left_less _ _ w _ _ p v.0 v.1), left-next _ _ w _ _ p v.0 v.1 (omega (arith, s.requires.1, lowest-row c.before.loop-test.true v s.requires.0)))
+    (omega (arith, v.0, left_less _ _ w _ _ p v.0 v.1), left_next _ _ w _ _ p v.0 v.1 (omega (arith, s.requires.1, lowest-row c.before.loop-test.true v s.requires.0)))
 
 returns : tie.Need-returns invariant-loop decreases-loop
-returns c = left-none _ c.loop-test.false c.before.loop.invariant.1
+returns c = left_none _ c.loop-test.false c.before.loop.invariant.1
 
 pub count-rows-spec : {M : Type 1} → statement M
 count-rows-spec =

@@ -1,13 +1,13 @@
 -- `join` meets its contract. Assumes nothing.
 use mathlib.Core.Path.{sym}
 use native.Mathlib.Omega.{arith}
-use Rattle.sizes.proofs.WordLaws.{give-leaf, give_at}
+use Rattle.sizes.proofs.WordLaws.{give_leaf, give_at}
 use borrow.Author.Rules.{rules}
 use Rattle.sizes.proofs.join.Statement.{statement}
 use Rattle.sizes.proofs.join.Tie as tie
 
 returns : tie.Need-returns
-returns c = λ base. sym (give-leaf _ _ _ c.if1.true)
+returns c = λ base. sym (give_leaf _ _ _ c.if1.true)
 
 sub-i : tie.Need-overflow-sub-i
 sub-i c = search rules

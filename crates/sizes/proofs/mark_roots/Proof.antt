@@ -6,7 +6,7 @@ use mathlib.Core.List.{map}
 use native.Mathlib.Omega.{arith}
 use lib.ListN.{length}
 use Rattle.sizes.specs.Words.{has_row, given}
-use Rattle.sizes.proofs.PassLaws.{given-none, given-more, shifted}
+use Rattle.sizes.proofs.PassLaws.{given_none, given_more, shifted}
 use Rattle.sizes.proofs.mark_roots.Statement.{statement}
 use Rattle.sizes.proofs.mark_roots.Tie as tie
 
@@ -17,7 +17,7 @@ abbrev decreases-loop : tie.decreases-loop
 decreases-loop refs base n words₀ t₀ words t = n - t
 
 loop-holds : tie.Need-loop-init invariant-loop decreases-loop
-loop-holds c = (omega arith, refl, given-none _ _ _)
+loop-holds c = (omega arith, refl, given_none _ _ _)
 
 cast-i : tie.Need-overflow-cast-i invariant-loop decreases-loop
 cast-i c = omega arith
@@ -49,7 +49,7 @@ loop-again : tie.Need-loop-preserved invariant-loop decreases-loop
 loop-again c =
     let v = c.before.before.before.before.before.before.loop.invariant in
     let s = c.before.before.before.before.before.before.before.before in
-    (omega arith, c.before.before.join.auto.0 ∙ v.1, given-more s.args.base c.before.before.before.before.before.before.loop.t _ s.args.refs.now s.args.words.now c.before.before.before.before.before.before.loop.words c.before.before.join.new.0 (shifted c.before.before.before.before.before.before.loop.t (omega (arith, s.requires.0.1, c.before.before.before.before.before.loop-test.true))) v.2 (c.before.before.join.ensures s.args.base))
+    (omega arith, c.before.before.join.auto.0 ∙ v.1, given_more s.args.base c.before.before.before.before.before.before.loop.t _ s.args.refs.now s.args.words.now c.before.before.before.before.before.before.loop.words c.before.before.join.new.0 (shifted c.before.before.before.before.before.before.loop.t (omega (arith, s.requires.0.1, c.before.before.before.before.before.loop-test.true))) v.2 (c.before.before.join.ensures s.args.base))
 
 same_length : tie.Need-same-length invariant-loop decreases-loop
 same_length c = c.before.loop.invariant.1

@@ -2,7 +2,7 @@
 use mathlib.Core.Path.{◌∙◌}
 use native.Mathlib.Omega.{arith}
 use borrow.Author.Rules.{rules}
-use Rattle.sizes.proofs.PassLaws.{pass-sized}
+use Rattle.sizes.proofs.PassLaws.{pass_sized}
 use Rattle.sizes.proofs.pass.Statement.{statement}
 use Rattle.sizes.proofs.pass.Tie as tie
 
@@ -25,7 +25,7 @@ same_length c = search rules
 returns : tie.Need-returns
 returns c =
     let s = c.before.before.before.before.before.before.before.before.before.before.before.before.before.before.before in
-    pass-sized c.before.before.before.before.before.before.before.before.before.before.before.zero.new.0 c.before.before.before.before.before.before.before.mark-roots.new.1.1.1.0 s.requires.0.0 s.requires.1.0.2 (omega (arith, s.requires.1.0.0, s.requires.1.0.1, s.requires.1.1.0)) c.before.before.before.before.before.before.before.before.before.before.before.zero.ensures s.requires.0.1 c.before.before.before.before.before.before.before.mark-roots.ensures c.before.before.push-down.ensures
+    pass_sized c.before.before.before.before.before.before.before.before.before.before.before.zero.new.0 c.before.before.before.before.before.before.before.mark-roots.new.1.1.1.0 s.requires.0.0 s.requires.1.0.2 (omega (arith, s.requires.1.0.0, s.requires.1.0.1, s.requires.1.1.0)) c.before.before.before.before.before.before.before.before.before.before.before.zero.ensures s.requires.0.1 c.before.before.before.before.before.before.before.mark-roots.ensures c.before.before.push-down.ensures
 
 pub pass_spec : {M : Type 1} → statement M
 pass_spec =

@@ -3,7 +3,7 @@
 use Prim.Native.Nat.{◌-◌}
 use mathlib.Core.Path.{sym, ◌∙◌}
 use native.Mathlib.Omega.{arith}
-use Rattle.sizes.proofs.PassLaws.{Pushing, pushing-all, pushing-none, pushing-small, pushing-more}
+use Rattle.sizes.proofs.PassLaws.{Pushing, pushing_all, pushing_none, pushing_small, pushing_more}
 use Rattle.sizes.proofs.push_down.Statement.{statement}
 use Rattle.sizes.proofs.push_down.Tie as tie
 
@@ -14,7 +14,7 @@ abbrev decreases-loop : tie.decreases-loop
 decreases-loop nodes kept base words₀ sizes₀ n₀ words sizes n = n
 
 loop-holds : tie.Need-loop-init invariant-loop decreases-loop
-loop-holds c = pushing-all c.before.before.requires.0.1
+loop-holds c = pushing_all c.before.before.requires.0.1
 
 sub-n : tie.Need-overflow-sub-n invariant-loop decreases-loop
 sub-n c =
@@ -106,7 +106,7 @@ count-rows-requires : tie.Need-count-rows-requires invariant-loop decreases-loop
 count-rows-requires c κs =
     let s = c.before.before.before.before.before.before.before.before.before.before.before.before.before.before.before.before in
     let v = c.before.before.before.before.before.before.before.before.before.before.before.before.before.loop.invariant in
-    (s.requires.1.0, v.size ∙ s.requires.1.1, pushing-small s.requires.0.0 s.requires.1.2 v)
+    (s.requires.1.0, v.size ∙ s.requires.1.1, pushing_small s.requires.0.0 s.requires.1.2 v)
 
 loop-less : tie.Need-loop-smaller invariant-loop decreases-loop
 loop-less c = omega (arith, c.before.before.before.before.before.before.before.before.before.before.before.before.before.loop-test.true)
@@ -115,13 +115,13 @@ loop-again : tie.Need-loop-preserved invariant-loop decreases-loop
 loop-again c =
     let s = c.before.before.before.before.before.before.before.before.before.before.before.before.before.before.before.before.before in
     let v = c.before.before.before.before.before.before.before.before.before.before.before.before.before.before.loop.invariant in
-    pushing-more (c.before.before.before.before.before.before.before.before.before.before.before.before.before.before.loop.n - 1) c.before.before.before.before.before.before.before.before.before.before.before.before.before.before.loop.n (omega (arith, c.before.before.before.before.before.before.before.before.before.before.before.before.before.loop-test.true)) s.requires.0.0 v c.before.before.before.before.before.before.before.before.before.join.new.0 c.before.before.before.before.join2.new.0 (c.before.before.before.before.join2.auto.0 ∙ c.before.before.before.before.before.before.before.before.before.join.auto.0 ∙ v.long) (c.before.before.before.before.before.before.before.before.before.join.ensures s.args.base) (c.before.before.before.before.join2.ensures s.args.base) c.count-rows.ensures
+    pushing_more (c.before.before.before.before.before.before.before.before.before.before.before.before.before.before.loop.n - 1) c.before.before.before.before.before.before.before.before.before.before.before.before.before.before.loop.n (omega (arith, c.before.before.before.before.before.before.before.before.before.before.before.before.before.loop-test.true)) s.requires.0.0 v c.before.before.before.before.before.before.before.before.before.join.new.0 c.before.before.before.before.join2.new.0 (c.before.before.before.before.join2.auto.0 ∙ c.before.before.before.before.before.before.before.before.before.join.auto.0 ∙ v.long) (c.before.before.before.before.before.before.before.before.before.join.ensures s.args.base) (c.before.before.before.before.join2.ensures s.args.base) c.count-rows.ensures
 
 same_length : tie.Need-same-length invariant-loop decreases-loop
 same_length c = let v = c.before.loop.invariant in v.long ∙ sym c.before.before.before.before.requires.0.1
 
 returns : tie.Need-returns invariant-loop decreases-loop
-returns c = pushing-none (omega (arith, c.loop-test.false)) c.before.loop.invariant
+returns c = pushing_none (omega (arith, c.loop-test.false)) c.before.loop.invariant
 
 pub push-down-spec : {M : Type 1} → statement M
 push-down-spec =

@@ -4,8 +4,8 @@ use mathlib.Core.Path.{◌≡◌, refl, ◌∙◌}
 use native.Mathlib.Omega.{arith}
 use borrow.Author.Rules.{rules}
 use borrow.Rule.Slice.PartMut.{put_mid}
-use Rattle.sizes.proofs.LentLaws.{lent_length, back-length, lent-rest, rest-two}
-use Rattle.sizes.proofs.SizesLaws.{sized-one, sized-two, first_small, zero-small}
+use Rattle.sizes.proofs.LentLaws.{lent_length, back_length, lent_rest, rest_two}
+use Rattle.sizes.proofs.SizesLaws.{sized_one, sized_two, first_small, zero_small}
 use Rattle.sizes.proofs.sizes.Statement.{statement}
 use Rattle.sizes.proofs.sizes.Tie as tie
 
@@ -25,7 +25,7 @@ pass-requires : tie.Need-pass-requires
 pass-requires c κs =
     let s = c.before.before.before.before.before.before.before in
     let z = c.before.before.before.clear.ensures in
-    ((s.requires.0.0, lent_length _ _ s.requires.1.0), ((omega arith, c.before.before.if1.true, λ t h. let e : 0 + t ≡ t = omega arith in rw e (s.requires.0.1.inside t (omega arith))), (rw z refl, zero-small _ z)))
+    ((s.requires.0.0, lent_length _ _ s.requires.1.0), ((omega arith, c.before.before.if1.true, λ t h. let e : 0 + t ≡ t = omega arith in rw e (s.requires.0.1.inside t (omega arith))), (rw z refl, zero_small _ z)))
 
 same_length : tie.Need-same-length
 same_length c = search rules
@@ -34,7 +34,7 @@ returns : tie.Need-returns
 returns c =
     let s = c.before.before.before.before.before.before.before.before.before.before in
     let p = c.before.before.pass in
-    (sized-one _ _ _ _ s.requires.0.1 _ _ c.before.before.before.before.before.before.clear.ensures p.ensures, lent-rest s.args.kept s.args.work.now s.requires.1.0 p.new.1.1.1.1.1.0 p.auto.1.1.1.1.1.0)
+    (sized_one _ _ _ _ s.requires.0.1 _ _ c.before.before.before.before.before.before.clear.ensures p.ensures, lent_rest s.args.kept s.args.work.now s.requires.1.0 p.new.1.1.1.1.1.0 p.auto.1.1.1.1.1.0)
 
 sub-pass-2 : tie.Need-overflow-sub-pass-2
 sub-pass-2 c = search rules
@@ -49,7 +49,7 @@ pass-requires-2 : tie.Need-pass-requires-2
 pass-requires-2 c κs =
     let s = c.before.before.before.before.before.before.before in
     let z = c.before.before.before.clear.ensures in
-    ((s.requires.0.0, lent_length _ _ s.requires.1.0), ((omega arith, omega arith, λ t h. let e : 0 + t ≡ t = omega arith in rw e (s.requires.0.1.inside t (omega (arith, c.before.before.if1.false)))), (rw z refl, zero-small _ z)))
+    ((s.requires.0.0, lent_length _ _ s.requires.1.0), ((omega arith, omega arith, λ t h. let e : 0 + t ≡ t = omega arith in rw e (s.requires.0.1.inside t (omega (arith, c.before.before.if1.false)))), (rw z refl, zero_small _ z)))
 
 sub-pass-3 : tie.Need-overflow-sub-pass-3
 sub-pass-3 c = search rules
@@ -69,7 +69,7 @@ pass-requires-3 c κs =
     let z = c.before.before.before.before.before.before.before.before.clear.ensures in
     let p = c.before.before.before.before.pass2 in
     let w = put_mid 0 (s.args.kept - 0) s.args.work.now p.new.1.1.1.1.1.0 in
-    let long = back-length s.args.kept s.args.work.now s.requires.1.0 p.new.1.1.1.1.1.0 p.auto.1.1.1.1.1.0 in
+    let long = back_length s.args.kept s.args.work.now s.requires.1.0 p.new.1.1.1.1.1.0 p.auto.1.1.1.1.1.0 in
     ((s.requires.0.0, lent_length s.args.kept w (omega (arith, s.requires.1.0, long))), ((omega arith, omega (arith, s.requires.0.1.few), λ t h. s.requires.0.1.inside (32 + t) (omega arith)), (p.ensures.size ∙ rw z refl, first_small _ _ _ _ s.requires.0.1 _ _ s.requires.0.0 (omega (arith, c.before.before.before.before.before.before.before.if1.false)) z p.ensures)))
 
 same-length-2 : tie.Need-same-length-2
@@ -81,8 +81,8 @@ returns-2 c =
     let p = c.before.before.before.before.before.before.before.pass2 in
     let q = c.before.before.pass3 in
     let w = put_mid 0 (s.args.kept - 0) s.args.work.now p.new.1.1.1.1.1.0 in
-    let long = back-length s.args.kept s.args.work.now s.requires.1.0 p.new.1.1.1.1.1.0 p.auto.1.1.1.1.1.0 in
-    (sized-two _ _ _ _ s.requires.0.1 _ _ _ (omega (arith, c.before.before.before.before.before.before.before.before.before.before.if1.false)) c.before.before.before.before.before.before.before.before.before.before.before.clear.ensures p.ensures q.ensures, rest-two (lent-rest s.args.kept s.args.work.now s.requires.1.0 p.new.1.1.1.1.1.0 p.auto.1.1.1.1.1.0) (lent-rest s.args.kept w (omega (arith, s.requires.1.0, long)) q.new.1.1.1.1.1.0 q.auto.1.1.1.1.1.0))
+    let long = back_length s.args.kept s.args.work.now s.requires.1.0 p.new.1.1.1.1.1.0 p.auto.1.1.1.1.1.0 in
+    (sized_two _ _ _ _ s.requires.0.1 _ _ _ (omega (arith, c.before.before.before.before.before.before.before.before.before.before.if1.false)) c.before.before.before.before.before.before.before.before.before.before.before.clear.ensures p.ensures q.ensures, rest_two (lent_rest s.args.kept s.args.work.now s.requires.1.0 p.new.1.1.1.1.1.0 p.auto.1.1.1.1.1.0) (lent_rest s.args.kept w (omega (arith, s.requires.1.0, long)) q.new.1.1.1.1.1.0 q.auto.1.1.1.1.1.0))
 
 pub sizes-spec : {M : Type 1} → statement M
 sizes-spec =

@@ -2,7 +2,7 @@
 use mathlib.Core.Path.{ap, ◌∙◌}
 use lib.ListN.{length}
 use borrow.Author.Rules.{rules}
-use Rattle.sizes.proofs.SizesLaws.{sizes-wide}
+use Rattle.sizes.proofs.SizesLaws.{sizes_wide}
 use Rattle.sizes.proofs.sizes_right.Statement.{statement}
 use Rattle.sizes.proofs.sizes_right.Tie as tie
 
@@ -12,7 +12,7 @@ sizes-requires c κs = search rules
 alike-requires : tie.Need-alike-requires
 alike-requires c κs =
     let s = c.before.before.before.before.before.before.before.before in
-    (s.requires.1.1, ap length c.before.before.before.sizes.ensures.0 ∙ sizes-wide s.args.nodes.now s.args.kept s.args.refs.now s.args.count s.requires.0.1)
+    (s.requires.1.1, ap length c.before.before.before.sizes.ensures.0 ∙ sizes_wide s.args.nodes.now s.args.kept s.args.refs.now s.args.count s.requires.0.1)
 
 same_length : tie.Need-same-length
 same_length c = search rules

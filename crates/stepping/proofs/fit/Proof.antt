@@ -1,6 +1,6 @@
 -- `plan::fit` meets its contract. Assumes nothing.
 use native.Mathlib.Omega.{arith}
-use Rattle.stepping.proofs.FitLaws.{fit-last}
+use Rattle.stepping.proofs.FitLaws.{fit_last}
 use borrow.Author.Rules.{rules}
 use Rattle.stepping.proofs.fit.Statement.{statement}
 use Rattle.stepping.proofs.fit.Tie as tie
@@ -38,7 +38,7 @@ add-result c = search rules
 returns-8 : tie.Need-returns-8
 returns-8 c =
     let s = c.before.before.before.before.before.before.before.args in
-    fit-last s.k s.count s.nodes s.work (omega arith) (omega arith) (omega arith) (omega arith) (omega arith) (omega arith) (omega arith)
+    fit_last s.k s.count s.nodes s.work (omega arith) (omega arith) (omega arith) (omega arith) (omega arith) (omega arith) (omega arith)
 
 pub fit_spec : {M : Type 1} → statement M
 fit_spec =

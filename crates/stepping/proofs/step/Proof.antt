@@ -3,21 +3,21 @@ use Prim.Native.Nat.{◌/◌}
 use mathlib.Core.Path.{refl, sym, ◌∙◌}
 use native.Mathlib.Omega.{arith}
 use lib.ListN.{length}
-use Rattle.trees.proofs.KeptLaws.{not-false}
-use Rattle.meaning.specs.Rows.{rowCount}
-use Rattle.keeping.proofs.CheckLaws.{says-yes}
+use Rattle.trees.proofs.KeptLaws.{not_false}
+use Rattle.meaning.specs.Rows.{count_of_rows}
+use Rattle.keeping.proofs.CheckLaws.{says_yes}
 use Rattle.diagram.specs.Works.{Fits}
 use Rattle.instructions.specs.Planned.{planned}
-use Rattle.stepping.proofs.FitLaws.{few-rows, turned-false}
+use Rattle.stepping.proofs.FitLaws.{few_rows, turned_false}
 use Rattle.stepping.proofs.OutcomeLaws.{ready}
-use Rattle.stepping.proofs.SizeLaws.{well-kept}
-use Rattle.stepping.proofs.CaseLaws.{cleared-after, unfit-leaves, bad-leaves, good-leaves}
+use Rattle.stepping.proofs.SizeLaws.{well_kept_law}
+use Rattle.stepping.proofs.CaseLaws.{cleared_after, unfit_leaves, bad_leaves, good_leaves}
 use borrow.Author.Rules.{rules}
 use Rattle.stepping.proofs.step.Statement.{statement}
 use Rattle.stepping.proofs.step.Tie as tie
 
 cast-count : tie.Need-overflow-cast-count
-cast-count c = omega (arith, few-rows _ c.before.before.before.requires.0)
+cast-count c = omega (arith, few_rows _ c.before.before.before.requires.0)
 
 fit-requires : tie.Need-fit-requires
 fit-requires c κs = search rules
@@ -26,17 +26,17 @@ refused-requires : tie.Need-refused-requires
 refused-requires c κs = tt
 
 returns : tie.Need-returns
-unfolding rowCount
+unfolding count_of_rows
 returns c =
     let s = c.before.before.before.before.before.before in
     rw c.refused.ensures
-    (unfit-leaves s.args.k (rowCount s.args.rows.now) s.args.free.now s.args.refs.now s.args.sizes.now s.args.kept s.args.nodes.now s.args.work.now (planned s.args.rows.now s.args.event s.args.given.now) c.before.before.fit.result c.before.before.fit.ensures c.before.if1.true, (refl, refl))
+    (unfit_leaves s.args.k (count_of_rows s.args.rows.now) s.args.free.now s.args.refs.now s.args.sizes.now s.args.kept s.args.nodes.now s.args.work.now (planned s.args.rows.now s.args.event s.args.given.now) c.before.before.fit.result c.before.before.fit.ensures c.before.if1.true, (refl, refl))
 
 kept-right-requires : tie.Need-kept-right-requires
-unfolding rowCount
+unfolding count_of_rows
 kept-right-requires c κs =
     let s = c.before.before.before.before.before.before.before.before.before in
-    let f = says-yes (Fits s.args.k (rowCount s.args.rows.now) (length s.args.nodes.now) (length s.args.work.now)) c.before.before.before.before.before.fit.result c.before.before.before.before.before.fit.ensures c.before.before.before.before.if1.false in
+    let f = says_yes (Fits s.args.k (count_of_rows s.args.rows.now) (length s.args.nodes.now) (length s.args.work.now)) c.before.before.before.before.before.fit.result c.before.before.before.before.before.fit.ensures c.before.before.before.before.if1.false in
     (f, s.requires.3, s.requires.4)
 
 mul-zero : tie.Need-overflow-mul-zero
@@ -46,11 +46,11 @@ add-zero : tie.Need-overflow-add-zero
 add-zero c = search rules
 
 zero-requires : tie.Need-zero-requires
-unfolding rowCount
+unfolding count_of_rows
 zero-requires c κs =
     let s = c.before.before.before.before.before.before.before.before.before.before.before.before.before.before in
-    let f = says-yes (Fits s.args.k (rowCount s.args.rows.now) (length s.args.nodes.now) (length s.args.work.now)) c.before.before.before.before.before.before.before.before.before.before.fit.result c.before.before.before.before.before.before.before.before.before.before.fit.ensures c.before.before.before.before.before.before.before.before.before.if1.false in
-    omega (arith, f.room, c.before.before.before.before.kept-right.auto.1.1.1.1.1.1.1.0)
+    let f = says_yes (Fits s.args.k (count_of_rows s.args.rows.now) (length s.args.nodes.now) (length s.args.work.now)) c.before.before.before.before.before.before.before.before.before.before.fit.result c.before.before.before.before.before.before.before.before.before.before.fit.ensures c.before.before.before.before.before.before.before.before.before.if1.false in
+    omega (arith, f.room, c.before.before.before.before.kept_right.auto.1.1.1.1.1.1.1.0)
 
 refused-requires-2 : tie.Need-refused-requires-2
 refused-requires-2 c κs = tt
@@ -62,30 +62,30 @@ same-length-2 : tie.Need-same-length-2
 same-length-2 c = search rules
 
 returns-2 : tie.Need-returns-2
-unfolding rowCount
+unfolding count_of_rows
 returns-2 c =
-    let checked = c.before.before.before.before.before.before.before.before.kept-right in
+    let checked = c.before.before.before.before.before.before.before.before.kept_right in
     let s = c.before.before.before.before.before.before.before.before.before.before.before.before.before.before.before.before.before.before in
-    let f = says-yes (Fits s.args.k (rowCount s.args.rows.now) (length s.args.nodes.now) (length s.args.work.now)) c.before.before.before.before.before.before.before.before.before.before.before.before.before.before.fit.result c.before.before.before.before.before.before.before.before.before.before.before.before.before.before.fit.ensures c.before.before.before.before.before.before.before.before.before.before.before.before.before.if1.false in
+    let f = says_yes (Fits s.args.k (count_of_rows s.args.rows.now) (length s.args.nodes.now) (length s.args.work.now)) c.before.before.before.before.before.before.before.before.before.before.before.before.before.before.fit.result c.before.before.before.before.before.before.before.before.before.before.before.before.before.before.fit.ensures c.before.before.before.before.before.before.before.before.before.before.before.before.before.if1.false in
     rw c.refused2.ensures (
-      bad-leaves s.args.k (rowCount s.args.rows.now) s.args.free.now s.args.refs.now s.args.sizes.now s.args.kept s.args.nodes.now s.args.work.now (planned s.args.rows.now s.args.event s.args.given.now) f (sym checked.ensures.0 ∙ not-false checked.result c.before.before.before.before.before.if2.true)
-          (cleared-after s.args.k (rowCount s.args.rows.now) s.args.free.now s.args.refs.now s.args.sizes.now s.args.kept s.args.nodes.now s.args.work.now f checked.ensures.1.rest checked.auto.1.1.1.1.1.1.1.0 c.before.before.before.zero.ensures),
+      bad_leaves s.args.k (count_of_rows s.args.rows.now) s.args.free.now s.args.refs.now s.args.sizes.now s.args.kept s.args.nodes.now s.args.work.now (planned s.args.rows.now s.args.event s.args.given.now) f (sym checked.ensures.0 ∙ not_false checked.result c.before.before.before.before.before.if2.true)
+          (cleared_after s.args.k (count_of_rows s.args.rows.now) s.args.free.now s.args.refs.now s.args.sizes.now s.args.kept s.args.nodes.now s.args.work.now f checked.ensures.1.rest checked.auto.1.1.1.1.1.1.1.0 c.before.before.before.zero.ensures),
       (refl, refl),
     )
 
 worked-requires : tie.Need-worked-requires
-unfolding rowCount
+unfolding count_of_rows
 worked-requires c κs =
-    let checked = c.before.before.before.before.before.before.before.kept-right in
+    let checked = c.before.before.before.before.before.before.before.kept_right in
     let s = c.before.before.before.before.before.before.before.before.before.before.before.before.before.before.before.before.before in
-    let f = says-yes (Fits s.args.k (rowCount s.args.rows.now) (length s.args.nodes.now) (length s.args.work.now)) c.before.before.before.before.before.before.before.before.before.before.before.before.before.fit.result c.before.before.before.before.before.before.before.before.before.before.before.before.before.fit.ensures c.before.before.before.before.before.before.before.before.before.before.before.before.if1.false in
-    let good = turned-false checked.result c.before.before.before.before.if2.false in (
+    let f = says_yes (Fits s.args.k (count_of_rows s.args.rows.now) (length s.args.nodes.now) (length s.args.work.now)) c.before.before.before.before.before.before.before.before.before.before.before.before.before.fit.result c.before.before.before.before.before.before.before.before.before.before.before.before.before.fit.ensures c.before.before.before.before.before.before.before.before.before.before.before.before.if1.false in
+    let good = turned_false checked.result c.before.before.before.before.if2.false in (
       (s.requires.0, s.requires.1, s.requires.2, s.requires.4),
       (
         rw checked.auto.1.1.1.1.1.1.1.0 f,
         (
-          ready s.args.k s.args.free.now (length s.args.nodes.now / 3) (rowCount s.args.rows.now) s.args.refs.now s.args.kept s.args.nodes.now f.least f.few s.requires.3 f.whole f.small
-              (well-kept s.args.k (rowCount s.args.rows.now) s.args.free.now s.args.refs.now s.args.sizes.now s.args.kept s.args.nodes.now (sym checked.ensures.0 ∙ good)),
+          ready s.args.k s.args.free.now (length s.args.nodes.now / 3) (count_of_rows s.args.rows.now) s.args.refs.now s.args.kept s.args.nodes.now f.least f.few s.requires.3 f.whole f.small
+              (well_kept_law s.args.k (count_of_rows s.args.rows.now) s.args.free.now s.args.refs.now s.args.sizes.now s.args.kept s.args.nodes.now (sym checked.ensures.0 ∙ good)),
           checked.ensures.1.chained good,
         ),
       ),
@@ -98,12 +98,12 @@ same-length-4 : tie.Need-same-length-4
 same-length-4 c = search rules
 
 returns-3 : tie.Need-returns-3
-unfolding rowCount
+unfolding count_of_rows
 returns-3 c =
-    let checked = c.before.before.before.before.before.before.before.before.before.before.before.before.kept-right in
+    let checked = c.before.before.before.before.before.before.before.before.before.before.before.before.kept_right in
     let s = c.before.before.before.before.before.before.before.before.before.before.before.before.before.before.before.before.before.before.before.before.before.before in
-    let f = says-yes (Fits s.args.k (rowCount s.args.rows.now) (length s.args.nodes.now) (length s.args.work.now)) c.before.before.before.before.before.before.before.before.before.before.before.before.before.before.before.before.before.before.fit.result c.before.before.before.before.before.before.before.before.before.before.before.before.before.before.before.before.before.before.fit.ensures c.before.before.before.before.before.before.before.before.before.before.before.before.before.before.before.before.before.if1.false in (
-      good-leaves s.args.k (rowCount s.args.rows.now) s.args.free.now s.args.refs.now s.args.sizes.now s.args.kept s.args.nodes.now s.args.work.now (planned s.args.rows.now s.args.event s.args.given.now) f (sym checked.ensures.0 ∙ turned-false checked.result c.before.before.before.before.before.before.before.before.before.if2.false) checked.ensures.1.rest checked.auto.1.1.1.1.1.1.1.0 c.before.before.before.before.worked.ensures.0,
+    let f = says_yes (Fits s.args.k (count_of_rows s.args.rows.now) (length s.args.nodes.now) (length s.args.work.now)) c.before.before.before.before.before.before.before.before.before.before.before.before.before.before.before.before.before.before.fit.result c.before.before.before.before.before.before.before.before.before.before.before.before.before.before.before.before.before.before.fit.ensures c.before.before.before.before.before.before.before.before.before.before.before.before.before.before.before.before.before.if1.false in (
+      good_leaves s.args.k (count_of_rows s.args.rows.now) s.args.free.now s.args.refs.now s.args.sizes.now s.args.kept s.args.nodes.now s.args.work.now (planned s.args.rows.now s.args.event s.args.given.now) f (sym checked.ensures.0 ∙ turned_false checked.result c.before.before.before.before.before.before.before.before.before.if2.false) checked.ensures.1.rest checked.auto.1.1.1.1.1.1.1.0 c.before.before.before.before.worked.ensures.0,
       c.before.before.before.before.worked.ensures.1,
     )
 

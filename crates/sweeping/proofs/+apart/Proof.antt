@@ -2,8 +2,8 @@
 use mathlib.Core.Logic.{⊎_elim}
 use lib.ListN.{length}
 use Rattle.sweeping.specs.Sweeps.{Emitted}
-use Rattle.sweeping.proofs.NoteLaws.{sides-ordered}
-use Rattle.sweeping.proofs.SweepLaws.{swept-room, swept-fits, swept}
+use Rattle.sweeping.proofs.NoteLaws.{sides_ordered}
+use Rattle.sweeping.proofs.SweepLaws.{swept_room, swept_fits, swept}
 use borrow.Author.Rules.{rules}
 use native.Mathlib.Omega.{arith}
 use Prim.Native.Nat.{ℕ, ◌+◌, ◌*◌, ◌-◌, ◌/◌, ◌≤◌, ◌<◌}
@@ -74,31 +74,31 @@ module _ (t : ℕ) where
   known-requires c κs =
       let r = c.before in
       let s = start r in
-      (s.pre.1.0, (sides-ordered s.pre.1.1.0 r.read.ensures).1.below)
+      (s.pre.1.0, (sides_ordered s.pre.1.1.0 r.read.ensures).1.below)
 
   sub-apart : lts.Need-overflow-sub-apart (calls t) (now-at t) own.Post
-  sub-apart c = let r = c.before.before.before.before.before in (sides-ordered (start r).requires.1.1.0 r.read.ensures).0
+  sub-apart c = let r = c.before.before.before.before.before in (sides_ordered (start r).requires.1.1.0 r.read.ensures).0
 
   apart-requires : lts.Need-apart-requires (calls t) (now-at t) own.Post
   apart-requires c κs =
       let r = c.before.before.before.before.before in
       let s = start r in
-      let d = sides-ordered s.pre.1.1.0 r.read.ensures in
+      let d = sides_ordered s.pre.1.1.0 r.read.ensures in
       (omega (arith, s.pre.0, d.0), (s.pre.1.0, (d.1, c.before.before.before.known.ensures.new c.before.if1.true)))
 
   known-requires-2 : lts.Need-known-requires-2 (calls t) (now-at t) own.Post
   known-requires-2 c κs =
       let r = c.before.before.before.before.before in
-      ((low-done c.before).notes, (sides-ordered (start r).requires.1.1.0 r.read.ensures).2.below)
+      ((low-done c.before).notes, (sides_ordered (start r).requires.1.1.0 r.read.ensures).2.below)
 
   sub-apart-2 : lts.Need-overflow-sub-apart-2 (calls t) (now-at t) own.Post
-  sub-apart-2 c = let r = c.before.before.before.before.before.before.before.before.before in (sides-ordered (start r).requires.1.1.0 r.read.ensures).0
+  sub-apart-2 c = let r = c.before.before.before.before.before.before.before.before.before in (sides_ordered (start r).requires.1.1.0 r.read.ensures).0
 
   apart-requires-2 : lts.Need-apart-requires-2 (calls t) (now-at t) own.Post
   apart-requires-2 c κs =
       let r = c.before.before.before.before.before.before.before.before.before in
       let s = start r in
-      let d = sides-ordered s.pre.1.1.0 r.read.ensures in
+      let d = sides_ordered s.pre.1.1.0 r.read.ensures in
       (omega (arith, s.pre.0, d.0), ((low-done c.before.before.before.before.before).notes, (d.2, c.before.before.before.known2.ensures.new c.before.if2.true)))
 
   emit-requires : lts.Need-emit-requires (calls t) (now-at t) own.Post
@@ -108,7 +108,7 @@ module _ (t : ℕ) where
       let o = s.pre.1.0 in
       let q = s.pre.1.1.0 in
       let h = high-done c.before in
-      let k = swept-room o r.read.ensures s.pre.1.1.1.0 q.below s.pre.1.1.1.1 (low-done c.before.before.before.before.before) h in
+      let k = swept_room o r.read.ensures s.pre.1.1.1.0 q.below s.pre.1.1.1.1 (low-done c.before.before.before.before.before) h in
       let f = o.source.fits in
       let small = o.source.small in
       let size = o.size in
@@ -128,7 +128,7 @@ module _ (t : ℕ) where
   few c =
       let r = c.before.before.before.before.before.before.before.before.before.before.before.before.before.before.before.before in
       let s = start r in
-      swept-fits s.pre.1.0 r.read.ensures s.pre.1.1.1.0 s.pre.1.1.0.below s.pre.1.1.1.1 (low-done c.before.before.before.before.before.before.before.before.before.before.before.before) (high-done c.before.before.before.before.before.before.before.before) s.pre.1.1.0
+      swept_fits s.pre.1.0 r.read.ensures s.pre.1.1.1.0 s.pre.1.1.0.below s.pre.1.1.1.1 (low-done c.before.before.before.before.before.before.before.before.before.before.before.before) (high-done c.before.before.before.before.before.before.before.before) s.pre.1.1.0
 
   add-t31 : lts.Need-overflow-add-t31 (calls t) (now-at t) own.Post
   add-t31 c = omega (arith, few c)

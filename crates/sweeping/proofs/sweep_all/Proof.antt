@@ -6,8 +6,8 @@ use mathlib.Core.Logic.{⊎_elim}
 use native.Mathlib.Omega.{arith}
 use lib.ListN.{length, get_or}
 use Rattle.sweeping.specs.Sweeps.{Emitted}
-use Rattle.sweeping.proofs.NoteLaws.{few-visits}
-use Rattle.sweeping.proofs.RowsLaws.{rows-ordered, Going, going-none, going_more, going-all}
+use Rattle.sweeping.proofs.NoteLaws.{few_visits}
+use Rattle.sweeping.proofs.RowsLaws.{rows_ordered, Going, going_none, going_more, going_all}
 use Rattle.sweeping.proofs.sweep_all.Statement.{statement}
 use Rattle.sweeping.proofs.sweep_all.Tie as tie
 
@@ -30,7 +30,7 @@ done-length c = ⊎_elim (λ y. ap length y.6 ∙ y.3.kept.1.1.0) (λ y. ap leng
 loop-holds : tie.Need-loop-init invariant-loop decreases-loop
 loop-holds c =
     let s = c.before.before in
-    (omega arith, going-none _ _ _ _ _ _ _ _ s.requires.0 s.requires.1.0.0 s.requires.1.0.1 s.requires.1.1.1.0 s.requires.1.1.0)
+    (omega arith, going_none _ _ _ _ _ _ _ _ s.requires.0 s.requires.1.0.0 s.requires.1.0.1 s.requires.1.1.1.0 s.requires.1.1.0)
 
 cast-j : tie.Need-overflow-cast-j invariant-loop decreases-loop
 cast-j c = omega (arith, c.before.before.before.before.requires.1.1.1.1.few)
@@ -44,7 +44,7 @@ element-copy-out-known c = omega (arith, c.before.before.before.before.before.re
 known-requires : tie.Need-known-requires invariant-loop decreases-loop
 known-requires c κs =
     let l = c.before.before.before in
-    (l.loop.invariant.1.notes, (rows-ordered c.before.before.before.before.before.before.requires.1.1.1.1 l.loop.i c.before.before.loop-test.true).below)
+    (l.loop.invariant.1.notes, (rows_ordered c.before.before.before.before.before.before.requires.1.1.1.1 l.loop.i c.before.before.loop-test.true).below)
 
 mul-apart : tie.Need-overflow-mul-apart invariant-loop decreases-loop
 mul-apart c = omega (arith, c.before.before.before.before.before.before.before.before.before.before.requires.1.1.1.1.few)
@@ -55,7 +55,7 @@ element-copy-out-apart c = omega (arith, c.before.before.before.before.before.be
 apart-requires : tie.Need-apart-requires invariant-loop decreases-loop
 apart-requires c κs =
     let l = c.before.before.before.before.before.before.before.before in
-    (l.loop.invariant.1.notes, (rows-ordered c.before.before.before.before.before.before.before.before.before.before.before.requires.1.1.1.1 l.loop.i c.before.before.before.before.before.before.before.loop-test.true, c.before.before.before.before.known.ensures.new c.before.before.if1.true))
+    (l.loop.invariant.1.notes, (rows_ordered c.before.before.before.before.before.before.before.before.before.before.before.requires.1.1.1.1 l.loop.i c.before.before.before.before.before.before.before.loop-test.true, c.before.before.before.before.known.ensures.new c.before.before.if1.true))
 
 mul-out : tie.Need-overflow-mul-out invariant-loop decreases-loop
 mul-out c = omega (arith, c.before.before.before.before.before.before.before.before.before.requires.1.1.1.1.few)
@@ -70,7 +70,7 @@ add-visits c =
     let g = l.loop.invariant.1 in
     let t = g.notes.source in
     let h = c.before.before.before.before.before.before.loop-test.true in
-    omega (arith, g.small, rows.few, t.small, t.fits, few-visits g.notes (rows-ordered rows l.loop.i h) (done c.before))
+    omega (arith, g.small, rows.few, t.small, t.fits, few_visits g.notes (rows_ordered rows l.loop.i h) (done c.before))
 
 add-i : tie.Need-overflow-add-i invariant-loop decreases-loop
 add-i c = omega (arith, c.before.before.before.before.before.before.before.before.before.before.requires.1.1.1.1.few)
@@ -93,7 +93,7 @@ returns : tie.Need-returns invariant-loop decreases-loop
 returns c =
     let v = c.before.loop.invariant in
     let e : c.before.loop.i ≡ c.before.before.before.before.args.count = omega (arith, v.0, c.loop-test.false) in
-    going-all (rw e at v.1)
+    going_all (rw e at v.1)
 
 pub sweep-all-spec : {M : Type 1} → statement M
 sweep-all-spec =

@@ -5,7 +5,7 @@ use mathlib.Core.Path.{◌≡◌}
 use native.Mathlib.Omega.{arith}
 use lib.ListN.{get_or}
 use Rattle.telling.specs.Entries.{Meet}
-use Rattle.telling.proofs.AlikeLaws.{ones-some, ones_is, meets, parts, all_meet, one-parts, meet-more}
+use Rattle.telling.proofs.AlikeLaws.{ones_some, ones_is, meets, parts, all_meet, one_parts, meet_more}
 use Rattle.telling.proofs.alike.Statement.{statement}
 use Rattle.telling.proofs.alike.Tie as tie
 
@@ -19,7 +19,7 @@ shl-ones : tie.Need-overflow-shl-ones invariant-loop decreases-loop
 shl-ones c = c.before.before.requires.0.1
 
 sub-ones : tie.Need-overflow-sub-ones invariant-loop decreases-loop
-sub-ones c = omega (arith, ones-some _ c.before.before.requires.0.1)
+sub-ones c = omega (arith, ones_some _ c.before.before.requires.0.1)
 
 add-end : tie.Need-overflow-add-end invariant-loop decreases-loop
 add-end c = omega (arith, c.before.before.ranges.p.fits)
@@ -51,7 +51,7 @@ returns : tie.Need-returns invariant-loop decreases-loop
 returns c =
     let s = c.before.before.before.before.before.before.before.before in
     let l = c.before.before.before.before.before.loop in
-    one-parts s.args.nodes.now s.args.kept s.args.p s.args.base s.args.work.now s.args.from s.requires.1 s.args.k s.args.n (2 ^ s.args.k - 1)
+    one_parts s.args.nodes.now s.args.kept s.args.p s.args.base s.args.work.now s.args.from s.requires.1 s.args.k s.args.n (2 ^ s.args.k - 1)
     l.i l.invariant.1 (omega (arith, c.before.before.before.before.loop-test.true)) (parts s.args.nodes.now s.args.kept s.args.base s.args.k s.args.n (2 ^ s.args.k - 1) _ _ _ _ s.requires.0.0 l.invariant.0 c.before.before.along.ensures c.before.along2.ensures c.if1.true)
 
 add-i : tie.Need-overflow-add-i invariant-loop decreases-loop
@@ -66,7 +66,7 @@ loop-again c =
     let l = c.before.before.before.before.before.loop in (
       l.invariant.0,
       omega (arith, l.invariant.1),
-      meet-more s.args.nodes.now s.args.kept s.args.base s.args.k s.args.n (2 ^ s.args.k - 1) s.args.work.now s.args.from l.i l.invariant.2
+      meet_more s.args.nodes.now s.args.kept s.args.base s.args.k s.args.n (2 ^ s.args.k - 1) s.args.work.now s.args.from l.i l.invariant.2
           (meets s.args.nodes.now s.args.kept s.args.base s.args.k s.args.n (2 ^ s.args.k - 1) _ _ _ _ s.requires.0.0 l.invariant.0 c.before.before.along.ensures c.before.along2.ensures c.if1.false),
     )
 

@@ -6,8 +6,8 @@ use native.Mathlib.Omega.{arith}
 use lib.ListN.{length, length-set}
 use lib.Seq.{get_or-set_other}
 use Rattle.nodes.specs.Nodes.{Rest}
-use Rattle.telling.proofs.EntriesLaws.{Passing, passing-first, passing-last}
-use Rattle.telling.proofs.PassLaws.{passing-next, passing-rest, passed_length}
+use Rattle.telling.proofs.EntriesLaws.{Passing, passing_first, passing_last}
+use Rattle.telling.proofs.PassLaws.{passing_next, passing_rest, passed_length}
 use Rattle.telling.proofs.enter.Statement.{statement}
 use Rattle.telling.proofs.enter.Tie as tie
 
@@ -36,7 +36,7 @@ loop-holds : tie.Need-loop-init invariant-loop decreases-loop
 loop-holds c =
     let s = c.before.before.before.before.before.before in
     let z = c.before.before.zero.ensures in
-    (passing-first s.args.nodes.now s.args.kept s.args.p s.args.base s.args.work.now _ s.requires.0.1 s.requires.0.2 s.requires.1 z, record { eq = λ i h. refl }, refl)
+    (passing_first s.args.nodes.now s.args.kept s.args.p s.args.base s.args.work.now _ s.requires.0.1 s.requires.0.2 s.requires.1 z, record { eq = λ i h. refl }, refl)
 
 sub-pass : tie.Need-overflow-sub-pass invariant-loop decreases-loop
 sub-pass c = omega arith
@@ -60,8 +60,8 @@ loop-again c =
     let l = c.before.before.before.before.before.loop in
     let h = c.before.before.before.before.loop-test.true in
     let e = c.before.before.pass.ensures in (
-      passing-next s.args.nodes.now s.args.kept s.args.p s.args.base l.work l.left l.from _ _ s.requires.0.0 l.invariant.0 h e,
-      record { eq = λ i g. passing-rest s.args.nodes.now s.args.kept s.args.p s.args.base l.work l.left l.from _ _ s.requires.0.0 l.invariant.0 h e i g ∙ l.invariant.1.eq i g },
+      passing_next s.args.nodes.now s.args.kept s.args.p s.args.base l.work l.left l.from _ _ s.requires.0.0 l.invariant.0 h e,
+      record { eq = λ i g. passing_rest s.args.nodes.now s.args.kept s.args.p s.args.base l.work l.left l.from _ _ s.requires.0.0 l.invariant.0 h e i g ∙ l.invariant.1.eq i g },
       passed_length e ∙ l.invariant.2,
     )
 
@@ -74,7 +74,7 @@ returns c =
     let l = c.before.loop in
     let z = c.before.before.before.before.zero.ensures in
     let p = s.args.p in (
-      passing-last s.args.nodes.now s.args.kept p s.args.base l.work l.left l.from (omega (arith, c.loop-test.false)) l.invariant.0,
+      passing_last s.args.nodes.now s.args.kept p s.args.base l.work l.left l.from (omega (arith, c.loop-test.false)) l.invariant.0,
       record { eq = λ i h. l.invariant.1.eq i h ∙ get_or-set_other c.before.before.before.before.zero.new.0 p i 1 0 (omega arith) ∙ z.rest.eq i (omega arith) },
     )
 

@@ -1,5 +1,5 @@
 -- `read` meets its contract. Assumes nothing.
-use Rattle.translate.proofs.TranslatedLaws.{refused-is, says-limit, limits-pass}
+use Rattle.translate.proofs.TranslatedLaws.{refused_is, says_limit, limits_pass}
 use borrow.Author.Rules.{rules}
 use Rattle.translate.proofs.read.Statement.{statement}
 use Rattle.translate.proofs.read.Tie as tie
@@ -19,11 +19,11 @@ refused-requires c κs = search rules
 
 -- src/lib.rt:52:9
 returns : tie.Need-returns
-returns c = refused-is _ _ _ _ _ _ _ _ _ (says-limit c.before.before.before.before.before.args.text.now c.before.before.before.before.before.args.rows.now c.before.before.before.before.before.requires.0 c.before.before.before.before.before.requires.1 c.before.before.before.before.before.requires.2 _ c.before.before.limits.ensures c.before.if1.true) c.refused.ensures
+returns c = refused_is _ _ _ _ _ _ _ _ _ (says_limit c.before.before.before.before.before.args.text.now c.before.before.before.before.before.args.rows.now c.before.before.before.before.before.requires.0 c.before.before.before.before.before.requires.1 c.before.before.before.before.before.requires.2 _ c.before.before.limits.ensures c.before.if1.true) c.refused.ensures
 
 -- src/lib.rt:54:5
 with-names-requires : tie.Need-with-names-requires
-with-names-requires c κs = ((c.before.before.before.before.before.requires.0, c.before.before.before.before.before.requires.1, limits-pass _ _ c.before.before.limits.ensures c.before.if1.false), c.before.before.before.before.before.requires.2)
+with-names-requires c κs = ((c.before.before.before.before.before.requires.0, c.before.before.before.before.before.requires.1, limits_pass _ _ c.before.before.limits.ensures c.before.if1.false), c.before.before.before.before.before.requires.2)
 
 -- src/lib.rt:46:1
 same_length : tie.Need-same-length

@@ -1,5 +1,5 @@
 -- `translate` meets its contract. Assumes nothing.
-use Rattle.translate.proofs.TranslatedLaws.{refused-is, says-1, says-2, says-3}
+use Rattle.translate.proofs.TranslatedLaws.{refused_is, says_1, says_2, says_3}
 use borrow.Author.Rules.{rules}
 use Rattle.translate.proofs.translate.Statement.{statement}
 use Rattle.translate.proofs.translate.Tie as tie
@@ -15,7 +15,7 @@ refused-requires c κs = search rules
 
 -- src/lib.rt:62:9
 returns : tie.Need-returns
-returns c = refused-is _ _ _ _ _ _ _ _ _ (says-1 c.before.before.before.before.args.text.now c.before.before.before.before.args.rows.now c.before.if1.true) c.refused.ensures
+returns c = refused_is _ _ _ _ _ _ _ _ _ (says_1 c.before.before.before.before.args.text.now c.before.before.before.before.args.rows.now c.before.if1.true) c.refused.ensures
 
 -- src/lib.rt:65:9
 refused-requires-2 : tie.Need-refused-requires-2
@@ -23,7 +23,7 @@ refused-requires-2 c κs = search rules
 
 -- src/lib.rt:65:9
 returns-2 : tie.Need-returns-2
-returns-2 c = refused-is _ _ _ _ _ _ _ _ _ (says-2 c.before.before.before.before.before.args.text.now c.before.before.before.before.before.args.rows.now c.before.before.if1.false c.before.if2.true) c.refused2.ensures
+returns-2 c = refused_is _ _ _ _ _ _ _ _ _ (says_2 c.before.before.before.before.before.args.text.now c.before.before.before.before.before.args.rows.now c.before.before.if1.false c.before.if2.true) c.refused2.ensures
 
 -- src/lib.rt:67:9
 scan-requires : tie.Need-scan-requires
@@ -55,7 +55,7 @@ returns-3 c = search rules
 
 -- src/lib.rt:58:1
 returns-4 : tie.Need-returns-4
-returns-4 c = refused-is _ _ _ _ _ _ _ _ _ (says-3 c.before.before.before.before.before.before.before.before.before.args.text.now c.before.before.before.before.before.before.before.before.before.args.rows.now _ c.before.before.before.before.before.before.if1.false c.before.before.before.before.before.if2.false (rw c.before.before.reached.given.1 at c.before.before.before.before.scan.ensures)) c.refused3.ensures
+returns-4 c = refused_is _ _ _ _ _ _ _ _ _ (says_3 c.before.before.before.before.before.before.before.before.before.args.text.now c.before.before.before.before.before.before.before.before.before.args.rows.now _ c.before.before.before.before.before.before.if1.false c.before.before.before.before.before.if2.false (rw c.before.before.reached.given.1 at c.before.before.before.before.scan.ensures)) c.refused3.ensures
 
 pub translate-spec : {M : Type 1} → statement M
 translate-spec =

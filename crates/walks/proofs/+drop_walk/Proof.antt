@@ -1,15 +1,15 @@
 -- `drop_walk` meets its contract; the levels left fall. Assumes nothing.
 use mathlib.Core.Path.{◌≡◌, ◌∙◌}
-use Rattle.trees.specs.Tree.{mk, dropT}
-use Rattle.trees.specs.Table.{at, treesOf}
+use Rattle.trees.specs.Tree.{mk, drop_t}
+use Rattle.trees.specs.Table.{at, trees_of}
 use Rattle.nodes.specs.Nodes.{Grown}
-use Rattle.nodes.proofs.ReadLaws.{grown-ref, grown-count, stays}
+use Rattle.nodes.proofs.ReadLaws.{grown_ref, grown_count, stays}
 use Rattle.walks.specs.Desks.{Remembered}
-use Rattle.walks.proofs.DeskLaws.{spot-inside, desk-stays, desk-then}
-use Rattle.walks.proofs.DropLaws.{drop-leaf, drop-stay, drop_here, drop-node, within-sure}
+use Rattle.walks.proofs.DeskLaws.{spot_inside, desk_stays, desk_then}
+use Rattle.walks.proofs.DropLaws.{drop_leaf, drop_stay, drop_here, drop_node, within_sure}
 use Rattle.walks.proofs.StepLaws.{within_grown, Step, steps}
-use Rattle.walks.proofs.MemoryLaws.{drop-key, recalled-drop, memory-hit, key-later, recalled-over}
-use Rattle.making.proofs.WalkLaws.{kept, front-trans, stuck-low, stuck-high, joined}
+use Rattle.walks.proofs.MemoryLaws.{drop_key, recalled_drop, memory_hit, key_later, recalled_over}
+use Rattle.making.proofs.WalkLaws.{kept, front_trans, stuck_low, stuck_high, joined}
 use native.Mathlib.Omega.{arith}
 use borrow.Author.Rules.{rules}
 use Prim.Native.Nat.{ℕ, ◌<◌}
@@ -55,11 +55,11 @@ module _ (t : ℕ) where
       → let at_split = c.before.before.before.before in
       let a = (start at_split).args in
       let x = at_split.read.result in
-      let ts = treesOf a.nodes.now a.n in
-      dropT a.levels a.v (at ts a.p) ≡ mk x.level (dropT a.levels a.v (at ts x.low)) (dropT a.levels a.v (at ts x.high))
+      let ts = trees_of a.nodes.now a.n in
+      drop_t a.levels a.v (at ts a.p) ≡ mk x.level (drop_t a.levels a.v (at ts x.low)) (drop_t a.levels a.v (at ts x.high))
   early c =
       let a = (start c.before.before.before.before).args in
-      drop-node a.levels a.v (stepped c.before.before.before.before) (omega (arith, c.if3.false, c.before.before.if2.false))
+      drop_node a.levels a.v (stepped c.before.before.before.before) (omega (arith, c.if3.false, c.before.before.if2.false))
 
   -- what the low side gives, and the high side
   low-done : (c : lts.After-n1 calls (now-at t) own.Post)
@@ -68,7 +68,7 @@ module _ (t : ℕ) where
       let a = (start at_split).args in
       let x = at_split.read.result in
       let v = c.n1.given.0 in
-      Grown a.nodes.now after.drop-walk.new.0 a.n v.0 v.1.0 (dropT a.levels a.v (at (treesOf a.nodes.now a.n) x.low))
+      Grown a.nodes.now after.drop-walk.new.0 a.n v.0 v.1.0 (drop_t a.levels a.v (at (trees_of a.nodes.now a.n) x.low))
       × Remembered a.work.now after.drop-walk.new.0 v.0 a.levels after.drop-walk.new.1.0 a.c a.slots
   low-done c = rw c.n1.given.1 at c.before.before.before.before.before.before.drop-walk.ensures
 
@@ -80,7 +80,7 @@ module _ (t : ℕ) where
       let a = (start at_split).args in
       let x = at_split.read.result in
       let v = c.n2.given.0 in
-      Grown after.drop-walk.new.0 after2.drop-walk2.new.0 at-n1.n1.given.0.0 v.0 v.1.0 (dropT a.levels a.v (at (treesOf a.nodes.now a.n) x.high))
+      Grown after.drop-walk.new.0 after2.drop-walk2.new.0 at-n1.n1.given.0.0 v.0 v.1.0 (drop_t a.levels a.v (at (trees_of a.nodes.now a.n) x.high))
       × Remembered after.drop-walk.new.1.0 after2.drop-walk2.new.0 v.0 a.levels after2.drop-walk2.new.1.0 a.c a.slots
   high-done c =
       let after2 = c.before.before.before.before.before.before in
@@ -90,7 +90,7 @@ module _ (t : ℕ) where
   returns : lts.Need-returns calls (now-at t) own.Post
   returns c =
       let s = c.before.before.before in
-      (stays _ _ _ _ s.requires.1.0.shelf.table s.requires.1.1.1.below (drop-leaf s.args.levels s.args.v _ _ _ c.if1.true), desk-stays s.requires.1.0)
+      (stays _ _ _ _ s.requires.1.0.shelf.table s.requires.1.1.1.below (drop_leaf s.args.levels s.args.v _ _ _ c.if1.true), desk_stays s.requires.1.0)
 
   read-requires : lts.Need-read-requires calls (now-at t) own.Post
   read-requires c κs =
@@ -104,7 +104,7 @@ module _ (t : ℕ) where
   returns-2 c =
       let at_split = c.before.before in
       let s = start at_split in
-      (stays _ _ _ _ s.pre.1.0.shelf.table s.pre.1.1.1.below (drop-stay s.args.levels s.args.v (stepped at_split) c.if2.true), desk-stays s.pre.1.0)
+      (stays _ _ _ _ s.pre.1.0.shelf.table s.pre.1.1.1.below (drop_stay s.args.levels s.args.v (stepped at_split) c.if2.true), desk_stays s.pre.1.0)
 
   sub-since-walk : lts.Need-overflow-sub-since-walk calls (now-at t) own.Post
   sub-since-walk c = (stepped c.before.before.before.before.before.before).some
@@ -113,7 +113,7 @@ module _ (t : ℕ) where
   since-walk-requires c κs =
       let d = stepped c.before.before.before.before.before.before in
       let s = start c.before.before.before.before.before.before in
-      (s.pre.1.0, (omega (arith, s.pre.1.1.0), within-sure _ _ _ _, d.low, d.high))
+      (s.pre.1.0, (omega (arith, s.pre.1.1.0), within_sure _ _ _ _, d.low, d.high))
 
   same-length-2 : lts.Need-same-length-2 calls (now-at t) own.Post
   same-length-2 c = search rules
@@ -135,7 +135,7 @@ module _ (t : ℕ) where
   recall-requires : lts.Need-recall-requires calls (now-at t) own.Post
   recall-requires c κs =
       let k = c.before.before.before.before.before.before.before.before.before.before.before.requires.1.0 in
-      omega (arith, spot-inside k c.before.spot.ensures, k.shelf.long)
+      omega (arith, spot_inside k c.before.spot.ensures, k.shelf.long)
 
   sub-t27 : lts.Need-overflow-sub-t27 calls (now-at t) own.Post
   sub-t27 c = search rules
@@ -150,7 +150,7 @@ module _ (t : ℕ) where
   returns-4 c =
       let s = c.before.before.before.before.before.before.before.before.before.before.before.before.before in
       let k = s.requires.1.0 in
-      (rw (← recalled-drop s.args.levels _ s.args.v _) (memory-hit k.shelf.table k.memory c.before.before.before.spot.ensures _ _ _ _ c.before.recall.ensures c.if4.true), desk-stays k)
+      (rw (← recalled_drop s.args.levels _ s.args.v _) (memory_hit k.shelf.table k.memory c.before.before.before.spot.ensures _ _ _ _ c.before.recall.ensures c.if4.true), desk_stays k)
 
   sub-drop-walk : lts.Need-overflow-sub-drop-walk calls (now-at t) own.Post
   sub-drop-walk c = (stepped c.before.before.before.before.before.before.before.before.before.before).some
@@ -177,7 +177,7 @@ module _ (t : ℕ) where
   returns-5 c =
       let past = c.before.before.before.before.before.before.before.before.before.before.before.before.before in
       let s = start past.before.before.before.before in
-      rw (early past) (stuck-low _ _ _ s.pre.1.0.shelf.table (rw c.enum_told.given.1 at c.before.before.before.before.before.before.drop-walk.ensures))
+      rw (early past) (stuck_low _ _ _ s.pre.1.0.shelf.table (rw c.enum_told.given.1 at c.before.before.before.before.before.before.drop-walk.ensures))
 
   sub-drop-walk-2 : lts.Need-overflow-sub-drop-walk-2 calls (now-at t) own.Post
   sub-drop-walk-2 c = (stepped c.before.before.before.before.before.before.before.before.before.before.before.before.before.before.before.before.before.before.before.before).some
@@ -210,7 +210,7 @@ module _ (t : ℕ) where
       let d = stepped past.before.before.before.before in
       let s = start past.before.before.before.before in
       let g = (low-done at-n1).0 in
-      rw (early past) (stuck-high _ _ _ s.pre.1.0.shelf.table g (rw (c.enum-told2.given.1, kept g _ d.high.below) at after2.drop-walk2.ensures))
+      rw (early past) (stuck_high _ _ _ s.pre.1.0.shelf.table g (rw (c.enum-told2.given.1, kept g _ d.high.below) at after2.drop-walk2.ensures))
 
   keep-requires : lts.Need-keep-requires calls (now-at t) own.Post
   keep-requires c κs =
@@ -220,11 +220,11 @@ module _ (t : ℕ) where
       let s = start past.before.before.before.before in
       let g = (low-done at-n1).0 in
       let h = high-done at-n2 in
-      let key = drop-key s.args.v s.pre.1.1.1 in
-      let gc = grown-count g in
-      let hc = grown-count h.0 in
-      let is = recalled-drop s.args.levels _ s.args.v _ ∙ early past in
-      (h.1.desk, ((at-n1.before.before.before.before.before.before.before.before.before.before.before.before.spot.ensures, key-later (omega arith) key, omega (arith, grown-ref g), grown-ref h.0), recalled-over s.args.levels _ _ _ _ is g h.0 key))
+      let key = drop_key s.args.v s.pre.1.1.1 in
+      let gc = grown_count g in
+      let hc = grown_count h.0 in
+      let is = recalled_drop s.args.levels _ s.args.v _ ∙ early past in
+      (h.1.desk, ((at-n1.before.before.before.before.before.before.before.before.before.before.before.before.spot.ensures, key_later (omega arith) key, omega (arith, grown_ref g), grown_ref h.0), recalled_over s.args.levels _ _ _ _ is g h.0 key))
 
   same-length-10 : lts.Need-same-length-10 calls (now-at t) own.Post
   same-length-10 c = search rules
@@ -242,7 +242,7 @@ module _ (t : ℕ) where
       let g = low-done at-n1 in
       let h = high-done at-n2 in
       rw (early past)
-      (desk-then s.args.c (front-trans g.1.same h.1.same (omega arith)) s.args.levels s.args.slots made.keep.new.1.0 _ made.keep.new.0 _ _ made.keep.result
+      (desk_then s.args.c (front_trans g.1.same h.1.same (omega arith)) s.args.levels s.args.slots made.keep.new.1.0 _ made.keep.new.0 _ _ made.keep.result
       (joined _ _ _ s.pre.1.0.shelf.table g.0 h.0 _ made.keep.new.0 made.keep.result made.keep.ensures))
 
 pub +drop-walk-spec : {M : Type 1} → statement M

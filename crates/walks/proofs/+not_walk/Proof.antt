@@ -1,14 +1,14 @@
 -- `not_walk` meets its contract; the levels left fall. Assumes nothing.
-use Rattle.trees.specs.Tree.{notT}
-use Rattle.trees.specs.Table.{at, treesOf}
+use Rattle.trees.specs.Tree.{not_t}
+use Rattle.trees.specs.Table.{at, trees_of}
 use Rattle.nodes.specs.Nodes.{Grown}
-use Rattle.nodes.proofs.ReadLaws.{grown-ref, grown-count}
+use Rattle.nodes.proofs.ReadLaws.{grown_ref, grown_count}
 use Rattle.walks.specs.declared.Counted.TheVariants.{At}
 use Rattle.walks.specs.Complements.{Complemented}
-use Rattle.walks.proofs.ComplementLaws.{complement-leaf, complement-hit, complement-fits, complement-apart}
-use Rattle.walks.proofs.NotLaws.{not-node, not-over}
+use Rattle.walks.proofs.ComplementLaws.{complement_leaf, complement_hit, complement_fits, complement_apart}
+use Rattle.walks.proofs.NotLaws.{not_node, not_over}
 use Rattle.walks.proofs.StepLaws.{within_grown, Step, steps}
-use Rattle.making.proofs.WalkLaws.{kept, stuck-low, stuck-high}
+use Rattle.making.proofs.WalkLaws.{kept, stuck_low, stuck_high}
 use native.Mathlib.Omega.{arith}
 use borrow.Author.Rules.{rules}
 use Prim.Native.Nat.{ℕ, ◌-◌, ◌<◌}
@@ -73,14 +73,14 @@ module _ (t : ℕ) where
       let a = (start after.before.before.before).args in
       let x = after.before.before.before.read.result in
       let v = c.n2.given.0 in
-      Grown after.not-walk.new.0 after2.not-walk2.new.0 at-n1.n1.given.0.0 v.0 v.1.0 (notT a.levels (at (treesOf a.nodes.now a.n) x.high))
+      Grown after.not-walk.new.0 after2.not-walk2.new.0 at-n1.n1.given.0.0 v.0 v.1.0 (not_t a.levels (at (trees_of a.nodes.now a.n) x.high))
   high-grown c = rw (kept (low-done c.before.before.before.before.before.before.before.before.before.before).0 _ (stepped c.before.before.before.before.before.before.before.before.before.before.before.before.before.before.before.before.before.before.before).high.below) at (high-done c).0
 
   sub-t19 : lts.Need-overflow-sub-t19 calls (now-at t) own.Post
   sub-t19 c = search rules
 
   returns : lts.Need-returns calls (now-at t) own.Post
-  returns c = complement-leaf c.before.before.before.requires.1.0 _ _ c.if1.true
+  returns c = complement_leaf c.before.before.before.requires.1.0 _ _ c.if1.true
 
   mul-j : lts.Need-overflow-mul-j calls (now-at t) own.Post
   mul-j c =
@@ -109,7 +109,7 @@ module _ (t : ℕ) where
   sub-t25 c = search rules
 
   returns-2 : lts.Need-returns-2 calls (now-at t) own.Post
-  returns-2 c = complement-hit c.before.before.before.before.before.requires.1.0 _ _ (omega arith) c.before.before.before.before.before.requires.1.1.1.below c.if2.true
+  returns-2 c = complement_hit c.before.before.before.before.before.requires.1.0 _ _ (omega arith) c.before.before.before.before.before.requires.1.1.1.below c.if2.true
 
   read-requires : lts.Need-read-requires calls (now-at t) own.Post
   read-requires c κs =
@@ -141,7 +141,7 @@ module _ (t : ℕ) where
   returns-3 c =
       let at_split = c.before.before.before.before.before.before.before.before.before in
       let s = start at_split in
-      rw (not-node s.args.levels (stepped at_split)) (stuck-low _ _ _ s.pre.1.0.shelf.table (rw c.enum_told.given.1 at c.before.before.before.before.before.before.not-walk.ensures))
+      rw (not_node s.args.levels (stepped at_split)) (stuck_low _ _ _ s.pre.1.0.shelf.table (rw c.enum_told.given.1 at c.before.before.before.before.before.before.not-walk.ensures))
 
   sub-not-walk-2 : lts.Need-overflow-sub-not-walk-2 calls (now-at t) own.Post
   sub-not-walk-2 c = (stepped c.before.before.before.before.before.before.before.before.before.before.before.before).some
@@ -172,7 +172,7 @@ module _ (t : ℕ) where
       let d = stepped at-n1.before.before.before.before.before.before.before.before.before in
       let s = start at-n1.before.before.before.before.before.before.before.before.before in
       let g = (low-done at-n1).0 in
-      rw (not-node s.args.levels d) (stuck-high _ _ _ s.pre.1.0.shelf.table g (rw (c.enum-told2.given.1, kept g _ d.high.below) at c.before.before.before.before.before.before.not-walk2.ensures))
+      rw (not_node s.args.levels d) (stuck_high _ _ _ s.pre.1.0.shelf.table g (rw (c.enum-told2.given.1, kept g _ d.high.below) at c.before.before.before.before.before.before.not-walk2.ensures))
 
   add-keep-not : lts.Need-overflow-add-keep-not calls (now-at t) own.Post
   add-keep-not c =
@@ -183,7 +183,7 @@ module _ (t : ℕ) where
       let left = s.pre.1.1.0 in
       let g = low-done at-n1 in
       let h = high-done at-n2 in
-      omega (arith, complement-fits s.pre.1.0 _ _ (omega arith) d.low g.2, complement-fits g.1 _ _ (omega arith) (within_grown g.0 d.high) h.2)
+      omega (arith, complement_fits s.pre.1.0 _ _ (omega arith) d.low g.2, complement_fits g.1 _ _ (omega arith) (within_grown g.0 d.high) h.2)
 
   add-keep-not-2 : lts.Need-overflow-add-keep-not-2 calls (now-at t) own.Post
   add-keep-not-2 c =
@@ -194,7 +194,7 @@ module _ (t : ℕ) where
       let left = s.pre.1.1.0 in
       let g = low-done at-n1 in
       let h = high-done at-n2 in
-      omega (arith, complement-fits s.pre.1.0 _ _ (omega arith) d.low g.2, complement-fits g.1 _ _ (omega arith) (within_grown g.0 d.high) h.2)
+      omega (arith, complement_fits s.pre.1.0 _ _ (omega arith) d.low g.2, complement_fits g.1 _ _ (omega arith) (within_grown g.0 d.high) h.2)
 
   keep-not-requires : lts.Need-keep-not-requires calls (now-at t) own.Post
   keep-not-requires c κs =
@@ -204,13 +204,13 @@ module _ (t : ℕ) where
       let s = start at_split in
       let g = (low-done at-n1).0 in
       let h = high-grown at-n2 in
-      let gc = grown-count g in
-      let hc = grown-count h in
+      let gc = grown_count g in
+      let hc = grown_count h in
       let inside = s.pre.1.1.1.below in (
         (high-done at-n2).1,
         (
-          (omega (arith, at_split.before.before.before.before.if1.false), omega arith, omega (arith, grown-ref g), grown-ref h),
-          not-over s.args.levels _ _ (not-node s.args.levels (stepped at_split)) g h inside,
+          (omega (arith, at_split.before.before.before.before.if1.false), omega arith, omega (arith, grown_ref g), grown_ref h),
+          not_over s.args.levels _ _ (not_node s.args.levels (stepped at_split)) g h inside,
         ),
       )
 
@@ -228,7 +228,7 @@ module _ (t : ℕ) where
       let at_split = at-n1.before.before.before.before.before.before.before.before.before in
       let s = start at_split in
       let g = low-done at-n1 in
-      complement-apart s.pre.1.0 (stepped at_split) at_split.read.ensures (omega (arith, at_split.before.before.before.before.if1.false)) s.pre.1.1.1.below (omega (arith, at_split.before.before.if2.false))
+      complement_apart s.pre.1.0 (stepped at_split) at_split.read.ensures (omega (arith, at_split.before.before.before.before.if1.false)) s.pre.1.1.1.below (omega (arith, at_split.before.before.if2.false))
       at-n2.before.before.before.before.before.before.not-walk2.new.1.0 g.0 g.2 (high-grown at-n2) (high-done at-n2).2 made.new.0 made.new.1.0 made.result made.ensures
 
 pub +not-walk-spec : {M : Type 1} → statement M

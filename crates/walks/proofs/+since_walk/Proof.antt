@@ -1,16 +1,16 @@
 -- `since_walk` meets its contract; the levels left fall. Assumes nothing.
 use mathlib.Core.Path.{◌≡◌, ◌∙◌}
-use Rattle.trees.specs.Tree.{mk, sinceT}
-use Rattle.trees.specs.Table.{at, treesOf}
+use Rattle.trees.specs.Tree.{mk, since_t}
+use Rattle.trees.specs.Table.{at, trees_of}
 use Rattle.nodes.specs.Nodes.{Grown}
-use Rattle.nodes.proofs.ReadLaws.{grown-ref, grown-count}
+use Rattle.nodes.proofs.ReadLaws.{grown_ref, grown_count}
 use Rattle.walks.specs.Walks.{Within}
 use Rattle.walks.specs.Desks.{Remembered}
-use Rattle.walks.proofs.DeskLaws.{spot-inside, desk-stays, desk-then}
-use Rattle.walks.proofs.SinceLaws.{alike-within, alike-since, alike-stays, Down, down, since-kept}
-use Rattle.walks.proofs.MemoryLaws.{since-key, recalled-since, memory-hit, key-later, recalled-over}
+use Rattle.walks.proofs.DeskLaws.{spot_inside, desk_stays, desk_then}
+use Rattle.walks.proofs.SinceLaws.{alike_within, alike_since, alike_stays, Down, down, since_kept}
+use Rattle.walks.proofs.MemoryLaws.{since_key, recalled_since, memory_hit, key_later, recalled_over}
 use Rattle.walks.proofs.StepLaws.{within_grown}
-use Rattle.making.proofs.WalkLaws.{front-trans, stuck-low, stuck-high, joined}
+use Rattle.making.proofs.WalkLaws.{front_trans, stuck_low, stuck_high, joined}
 use native.Mathlib.Omega.{arith}
 use borrow.Author.Rules.{rules}
 use Prim.Native.Nat.{ℕ, ◌<◌}
@@ -52,7 +52,7 @@ module _ (t : ℕ) where
   three c =
       let s = c.before.before.before in
       let p = s.requires.1.1 in
-      alike-within s.requires.1.0.shelf.table p.1 p.2 p.3 c.settle.ensures.alike
+      alike_within s.requires.1.0.shelf.table p.1 p.2 p.3 c.settle.ensures.alike
 
   -- what the fork gives
   abbrev forked : (c : lts.After-part calls (now-at t) own.Post)
@@ -69,21 +69,21 @@ module _ (t : ℕ) where
   abbrev stepped : (c : lts.After-part calls (now-at t) own.Post)
       → let a = (start c).args in
       let x = c.part.result in
-      let ts = treesOf a.nodes.now a.n in
-      sinceT a.levels (at ts a.l) (at ts a.r) (at ts a.o) ≡ mk x.level (sinceT a.levels (at ts x.l0) (at ts x.r0) (at ts x.o0)) (sinceT a.levels (at ts x.l1) (at ts x.r1) (at ts x.o1))
+      let ts = trees_of a.nodes.now a.n in
+      since_t a.levels (at ts a.l) (at ts a.r) (at ts a.o) ≡ mk x.level (since_t a.levels (at ts x.l0) (at ts x.r0) (at ts x.o0)) (since_t a.levels (at ts x.l1) (at ts x.r1) (at ts x.o1))
   stepped c =
       let s = start c in
       let p = s.pre.1.1 in
-      alike-since s.pre.1.0.shelf.table p.1 p.2 p.3 c.before.before.before.before.before.before.before.before.settle.ensures.alike ∙ (forked c).step
+      alike_since s.pre.1.0.shelf.table p.1 p.2 p.3 c.before.before.before.before.before.before.before.before.settle.ensures.alike ∙ (forked c).step
 
   -- what the low side gives, and the high side
   low-done : (c : lts.After-n1 calls (now-at t) own.Post)
       → let after = c.before.before.before.before.before.before in
       let a = (start after.before.before.before).args in
       let x = after.before.before.before.part.result in
-      let ts = treesOf a.nodes.now a.n in
+      let ts = trees_of a.nodes.now a.n in
       let v = c.n1.given.0 in
-      Grown a.nodes.now after.since-walk.new.0 a.n v.0 v.1.0 (sinceT a.levels (at ts x.l0) (at ts x.r0) (at ts x.o0))
+      Grown a.nodes.now after.since-walk.new.0 a.n v.0 v.1.0 (since_t a.levels (at ts x.l0) (at ts x.r0) (at ts x.o0))
       × Remembered a.work.now after.since-walk.new.0 v.0 a.levels after.since-walk.new.1.0 a.c a.slots
   low-done c = rw c.n1.given.1 at c.before.before.before.before.before.before.since-walk.ensures
 
@@ -93,16 +93,16 @@ module _ (t : ℕ) where
       let after = at-n1.before.before.before.before.before.before in
       let a = (start after.before.before.before).args in
       let x = after.before.before.before.part.result in
-      let ts = treesOf a.nodes.now a.n in
+      let ts = trees_of a.nodes.now a.n in
       let v = c.n2.given.0 in
-      Grown after.since-walk.new.0 after2.since-walk2.new.0 at-n1.n1.given.0.0 v.0 v.1.0 (sinceT a.levels (at ts x.l1) (at ts x.r1) (at ts x.o1))
+      Grown after.since-walk.new.0 after2.since-walk2.new.0 at-n1.n1.given.0.0 v.0 v.1.0 (since_t a.levels (at ts x.l1) (at ts x.r1) (at ts x.o1))
       × Remembered after.since-walk.new.1.0 after2.since-walk2.new.0 v.0 a.levels after2.since-walk2.new.1.0 a.c a.slots
   high-done c =
       let after2 = c.before.before.before.before.before.before in
       let at-n1 = after2.before.before.before.before in
       let at_part = at-n1.before.before.before.before.before.before.before.before.before in
       let d = forked at_part in
-      rw (c.n2.given.1, since-kept (low-done at-n1).0 (start at_part).args.levels d.high-l d.high-r d.high-o) at after2.since-walk2.ensures
+      rw (c.n2.given.1, since_kept (low-done at-n1).0 (start at_part).args.levels d.high_l d.high_r d.high_o) at after2.since-walk2.ensures
 
   settle-requires : lts.Need-settle-requires calls (now-at t) own.Post
   settle-requires c κs = search rules
@@ -111,7 +111,7 @@ module _ (t : ℕ) where
   returns c =
       let s = c.before.before.before.before.before in
       let p = s.requires.1.1 in
-      (alike-stays s.requires.1.0.shelf.table p.1 p.2 p.3 c.before.before.settle.ensures.alike c.if1.true, desk-stays s.requires.1.0)
+      (alike_stays s.requires.1.0.shelf.table p.1 p.2 p.3 c.before.before.settle.ensures.alike c.if1.true, desk_stays s.requires.1.0)
 
   spot-requires : lts.Need-spot-requires calls (now-at t) own.Post
   spot-requires c κs =
@@ -121,7 +121,7 @@ module _ (t : ℕ) where
   recall-requires : lts.Need-recall-requires calls (now-at t) own.Post
   recall-requires c κs =
       let k = c.before.before.before.before.before.before.before.requires.1.0 in
-      omega (arith, spot-inside k c.before.spot.ensures, k.shelf.long)
+      omega (arith, spot_inside k c.before.spot.ensures, k.shelf.long)
 
   sub-t23 : lts.Need-overflow-sub-t23 calls (now-at t) own.Post
   sub-t23 c = search rules
@@ -135,9 +135,9 @@ module _ (t : ℕ) where
       let p = s.requires.1.1 in
       let k = s.requires.1.0 in
       let y = c.before.before.before.before.before.before.settle in (
-        rw (alike-since k.shelf.table p.1 p.2 p.3 y.ensures.alike, ← recalled-since s.args.levels (treesOf s.args.nodes.now s.args.n) y.result.l y.result.r y.result.o (omega (arith, c.before.before.before.before.if1.false)))
-            (memory-hit k.shelf.table k.memory c.before.before.before.spot.ensures _ _ _ _ c.before.recall.ensures c.if2.true),
-        desk-stays k,
+        rw (alike_since k.shelf.table p.1 p.2 p.3 y.ensures.alike, ← recalled_since s.args.levels (trees_of s.args.nodes.now s.args.n) y.result.l y.result.r y.result.o (omega (arith, c.before.before.before.before.if1.false)))
+            (memory_hit k.shelf.table k.memory c.before.before.before.spot.ensures _ _ _ _ c.before.recall.ensures c.if2.true),
+        desk_stays k,
       )
 
   part-requires : lts.Need-part-requires calls (now-at t) own.Post
@@ -152,7 +152,7 @@ module _ (t : ℕ) where
   since-walk-requires c κs =
       let d = forked c.before.before in
       let s = start c.before.before in
-      (omega (arith, s.pre.0, d.some), (s.pre.1.0, (omega (arith, s.pre.1.1.0), d.low-l, d.low-r, d.low-o)))
+      (omega (arith, s.pre.0, d.some), (s.pre.1.0, (omega (arith, s.pre.1.1.0), d.low_l, d.low_r, d.low_o)))
 
   enum-known-n1 : lts.Need-enum-known-n1 calls (now-at t) own.Post
   enum-known-n1 c = search rules
@@ -169,7 +169,7 @@ module _ (t : ℕ) where
   returns-3 : lts.Need-returns-3 calls (now-at t) own.Post
   returns-3 c =
       let at_part = c.before.before.before.before.before.before.before.before.before in
-      rw (stepped at_part) (stuck-low _ _ _ (start at_part).requires.1.0.shelf.table (rw c.enum_told.given.1 at c.before.before.before.before.before.before.since-walk.ensures))
+      rw (stepped at_part) (stuck_low _ _ _ (start at_part).requires.1.0.shelf.table (rw c.enum_told.given.1 at c.before.before.before.before.before.before.since-walk.ensures))
 
   sub-since-walk-2 : lts.Need-overflow-sub-since-walk-2 calls (now-at t) own.Post
   sub-since-walk-2 c = (forked c.before.before.before.before.before.before.before.before.before.before.before.before).some
@@ -180,7 +180,7 @@ module _ (t : ℕ) where
       let d = forked at-n1.before.before.before.before.before.before.before.before.before in
       let s = start at-n1.before.before.before.before.before.before.before.before.before in
       let g = low-done at-n1 in
-      (omega (arith, s.pre.0, d.some), (g.1.desk, (omega (arith, s.pre.1.1.0), within_grown g.0 d.high-l, within_grown g.0 d.high-r, within_grown g.0 d.high-o)))
+      (omega (arith, s.pre.0, d.some), (g.1.desk, (omega (arith, s.pre.1.1.0), within_grown g.0 d.high_l, within_grown g.0 d.high_r, within_grown g.0 d.high_o)))
 
   enum-known-n2 : lts.Need-enum-known-n2 calls (now-at t) own.Post
   enum-known-n2 c = search rules
@@ -203,7 +203,7 @@ module _ (t : ℕ) where
       let s = start at_part in
       let g = (low-done at-n1).0 in
       rw (stepped at_part)
-      (stuck-high _ _ _ s.pre.1.0.shelf.table g (rw (c.enum-told2.given.1, since-kept g s.args.levels d.high-l d.high-r d.high-o) at after2.since-walk2.ensures))
+      (stuck_high _ _ _ s.pre.1.0.shelf.table g (rw (c.enum-told2.given.1, since_kept g s.args.levels d.high_l d.high_r d.high_o) at after2.since-walk2.ensures))
 
   keep-requires : lts.Need-keep-requires calls (now-at t) own.Post
   keep-requires c κs =
@@ -214,11 +214,11 @@ module _ (t : ℕ) where
       let g = (low-done at-n1).0 in
       let h = high-done at-n2 in
       let w = three at_part.before.before.before.before.before.before.before.before in
-      let key = since-key w.0 w.1 w.2 in
-      let gc = grown-count g in
-      let hc = grown-count h.0 in
-      let is = recalled-since s.args.levels _ _ _ _ (omega (arith, at_part.before.before.before.before.before.before.if1.false)) ∙ (forked at_part).step in
-      (h.1.desk, ((at_part.before.before.before.before.before.spot.ensures, key-later (omega arith) key, omega (arith, grown-ref g), grown-ref h.0), recalled-over s.args.levels _ _ _ _ is g h.0 key))
+      let key = since_key w.0 w.1 w.2 in
+      let gc = grown_count g in
+      let hc = grown_count h.0 in
+      let is = recalled_since s.args.levels _ _ _ _ (omega (arith, at_part.before.before.before.before.before.before.if1.false)) ∙ (forked at_part).step in
+      (h.1.desk, ((at_part.before.before.before.before.before.spot.ensures, key_later (omega arith) key, omega (arith, grown_ref g), grown_ref h.0), recalled_over s.args.levels _ _ _ _ is g h.0 key))
 
   same-length-6 : lts.Need-same-length-6 calls (now-at t) own.Post
   same-length-6 c = search rules
@@ -236,7 +236,7 @@ module _ (t : ℕ) where
       let g = low-done at-n1 in
       let h = high-done at-n2 in
       rw (stepped at_part)
-      (desk-then s.args.c (front-trans g.1.same h.1.same (omega arith)) s.args.levels s.args.slots made.keep.new.1.0 _ made.keep.new.0 _ _ made.keep.result
+      (desk_then s.args.c (front_trans g.1.same h.1.same (omega arith)) s.args.levels s.args.slots made.keep.new.1.0 _ made.keep.new.0 _ _ made.keep.result
       (joined _ _ _ s.pre.1.0.shelf.table g.0 h.0 _ made.keep.new.0 made.keep.result made.keep.ensures))
 
 pub +since-walk-spec : {M : Type 1} → statement M

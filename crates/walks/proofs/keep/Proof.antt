@@ -1,7 +1,7 @@
 -- `keep` meets its contract. Assumes nothing.
 use native.Mathlib.Omega.{arith}
-use Rattle.nodes.proofs.ReadLaws.{grown-ref}
-use Rattle.walks.proofs.DeskLaws.{spot-inside, desk-keep}
+use Rattle.nodes.proofs.ReadLaws.{grown_ref}
+use Rattle.walks.proofs.DeskLaws.{spot_inside, desk_keep}
 use borrow.Author.Rules.{rules}
 use Rattle.walks.proofs.keep.Statement.{statement}
 use Rattle.walks.proofs.keep.Tie as tie
@@ -29,7 +29,7 @@ note-requires c κs =
     let after = c.before.before.before.before.before.before.before.before in
     let s = after.before.before.before.before.before in
     let g = rw c.before.before.k.given.1 at after.make.ensures in
-    (omega (arith, g.1.shelf.long, spot-inside s.requires.0 s.requires.1.0.0), omega (arith, grown-ref g.0, g.0.table.fits, g.0.table.small))
+    (omega (arith, g.1.shelf.long, spot_inside s.requires.0 s.requires.1.0.0), omega (arith, grown_ref g.0, g.0.table.fits, g.0.table.small))
 
 same-length-3 : tie.Need-same-length-3
 same-length-3 c = search rules
@@ -44,7 +44,7 @@ returns-2 c =
     let s = after.before.before.before.before.before in
     let p = s.requires.1.0 in
     let g = rw noted.before.before.before.k.given.1 at after.make.ensures in
-    (g.0, rw noted.note.ensures (desk-keep s.requires.0 _ _ _ _ p.0 p.1 s.requires.1.1 g.0 g.1))
+    (g.0, rw noted.note.ensures (desk_keep s.requires.0 _ _ _ _ p.0 p.1 s.requires.1.1 g.0 g.1))
 
 pub keep_spec : {M : Type 1} → statement M
 keep_spec =

@@ -1,9 +1,9 @@
 -- `keep_not` meets its contract. Assumes nothing.
 use mathlib.Core.Path.{refl}
 use native.Mathlib.Omega.{arith}
-use Rattle.nodes.proofs.ReadLaws.{grown-ref}
-use Rattle.walks.proofs.DeskLaws.{desk-keep-not}
-use Rattle.walks.proofs.ComplementLaws.{map-kept}
+use Rattle.nodes.proofs.ReadLaws.{grown_ref}
+use Rattle.walks.proofs.DeskLaws.{desk_keep_not}
+use Rattle.walks.proofs.ComplementLaws.{map_kept}
 use borrow.Author.Rules.{rules}
 use Rattle.walks.proofs.keep_not.Statement.{statement}
 use Rattle.walks.proofs.keep_not.Tie as tie
@@ -38,7 +38,7 @@ add-j c = search rules
 add-work : tie.Need-overflow-add-work
 add-work c =
     let g = rw c.before.k.given.1 at c.before.before.before.before.before.before.before.make.ensures in
-    omega (arith, grown-ref g.0, g.0.table.fits, g.0.table.small)
+    omega (arith, grown_ref g.0, g.0.table.fits, g.0.table.small)
 
 mul-work : tie.Need-overflow-mul-work
 mul-work c = search rules
@@ -58,7 +58,7 @@ returns-2 c =
     let s = c.before.before.before.before.before.before.before.before.before.before.before.before in
     let p = s.requires.1.0 in
     let g = rw c.before.k.given.1 at after.ensures in
-    (g.0, desk-keep-not s.requires.0 _ p.0 p.1 s.requires.1.1 g.0 g.1, map-kept s.requires.0 _ p.0 p.1 g.1 _, refl)
+    (g.0, desk_keep_not s.requires.0 _ p.0 p.1 s.requires.1.1 g.0 g.1, map_kept s.requires.0 _ p.0 p.1 g.1 _, refl)
 
 pub keep-not-spec : {M : Type 1} → statement M
 keep-not-spec =

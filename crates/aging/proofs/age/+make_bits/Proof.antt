@@ -1,8 +1,8 @@
 -- `make_bits` meets its contract; the count falls. Assumes nothing.
 use native.Mathlib.Omega.{arith}
-use Rattle.nodes.proofs.ReadLaws.{grown-ref}
-use Rattle.making.proofs.NodesLaws.{shelved-same, shelved-then}
-use Rattle.aging.proofs.ChainLaws.{bits-end, bits-stuck, bits-even, bits-odd}
+use Rattle.nodes.proofs.ReadLaws.{grown_ref}
+use Rattle.making.proofs.NodesLaws.{shelved_same, shelved_then}
+use Rattle.aging.proofs.ChainLaws.{bits_end, bits_stuck, bits_even, bits_odd}
 use borrow.Author.Rules.{rules}
 use Prim.Native.Nat.{ℕ, ◌<◌}
 use borrow.Fn.Kinds.{In}
@@ -31,7 +31,7 @@ module _ (t : ℕ) where
   returns : lts.Need-returns calls (now-at t) own.Post
   returns c =
       let s = c.before.before.before in
-      (bits-end s.requires.1.0.table _ _ _ c.if1.true, shelved-same s.requires.1.0)
+      (bits_end s.requires.1.0.table _ _ _ c.if1.true, shelved_same s.requires.1.0)
 
   add-make-bits : lts.Need-overflow-add-make-bits calls (now-at t) own.Post
   add-make-bits c = search rules
@@ -61,13 +61,13 @@ module _ (t : ℕ) where
   returns-2 c =
       let past = c.before.before.before.before.before.before.before.before.before in
       let s = past.before.before.before in
-      bits-stuck s.requires.1.0.table _ _ _ past.if1.false (rw c.enum_told.given.1 at c.before.before.before.before.before.before.make-bits.ensures)
+      bits_stuck s.requires.1.0.table _ _ _ past.if1.false (rw c.enum_told.given.1 at c.before.before.before.before.before.before.make-bits.ensures)
 
   make-requires : lts.Need-make-requires calls (now-at t) own.Post
   make-requires c κs =
       let at_j = c.before.before.before.before in
       let g = rw at_j.j.given.1 at at_j.before.before.before.before.before.before.make-bits.ensures in
-      (g.1.shelf, (omega (arith, grown-ref g.0), omega (arith, grown-ref g.0)))
+      (g.1.shelf, (omega (arith, grown_ref g.0), omega (arith, grown_ref g.0)))
 
   same-length-3 : lts.Need-same-length-3 calls (now-at t) own.Post
   same-length-3 c = search rules
@@ -84,14 +84,14 @@ module _ (t : ℕ) where
       let past = after.before.before.before in
       let s = past.before.before.before in
       let g = rw at_j.j.given.1 at after.make-bits.ensures in
-      shelved-then _ g.1.same made.make.new.1.0 _ made.make.new.0 _ _ made.make.result
-      (bits-even s.requires.1.0.table _ _ _ past.if1.false g.0 _ made.make.new.0 made.make.result test.if2.true made.make.ensures)
+      shelved_then _ g.1.same made.make.new.1.0 _ made.make.new.0 _ _ made.make.result
+      (bits_even s.requires.1.0.table _ _ _ past.if1.false g.0 _ made.make.new.0 made.make.result test.if2.true made.make.ensures)
 
   make-requires-2 : lts.Need-make-requires-2 calls (now-at t) own.Post
   make-requires-2 c κs =
       let at_j = c.before.before.before.before in
       let g = rw at_j.j.given.1 at at_j.before.before.before.before.before.before.make-bits.ensures in
-      (g.1.shelf, (omega (arith, grown-ref g.0), omega (arith, grown-ref g.0)))
+      (g.1.shelf, (omega (arith, grown_ref g.0), omega (arith, grown_ref g.0)))
 
   same-length-5 : lts.Need-same-length-5 calls (now-at t) own.Post
   same-length-5 c = search rules
@@ -108,8 +108,8 @@ module _ (t : ℕ) where
       let past = after.before.before.before in
       let s = past.before.before.before in
       let g = rw at_j.j.given.1 at after.make-bits.ensures in
-      shelved-then _ g.1.same made.make2.new.1.0 _ made.make2.new.0 _ _ made.make2.result
-      (bits-odd s.requires.1.0.table _ _ _ past.if1.false g.0 _ made.make2.new.0 made.make2.result test.if2.false made.make2.ensures)
+      shelved_then _ g.1.same made.make2.new.1.0 _ made.make2.new.0 _ _ made.make2.result
+      (bits_odd s.requires.1.0.table _ _ _ past.if1.false g.0 _ made.make2.new.0 made.make2.result test.if2.false made.make2.ensures)
 
 pub +make-bits-spec : {M : Type 1} → statement M
 +make-bits-spec = close μ λ t. lts.spec (calls t) (now-at t) own.Post

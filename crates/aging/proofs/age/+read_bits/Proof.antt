@@ -1,6 +1,6 @@
 -- `read_bits` meets its contract; the count falls. Assumes nothing.
 use native.Mathlib.Omega.{arith}
-use Rattle.aging.proofs.ChainLaws.{read-end, chain-node, ask-odd, ask-even, read-odd, read-even, read_small}
+use Rattle.aging.proofs.ChainLaws.{read_end, chain_node, ask_odd, ask_even, read_odd, read_even, read_small}
 use borrow.Author.Rules.{rules}
 use Prim.Native.Nat.{ℕ, ◌<◌}
 use borrow.Fn.Kinds.{In}
@@ -27,12 +27,12 @@ module _ (t : ℕ) where
   calls = (read-reads.Asked, read-reads.Learnt, below t, own.Post)
 
   returns : lts.Need-returns calls (now-at t) own.Post
-  returns c = read-end _ c.if1.true c.before.before.requires.1.1.3
+  returns c = read_end _ c.if1.true c.before.before.requires.1.1.3
 
   read-requires : lts.Need-read-requires calls (now-at t) own.Post
   read-requires c κs =
       let s = c.before.before in
-      (s.requires.1.0, (chain-node _ _ _ _ c.if1.false s.requires.1.1.3, s.requires.1.1.0))
+      (s.requires.1.0, (chain_node _ _ _ _ c.if1.false s.requires.1.1.3, s.requires.1.1.0))
 
   add-read-bits : lts.Need-overflow-add-read-bits calls (now-at t) own.Post
   add-read-bits c = search rules
@@ -47,7 +47,7 @@ module _ (t : ℕ) where
       let s = past.before.before in
       let q = s.requires.1.1 in
       let left = past.if1.false in
-      (omega (arith, s.requires.0), (s.requires.1.0, (at_read.read.ensures.high, omega (arith, q.1), omega (arith, q.2), ask-odd s.requires.1.0 at_read.read.ensures _ _ left q.3 c.if2.true)))
+      (omega (arith, s.requires.0), (s.requires.1.0, (at_read.read.ensures.high, omega (arith, q.1), omega (arith, q.2), ask_odd s.requires.1.0 at_read.read.ensures _ _ left q.3 c.if2.true)))
 
   mul-result : lts.Need-overflow-mul-result calls (now-at t) own.Post
   mul-result c = omega (arith, read_small (omega (arith, c.before.before.before.before.before.before.requires.1.1.1)) c.read-bits.ensures)
@@ -60,7 +60,7 @@ module _ (t : ℕ) where
       let at_read = c.before.before.before in
       let past = at_read.before in
       let s = past.before.before in
-      read-odd s.requires.1.0 at_read.read.ensures _ _ _ past.if1.false s.requires.1.1.3 c.before.if2.true c.read-bits.ensures
+      read_odd s.requires.1.0 at_read.read.ensures _ _ _ past.if1.false s.requires.1.1.3 c.before.if2.true c.read-bits.ensures
 
   add-read-bits-2 : lts.Need-overflow-add-read-bits-2 calls (now-at t) own.Post
   add-read-bits-2 c = search rules
@@ -75,7 +75,7 @@ module _ (t : ℕ) where
       let s = past.before.before in
       let q = s.requires.1.1 in
       let left = past.if1.false in
-      (omega (arith, s.requires.0), (s.requires.1.0, (at_read.read.ensures.low, omega (arith, q.1), omega (arith, q.2), ask-even s.requires.1.0 at_read.read.ensures _ _ left q.3 c.if2.false)))
+      (omega (arith, s.requires.0), (s.requires.1.0, (at_read.read.ensures.low, omega (arith, q.1), omega (arith, q.2), ask_even s.requires.1.0 at_read.read.ensures _ _ left q.3 c.if2.false)))
 
   mul-result-2 : lts.Need-overflow-mul-result-2 calls (now-at t) own.Post
   mul-result-2 c = omega (arith, read_small (omega (arith, c.before.before.before.before.before.before.requires.1.1.1)) c.read-bits2.ensures)
@@ -85,7 +85,7 @@ module _ (t : ℕ) where
       let at_read = c.before.before.before in
       let past = at_read.before in
       let s = past.before.before in
-      read-even s.requires.1.0 at_read.read.ensures _ _ _ past.if1.false s.requires.1.1.3 c.before.if2.false c.read-bits2.ensures
+      read_even s.requires.1.0 at_read.read.ensures _ _ _ past.if1.false s.requires.1.1.3 c.before.if2.false c.read-bits2.ensures
 
 pub +read-bits-spec : {M : Type 1} → statement M
 +read-bits-spec = close μ λ t. lts.spec (calls t) (now-at t) own.Post

@@ -2,13 +2,13 @@
 use Prim.Native.Nat.{ℕ, ◌+◌, ◌-◌}
 use mathlib.Core.Path.{ap}
 use native.Mathlib.Omega.{arith}
-use Rattle.aging.proofs.NextLaws.{older-none, older-over, older-in, older-top, older-on}
+use Rattle.aging.proofs.NextLaws.{older_none, older_over, older_in, older_top, older_on}
 use borrow.Author.Rules.{rules}
 use Rattle.aging.proofs.age.older_age.Statement.{statement}
 use Rattle.aging.proofs.age.older_age.Tie as tie
 
 returns : tie.Need-returns
-returns c = let a = c.before.args in (older-none a.b a.t a.old c.if1.true, omega arith)
+returns c = let a = c.before.args in (older_none a.b a.t a.old c.if1.true, omega arith)
 
 sub-age : tie.Need-overflow-sub-age
 sub-age c = search rules
@@ -27,7 +27,7 @@ returns-2 c =
     let s = c.before.before.before.before.before.before in
     let e = c.before.before.b.given.1 in
     let p = rw e at s.requires.0 in
-    rw e (older-over _ _ _ _ (omega arith) (ap (λ (m : ℕ). s.args.old - 1 + m) c.before.before.before.before.capped.ensures) p c.if2.true, omega arith)
+    rw e (older_over _ _ _ _ (omega arith) (ap (λ (m : ℕ). s.args.old - 1 + m) c.before.before.before.before.capped.ensures) p c.if2.true, omega arith)
 
 add-result : tie.Need-overflow-add-result
 add-result c = search rules
@@ -43,7 +43,7 @@ returns-3 c =
     let s = c.before.before.before.before.before.before in
     let e = c.before.before.b2.given.1 in
     let p = rw e at s.requires.0 in
-    rw e (older-top _ _ _ _ (omega arith) (ap (λ (m : ℕ). s.args.old - 1 + m) c.before.before.before.before.capped.ensures) p c.if3.true)
+    rw e (older_top _ _ _ _ (omega arith) (ap (λ (m : ℕ). s.args.old - 1 + m) c.before.before.before.before.capped.ensures) p c.if3.true)
 
 add-result-3 : tie.Need-overflow-add-result-3
 add-result-3 c = search rules
@@ -53,14 +53,14 @@ returns-4 c =
     let s = c.before.before.before.before.before.before in
     let e = c.before.before.b.given.1 in
     let p = rw e at s.requires.0 in
-    rw e (older-in _ _ _ _ (omega arith) (ap (λ (m : ℕ). s.args.old - 1 + m) c.before.before.before.before.capped.ensures) p (omega (arith, c.if2.false)))
+    rw e (older_in _ _ _ _ (omega arith) (ap (λ (m : ℕ). s.args.old - 1 + m) c.before.before.before.before.capped.ensures) p (omega (arith, c.if2.false)))
 
 returns-5 : tie.Need-returns-5
 returns-5 c =
     let s = c.before.before.before.before.before.before in
     let e = c.before.before.b2.given.1 in
     let p = rw e at s.requires.0 in
-    rw e (older-on _ _ _ _ (omega arith) (ap (λ (m : ℕ). s.args.old - 1 + m) c.before.before.before.before.capped.ensures) p (omega (arith, c.if3.false)))
+    rw e (older_on _ _ _ _ (omega arith) (ap (λ (m : ℕ). s.args.old - 1 + m) c.before.before.before.before.capped.ensures) p (omega (arith, c.if3.false)))
 
 pub older-age-spec : {M : Type 1} → statement M
 older-age-spec =

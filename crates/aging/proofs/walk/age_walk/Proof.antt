@@ -1,5 +1,5 @@
 -- `age_walk` meets its contract. Assumes nothing.
-use Rattle.aging.proofs.TaskLaws.{does-ages}
+use Rattle.aging.proofs.TaskLaws.{does_ages}
 use borrow.Author.Rules.{rules}
 use Rattle.aging.proofs.walk.age_walk.Statement.{statement}
 use Rattle.aging.proofs.walk.age_walk.Tie as tie
@@ -17,7 +17,7 @@ returns : tie.Need-returns
 returns c =
     let done = c.before.before.before.before in
     let a = done.before.before.before.before.before.args in
-    rw (does-ages a.k a.b a.t _ _ _) done.run.ensures
+    rw (does_ages a.k a.b a.t _ _ _) done.run.ensures
 
 pub age-walk-spec : {M : Type 1} → statement M
 age-walk-spec =

@@ -1,8 +1,8 @@
 -- `ended` meets its contract. Assumes nothing.
 use native.Mathlib.Omega.{arith}
 use Rattle.nodes.proofs.ReadLaws.{stays}
-use Rattle.making.proofs.NodesLaws.{shelved-same}
-use Rattle.aging.proofs.EndLaws.{ages-end, ripe-ends}
+use Rattle.making.proofs.NodesLaws.{shelved_same}
+use Rattle.aging.proofs.EndLaws.{ages_end, ripe_ends}
 use borrow.Author.Rules.{rules}
 use Rattle.aging.proofs.walk.ended.Statement.{statement}
 use Rattle.aging.proofs.walk.ended.Tie as tie
@@ -44,7 +44,7 @@ returns c =
     let at_read = next.before.before.before.before in
     let s = at_read.before.before.before.before in
     let q = s.requires.1 in
-    rw (next.before.before.task.given.1, ages-end _ _ _ _ _ _ _ at_read.read-age.ensures _ _ q.2 q.3 next.next-age.ensures.0) made.make-age.ensures
+    rw (next.before.before.task.given.1, ages_end _ _ _ _ _ _ _ at_read.read-age.ensures _ _ q.2 q.3 next.next-age.ensures.0) made.make-age.ensures
 
 same-length-3 : tie.Need-same-length-3
 same-length-3 c = search rules
@@ -54,7 +54,7 @@ returns-2 c =
     let at_read = c.before.before.before.before in
     let s = at_read.before.before.before.before in
     let y = c.ripe-leaf.ensures in
-    (rw c.before.before.task2.given.1 (stays _ _ _ _ s.requires.0.table (omega (arith, y.0)) (ripe-ends _ _ _ _ _ _ _ at_read.read-age.ensures _ y.0 y.1)), shelved-same s.requires.0)
+    (rw c.before.before.task2.given.1 (stays _ _ _ _ s.requires.0.table (omega (arith, y.0)) (ripe_ends _ _ _ _ _ _ _ at_read.read-age.ensures _ y.0 y.1)), shelved_same s.requires.0)
 
 pub ended-spec : {M : Type 1} → statement M
 ended-spec =

@@ -2,7 +2,7 @@
 use Prim.Native.Nat.{◌+◌, ◌*◌}
 use native.Mathlib.Omega.{arith}
 use Rattle.aging.specs.Tasks.{does}
-use Rattle.aging.proofs.WipeLaws.{plain-within, ageing-dated, wiped, walked}
+use Rattle.aging.proofs.WipeLaws.{plain_within, ageing_dated, wiped, walked}
 use borrow.Author.Rules.{rules}
 use Rattle.aging.proofs.walk.run.Statement.{statement}
 use Rattle.aging.proofs.walk.run.Tie as tie
@@ -29,7 +29,7 @@ walk-requires : tie.Need-walk-requires
 walk-requires c κs =
     let s = c.before.before.before.before.before.before.before.before in
     let p = s.requires.1 in
-    (wiped (does s.args.k s.args.task) s.requires.0 c.before.before.before.before.zero.ensures, (p.0, p.1, omega arith, plain-within p.2, plain-within p.3, ageing-dated p.4))
+    (wiped (does s.args.k s.args.task) s.requires.0 c.before.before.before.before.zero.ensures, (p.0, p.1, omega arith, plain_within p.2, plain_within p.3, ageing_dated p.4))
 
 mul-zero-3 : tie.Need-overflow-mul-zero-3
 mul-zero-3 c = search rules

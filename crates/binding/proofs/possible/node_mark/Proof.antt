@@ -2,7 +2,7 @@
 use native.Mathlib.Omega.{arith}
 use borrow.Author.Rules.{rules}
 use Rattle.nodes.proofs.ReadLaws.{read_below}
-use Rattle.binding.proofs.MarkLaws.{node-can}
+use Rattle.binding.proofs.MarkLaws.{node_can}
 use Rattle.binding.proofs.possible.node_mark.Statement.{statement}
 use Rattle.binding.proofs.possible.node_mark.Tie as tie
 
@@ -31,7 +31,7 @@ returns : tie.Need-returns
 returns c =
     let s = c.before.before.before.before.before.before.before in
     let r = c.before.before.before.before in
-    node-can s.requires.0.0 s.requires.1.0 s.requires.1.1 r.read.ensures s.requires.0.1 c.mark.result
+    node_can s.requires.0.0 s.requires.1.0 s.requires.1.1 r.read.ensures s.requires.0.1 c.mark.result
     (rw (c.before.before.before.fixed-at.ensures, c.before.before.marked.ensures, c.before.marked2.ensures) at c.mark.ensures)
 
 pub node-mark-spec : {M : Type 1} → statement M

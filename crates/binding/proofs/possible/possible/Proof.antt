@@ -7,7 +7,7 @@ use lib.ListN.{length, set, length-set}
 use lib.Seq.{get_or-set_other}
 use Rattle.nodes.specs.Nodes.{Rest}
 use Rattle.binding.specs.Fixing.{Marks}
-use Rattle.binding.proofs.MarkLaws.{marks-none, marks-more, mark-test}
+use Rattle.binding.proofs.MarkLaws.{marks_none, marks_more, mark_test}
 use Rattle.binding.proofs.possible.possible.Statement.{statement}
 use Rattle.binding.proofs.possible.possible.Tie as tie
 
@@ -30,7 +30,7 @@ slice-write-work-2 c = simp length-set (omega arith)
 loop-holds : tie.Need-loop-init invariant-loop decreases-loop
 loop-holds c =
     let s = c.before.before in
-    (omega arith, omega arith, refl, marks-none s.args.nodes.now s.args.kept s.args.fixed.now s.args.work.now (omega arith), record { eq = λ i h. refl })
+    (omega arith, omega arith, refl, marks_none s.args.nodes.now s.args.kept s.args.fixed.now s.args.work.now (omega arith), record { eq = λ i h. refl })
 
 node-mark-requires : tie.Need-node-mark-requires invariant-loop decreases-loop
 node-mark-requires c κs =
@@ -62,7 +62,7 @@ loop-again c =
       omega (arith, v.0),
       omega (arith, h, s.requires.1.0),
       length-set l.loop.work l.loop.r c.node-mark.result ∙ v.2,
-      marks-more v.3 (omega (arith, h, size l, s.requires.1.0, s.requires.1.1)) c.node-mark.result c.node-mark.ensures,
+      marks_more v.3 (omega (arith, h, size l, s.requires.1.0, s.requires.1.1)) c.node-mark.result c.node-mark.ensures,
       record { eq = λ i g. get_or-set_other l.loop.work l.loop.r i c.node-mark.result 0 (λ z. omega (arith, h, s.requires.1.0)) ∙ v.4.eq i g },
     )
 
@@ -78,7 +78,7 @@ returns c =
     let s = l.before.before.before in
     let w = s.args.work.now in
     let v = l.loop.invariant in (
-      rw (c.marked.ensures, v.3.is s.args.p (omega (arith, c.before.before.loop-test.false))) (mark-test _),
+      rw (c.marked.ensures, v.3.is s.args.p (omega (arith, c.before.before.loop-test.false))) (mark_test _),
       record { eq = λ i h. v.4.eq i h ∙ get_or-set_other (set w 0 0) 1 i 1 0 (omega arith) ∙ get_or-set_other w 0 i 0 0 (omega arith) },
     )
 

@@ -2,7 +2,7 @@
 use Prim.Native.Nat.{◌-◌}
 use native.Mathlib.Omega.{arith}
 use borrow.Author.Rules.{rules}
-use Rattle.card_block.proofs.WalkLaws.{Walking, walking_start, walking-broken, walking_on, walking-end, few}
+use Rattle.card_block.proofs.WalkLaws.{Walking, walking_start, walking_broken, walking_on, walking_end, few}
 use mathlib.Core.Path.{sym, ◌∙◌}
 use borrow.Author.Tests.{not-true, not-false}
 use Rattle.card_block.proofs.moments.walk.Statement.{statement}
@@ -30,7 +30,7 @@ may-belong-requires : tie.Need-may-belong-requires invariant-loop decreases-loop
 may-belong-requires c κs = search rules
 
 returns : tie.Need-returns invariant-loop decreases-loop
-returns c = walking-broken c.before.before.before.before.loop.invariant _ (omega arith) c.before.before.number_at.ensures (sym c.before.may-belong.ensures ∙ not-true _ c.if1.true)
+returns c = walking_broken c.before.before.before.before.loop.invariant _ (omega arith) c.before.before.number_at.ensures (sym c.before.may-belong.ensures ∙ not-true _ c.if1.true)
 
 add-go-on : tie.Need-overflow-add-go-on invariant-loop decreases-loop
 add-go-on c = omega arith
@@ -51,7 +51,7 @@ loop-again : tie.Need-loop-preserved invariant-loop decreases-loop
 loop-again c = walking_on c.before.before.before.before.before.before.loop.invariant _ _ _ (omega arith) c.before.before.before.before.number_at.ensures (sym c.before.before.before.may-belong.ensures ∙ not-false _ c.before.before.if1.false) c.go_on.ensures
 
 returns-2 : tie.Need-returns-2 invariant-loop decreases-loop
-returns-2 c = walking-end c.before.loop.invariant (omega arith)
+returns-2 c = walking_end c.before.loop.invariant (omega arith)
 
 pub walk-spec : {M : Type 1} → statement M
 walk-spec =

@@ -3,7 +3,7 @@ use borrow.Author.Rules.{rules}
 use native.Mathlib.Omega.{arith}
 use borrow.Author.Tests.{eq-eqb, ne_eqb}
 use mathlib.Core.Path.{refl, sym, ◌∙◌}
-use Rattle.card_block.proofs.TestLaws.{check-tests}
+use Rattle.card_block.proofs.TestLaws.{check_tests}
 use Rattle.card_block.proofs.sums.checked.Statement.{statement}
 use Rattle.card_block.proofs.sums.checked.Tie as tie
 
@@ -26,7 +26,7 @@ wide-requires : tie.Need-wide-requires
 wide-requires c κs = search rules
 
 returns : tie.Need-returns
-returns c = sym (check-tests c.before.before.before.before.before.before.before.args.piece.now _ _ _ _ c.before.before.before.before.before.before.before.requires c.before.before.before.before.check-of.ensures c.before.before.wide.ensures.same refl ∙ rw (ne_eqb _ _ c.if1.true))
+returns c = sym (check_tests c.before.before.before.before.before.before.before.args.piece.now _ _ _ _ c.before.before.before.before.before.before.before.requires c.before.before.before.before.check-of.ensures c.before.before.wide.ensures.same refl ∙ rw (ne_eqb _ _ c.if1.true))
 
 shared-slice-read-wide-2 : tie.Need-shared-slice-read-wide-2
 shared-slice-read-wide-2 c = search rules
@@ -35,7 +35,7 @@ wide-requires-2 : tie.Need-wide-requires-2
 wide-requires-2 c κs = search rules
 
 returns-2 : tie.Need-returns-2
-returns-2 c = sym (check-tests c.before.before.before.before.before.before.before.before.before.before.args.piece.now _ _ _ _ c.before.before.before.before.before.before.before.before.before.before.requires c.before.before.before.before.before.before.before.check-of.ensures c.before.before.before.before.before.wide.ensures.same c.before.wide2.ensures.same ∙ rw (eq-eqb _ _ c.before.before.before.if1.false))
+returns-2 c = sym (check_tests c.before.before.before.before.before.before.before.before.before.before.args.piece.now _ _ _ _ c.before.before.before.before.before.before.before.before.before.before.requires c.before.before.before.before.before.before.before.check-of.ensures c.before.before.before.before.before.wide.ensures.same c.before.wide2.ensures.same ∙ rw (eq-eqb _ _ c.before.before.before.if1.false))
 
 pub checked-spec : {M : Type 1} → statement M
 checked-spec =

@@ -1,7 +1,7 @@
 -- `number_at` meets its contract. Assumes nothing.
 use native.Mathlib.Omega.{arith}
 use borrow.Author.Rules.{rules}
-use Rattle.cards.proofs.BytesLaws.{number-four}
+use Rattle.cards.proofs.BytesLaws.{number_four}
 use Rattle.card_block.proofs.sums.number_at.Statement.{statement}
 use Rattle.card_block.proofs.sums.number_at.Tie as tie
 
@@ -60,7 +60,7 @@ returns : tie.Need-returns
 returns c =
     omega (
       arith,
-      number-four c.before.before.before.before.before.before.before.before.before.args.s.now c.before.before.before.before.before.before.before.before.before.args.at (omega arith),
+      number_four c.before.before.before.before.before.before.before.before.before.args.s.now c.before.before.before.before.before.before.before.before.before.args.at (omega arith),
       c.before.before.before.before.before.before.wide.ensures.same,
       c.before.before.before.before.wide2.ensures.same,
       c.before.before.wide3.ensures.same,

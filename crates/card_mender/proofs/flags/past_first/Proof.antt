@@ -2,7 +2,7 @@
 use Prim.Native.Nat.{◌-◌}
 use native.Mathlib.Omega.{arith}
 use borrow.Author.Rules.{rules}
-use Rattle.card_mender.proofs.FlagLaws.{Firsts, firsts-start, firsts-found, firsts_more, firsts-none}
+use Rattle.card_mender.proofs.FlagLaws.{Firsts, firsts_start, firsts_found, firsts_more, firsts_none}
 use Rattle.card_mender.proofs.flags.past_first.Statement.{statement}
 use Rattle.card_mender.proofs.flags.past_first.Tie as tie
 
@@ -13,7 +13,7 @@ abbrev decreases-loop : tie.decreases-loop
 decreases-loop piece records i₀ i = records - i
 
 loop-holds : tie.Need-loop-init invariant-loop decreases-loop
-loop-holds c = firsts-start _ _
+loop-holds c = firsts_start _ _
 
 mul-if1 : tie.Need-overflow-mul-if1 invariant-loop decreases-loop
 mul-if1 c = omega arith
@@ -31,7 +31,7 @@ add-result : tie.Need-overflow-add-result invariant-loop decreases-loop
 add-result c = omega arith
 
 returns : tie.Need-returns invariant-loop decreases-loop
-returns c = firsts-found c.before.before.before.loop.invariant (omega arith) c.if1.true
+returns c = firsts_found c.before.before.before.loop.invariant (omega arith) c.if1.true
 
 add-i : tie.Need-overflow-add-i invariant-loop decreases-loop
 add-i c = omega arith
@@ -43,7 +43,7 @@ loop-again : tie.Need-loop-preserved invariant-loop decreases-loop
 loop-again c = firsts_more c.before.before.before.loop.invariant (omega arith) c.if1.false
 
 returns-2 : tie.Need-returns-2 invariant-loop decreases-loop
-returns-2 c = firsts-none c.before.loop.invariant (omega arith)
+returns-2 c = firsts_none c.before.loop.invariant (omega arith)
 
 pub past-first-spec : {M : Type 1} → statement M
 past-first-spec =

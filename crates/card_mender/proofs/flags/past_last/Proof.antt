@@ -3,7 +3,7 @@ use Prim.Native.Nat.{◌-◌}
 use mathlib.Core.Logic.{⊎_elim}
 use native.Mathlib.Omega.{arith}
 use borrow.Author.Rules.{rules}
-use Rattle.card_mender.proofs.FlagLaws.{Lasts, lasts-start, lasts-flag, lasts-plain, lasts-end}
+use Rattle.card_mender.proofs.FlagLaws.{Lasts, lasts_start, lasts_flag, lasts_plain, lasts_end}
 use Rattle.card_mender.proofs.flags.past_last.Statement.{statement}
 use Rattle.card_mender.proofs.flags.past_last.Tie as tie
 
@@ -14,7 +14,7 @@ abbrev decreases-loop : tie.decreases-loop
 decreases-loop piece from records last₀ i₀ last i = records - i
 
 loop-holds : tie.Need-loop-init invariant-loop decreases-loop
-loop-holds c = lasts-start _ _ _ c.requires.0
+loop-holds c = lasts_start _ _ _ c.requires.0
 
 mul-if1 : tie.Need-overflow-mul-if1 invariant-loop decreases-loop
 mul-if1 c = omega arith
@@ -38,10 +38,10 @@ loop-less : tie.Need-loop-smaller invariant-loop decreases-loop
 loop-less c = omega arith
 
 loop-again : tie.Need-loop-preserved invariant-loop decreases-loop
-loop-again c = ⊎_elim (λ w. rw w.1 (lasts-flag c.before.before.before.loop.invariant (omega arith) w.0.taken)) (λ w. rw w.1 (lasts-plain c.before.before.before.loop.invariant (omega arith) w.0.left)) c.if1.branch
+loop-again c = ⊎_elim (λ w. rw w.1 (lasts_flag c.before.before.before.loop.invariant (omega arith) w.0.taken)) (λ w. rw w.1 (lasts_plain c.before.before.before.loop.invariant (omega arith) w.0.left)) c.if1.branch
 
 returns : tie.Need-returns invariant-loop decreases-loop
-returns c = lasts-end c.before.loop.invariant (omega arith)
+returns c = lasts_end c.before.loop.invariant (omega arith)
 
 pub past-last-spec : {M : Type 1} → statement M
 past-last-spec =

@@ -3,7 +3,7 @@ use Prim.Native.Nat.{◌-◌}
 use native.Mathlib.Omega.{arith}
 use lib.ListN.{length}
 use borrow.Author.Rules.{rules}
-use Rattle.card_mender.proofs.LookLaws.{Looking, looking-start, looking-comes, looking-ends, looking-on, looking-none}
+use Rattle.card_mender.proofs.LookLaws.{Looking, looking_start, looking_comes, looking_ends, looking_on, looking_none}
 use Rattle.card_mender.proofs.looking.flagged_ahead.Statement.{statement}
 use Rattle.card_mender.proofs.looking.flagged_ahead.Tie as tie
 
@@ -14,7 +14,7 @@ abbrev decreases-loop : tie.decreases-loop
 decreases-loop card from carries₀ at₀ carries at = length card - at
 
 loop-holds : tie.Need-loop-init invariant-loop decreases-loop
-loop-holds c = looking-start _ _ _
+loop-holds c = looking_start _ _ _
 
 end-of-requires : tie.Need-end-of-requires invariant-loop decreases-loop
 end-of-requires c κs = omega arith
@@ -35,13 +35,13 @@ enum_told : tie.Need-enum-told invariant-loop decreases-loop
 enum_told c = search rules
 
 returns : tie.Need-returns invariant-loop decreases-loop
-returns c = looking-comes c.before.before.before.before.before.before.loop.invariant _ (omega arith) c.before.before.before.before.end_of_lem.ensures _ c.before.before.look.ensures c.enum_told.given.1
+returns c = looking_comes c.before.before.before.before.before.before.loop.invariant _ (omega arith) c.before.before.before.before.end_of_lem.ensures _ c.before.before.look.ensures c.enum_told.given.1
 
 enum-told-2 : tie.Need-enum-told-2 invariant-loop decreases-loop
 enum-told-2 c = search rules
 
 returns-2 : tie.Need-returns-2 invariant-loop decreases-loop
-returns-2 c = looking-ends c.before.before.before.before.before.before.loop.invariant _ (omega arith) c.before.before.before.before.end_of_lem.ensures _ c.before.before.look.ensures c.enum-told2.given.1
+returns-2 c = looking_ends c.before.before.before.before.before.before.loop.invariant _ (omega arith) c.before.before.before.before.end_of_lem.ensures _ c.before.before.look.ensures c.enum-told2.given.1
 
 enum-known-next : tie.Need-enum-known-next invariant-loop decreases-loop
 enum-known-next c = search rules
@@ -50,10 +50,10 @@ loop-less : tie.Need-loop-smaller invariant-loop decreases-loop
 loop-less c = omega (arith, c.before.before.before.before.before.end_of_lem.ensures)
 
 loop-again : tie.Need-loop-preserved invariant-loop decreases-loop
-loop-again c = looking-on c.before.before.before.before.before.before.before.loop.invariant _ (omega arith) c.before.before.before.before.before.end_of_lem.ensures _ c.before.before.before.look.ensures _ c.before.next.given.1
+loop-again c = looking_on c.before.before.before.before.before.before.before.loop.invariant _ (omega arith) c.before.before.before.before.before.end_of_lem.ensures _ c.before.before.before.look.ensures _ c.before.next.given.1
 
 returns-3 : tie.Need-returns-3 invariant-loop decreases-loop
-returns-3 c = looking-none c.before.loop.invariant (omega arith)
+returns-3 c = looking_none c.before.loop.invariant (omega arith)
 
 pub flagged-ahead-spec : {M : Type 1} → statement M
 flagged-ahead-spec =

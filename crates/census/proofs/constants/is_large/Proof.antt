@@ -2,14 +2,14 @@
 use native.Mathlib.Omega.{arith}
 use mathlib.Core.Path.{sym, ◌∙◌}
 use borrow.Author.Tests.{ne_eqb}
-use Rattle.census.proofs.LargeLaws.{large-other, large-value}
+use Rattle.census.proofs.LargeLaws.{large_other, large_value}
 use borrow.Author.Rules.{rules}
 use Rattle.census.proofs.constants.is_large.Statement.{statement}
 use Rattle.census.proofs.constants.is_large.Tie as tie
 use Rattle.spelling.proofs.words.value_of.Reads as value-of-reads
 
 returns : tie.Need-returns
-returns c = large-other _ _ c.if1.true
+returns c = large_other _ _ c.if1.true
 
 sub-value-of : tie.Need-overflow-sub-value-of
 sub-value-of c = search rules
@@ -24,7 +24,7 @@ value-of-requires : tie.Need-value-of-requires
 value-of-requires c κs = search rules
 
 returns-2 : tie.Need-returns-2
-returns-2 c = large-value _ _ _ c.before.before.if1.false c.value_of.ensures
+returns-2 c = large_value _ _ _ c.before.before.if1.false c.value_of.ensures
 
 pub is-large-spec : {M : Type 1} → statement M
 is-large-spec =

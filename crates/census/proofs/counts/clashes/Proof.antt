@@ -4,7 +4,7 @@ use Prim.Native.Nat.{◌-◌}
 use native.Mathlib.Omega.{arith}
 use lib.ListN.{length, get_or-replicate}
 use borrow.Author.Rules.{rules}
-use Rattle.census.proofs.ClashPass.{Clashing, clash-begins, clash-over, clash-ends, clash-within, clash-lexed, clash-grows, clash-word, clash-number, clash-yes, clash-more}
+use Rattle.census.proofs.ClashPass.{Clashing, clash_begins, clash_over, clash_ends, clash_within, clash_lexed, clash_grows, clash_word, clash_number, clash_yes, clash_more}
 use Rattle.census.proofs.counts.clashes.Statement.{statement}
 use Rattle.census.proofs.counts.clashes.Tie as tie
 use Rattle.spelling.proofs.modes.next_mode.Reads as next-mode-reads
@@ -17,34 +17,34 @@ abbrev decreases-loop : tie.decreases-loop
 decreases-loop text starts lengths n counts₀ mode₀ at₀ counts mode at = length text - at
 
 loop-holds : tie.Need-loop-init invariant-loop decreases-loop
-loop-holds c = clash-begins _ _ _ _ _ c.before.before.before.requires.0.0 refl (λ k h. get_or-replicate 4096 k 65535 0 (omega (arith, c.before.before.before.requires.1.few)))
+loop-holds c = clash_begins _ _ _ _ _ c.before.before.before.requires.0.0 refl (λ k h. get_or-replicate 4096 k 65535 0 (omega (arith, c.before.before.before.requires.1.few)))
 
 next-word-requires : tie.Need-next-word-requires invariant-loop decreases-loop
 next-word-requires c κs = c.before.loop.invariant.pass.inside
 
 returns : tie.Need-returns invariant-loop decreases-loop
-returns c = clash-ends _ _ _ _ _ _ _ c.before.before.before.before.before.before.before.before.requires.1 c.before.before.before.before.loop.invariant _ _ _ c.before.before.next_word.ensures c.if1.true
+returns c = clash_ends _ _ _ _ _ _ _ c.before.before.before.before.before.before.before.before.requires.1 c.before.before.before.before.loop.invariant _ _ _ c.before.before.next_word.ensures c.if1.true
 
 is-name-requires : tie.Need-is-name-requires invariant-loop decreases-loop
 is-name-requires c κs = search rules
 
 settle-requires : tie.Need-settle-requires invariant-loop decreases-loop
-settle-requires c κs = ((c.before.before.before.before.before.before.before.before.before.before.requires.1.table, clash-within _ _ _ _ _ _ _ c.before.before.before.before.before.before.before.before.before.before.requires.1 c.before.before.before.before.before.before.loop.invariant _ _ _ c.before.before.before.before.next_word.ensures c.before.before.if1.false, clash-lexed _ _ _ _ _ _ _ c.before.before.before.before.before.before.before.before.before.before.requires.1 c.before.before.before.before.before.before.loop.invariant _ _ _ c.before.before.before.before.next_word.ensures c.before.before.if1.false), ((c.before.before.before.before.before.before.before.before.before.before.requires.0.1, c.before.before.before.before.before.before.before.before.before.before.requires.1.few), clash-number _ _ _ _ _ _ _ c.before.before.before.before.before.before.before.before.before.before.requires.1 c.before.before.before.before.before.before.loop.invariant _ _ _ c.before.before.before.before.next_word.ensures c.before.before.if1.false _ c.before.is_name.ensures))
+settle-requires c κs = ((c.before.before.before.before.before.before.before.before.before.before.requires.1.table, clash_within _ _ _ _ _ _ _ c.before.before.before.before.before.before.before.before.before.before.requires.1 c.before.before.before.before.before.before.loop.invariant _ _ _ c.before.before.before.before.next_word.ensures c.before.before.if1.false, clash_lexed _ _ _ _ _ _ _ c.before.before.before.before.before.before.before.before.before.before.requires.1 c.before.before.before.before.before.before.loop.invariant _ _ _ c.before.before.before.before.next_word.ensures c.before.before.if1.false), ((c.before.before.before.before.before.before.before.before.before.before.requires.0.1, c.before.before.before.before.before.before.before.before.before.before.requires.1.few), clash_number _ _ _ _ _ _ _ c.before.before.before.before.before.before.before.before.before.before.requires.1 c.before.before.before.before.before.before.loop.invariant _ _ _ c.before.before.before.before.next_word.ensures c.before.before.if1.false _ c.before.is_name.ensures))
 
 returns-2 : tie.Need-returns-2 invariant-loop decreases-loop
-returns-2 c = clash-yes _ _ _ _ _ _ _ c.before.before.before.before.before.before.before.before.before.before.before.before.requires.1 c.before.before.before.before.before.before.before.before.loop.invariant _ _ _ c.before.before.before.before.before.before.next_word.ensures c.before.before.before.before.if1.false _ c.before.before.before.is_name.ensures _ _ c.before.settle.ensures c.if2.true
+returns-2 c = clash_yes _ _ _ _ _ _ _ c.before.before.before.before.before.before.before.before.before.before.before.before.requires.1 c.before.before.before.before.before.before.before.before.loop.invariant _ _ _ c.before.before.before.before.before.before.next_word.ensures c.before.before.before.before.if1.false _ c.before.before.before.is_name.ensures _ _ c.before.settle.ensures c.if2.true
 
 next-mode-requires : tie.Need-next-mode-requires invariant-loop decreases-loop
-next-mode-requires c κs = (c.before.before.before.before.before.before.before.before.loop.invariant.low, clash-word _ _ _ _ _ _ _ c.before.before.before.before.before.before.before.before.before.before.before.before.requires.1 c.before.before.before.before.before.before.before.before.loop.invariant _ _ _ c.before.before.before.before.before.before.next_word.ensures c.before.before.before.before.if1.false)
+next-mode-requires c κs = (c.before.before.before.before.before.before.before.before.loop.invariant.low, clash_word _ _ _ _ _ _ _ c.before.before.before.before.before.before.before.before.before.before.before.before.requires.1 c.before.before.before.before.before.before.before.before.loop.invariant _ _ _ c.before.before.before.before.before.before.next_word.ensures c.before.before.before.before.if1.false)
 
 loop-less : tie.Need-loop-smaller invariant-loop decreases-loop
-loop-less c = omega (arith, clash-grows _ _ _ _ _ _ _ c.before.before.before.before.before.before.before.before.before.before.before.before.before.requires.1 c.before.before.before.before.before.before.before.before.before.loop.invariant _ _ _ c.before.before.before.before.before.before.before.next_word.ensures c.before.before.before.before.before.if1.false, (clash-within _ _ _ _ _ _ _ c.before.before.before.before.before.before.before.before.before.before.before.before.before.requires.1 c.before.before.before.before.before.before.before.before.before.loop.invariant _ _ _ c.before.before.before.before.before.before.before.next_word.ensures c.before.before.before.before.before.if1.false).inside)
+loop-less c = omega (arith, clash_grows _ _ _ _ _ _ _ c.before.before.before.before.before.before.before.before.before.before.before.before.before.requires.1 c.before.before.before.before.before.before.before.before.before.loop.invariant _ _ _ c.before.before.before.before.before.before.before.next_word.ensures c.before.before.before.before.before.if1.false, (clash_within _ _ _ _ _ _ _ c.before.before.before.before.before.before.before.before.before.before.before.before.before.requires.1 c.before.before.before.before.before.before.before.before.before.loop.invariant _ _ _ c.before.before.before.before.before.before.before.next_word.ensures c.before.before.before.before.before.if1.false).inside)
 
 loop-again : tie.Need-loop-preserved invariant-loop decreases-loop
-loop-again c = clash-more _ _ _ _ _ _ _ c.before.before.before.before.before.before.before.before.before.before.before.before.before.requires.1 c.before.before.before.before.before.before.before.before.before.loop.invariant _ _ _ c.before.before.before.before.before.before.before.next_word.ensures c.before.before.before.before.before.if1.false _ c.before.before.before.before.is_name.ensures _ _ c.before.before.settle.ensures _ c.before.if2.false c.next-mode.ensures
+loop-again c = clash_more _ _ _ _ _ _ _ c.before.before.before.before.before.before.before.before.before.before.before.before.before.requires.1 c.before.before.before.before.before.before.before.before.before.loop.invariant _ _ _ c.before.before.before.before.before.before.before.next_word.ensures c.before.before.before.before.before.if1.false _ c.before.before.before.before.is_name.ensures _ _ c.before.before.settle.ensures _ c.before.if2.false c.next-mode.ensures
 
 returns-3 : tie.Need-returns-3 invariant-loop decreases-loop
-returns-3 c = clash-over _ _ _ _ _ _ _ c.before.before.before.before.before.requires.1 c.before.loop.invariant c.loop-test.false
+returns-3 c = clash_over _ _ _ _ _ _ _ c.before.before.before.before.before.requires.1 c.before.loop.invariant c.loop-test.false
 
 pub clashes-spec : {M : Type 1} → statement M
 clashes-spec =

@@ -4,7 +4,7 @@ use native.Mathlib.Omega.{arith}
 use mathlib.Core.Path.{sym, ◌∙◌}
 use lib.ListN.{length, take, drop}
 use borrow.Author.Rules.{rules}
-use Rattle.census.proofs.TableLaws.{Finding, find-begins, find-here, find-more, find_none}
+use Rattle.census.proofs.TableLaws.{Finding, find_begins, find_here, find_more, find_none}
 use Rattle.census.proofs.names.find.Statement.{statement}
 use Rattle.census.proofs.names.find.Tie as tie
 use Rattle.spelling.proofs.bytes.same_bytes.Reads as same-bytes-reads
@@ -16,7 +16,7 @@ abbrev decreases-loop : tie.decreases-loop
 decreases-loop text starts lengths n from past i₀ i = n - i
 
 loop-holds : tie.Need-loop-init invariant-loop decreases-loop
-loop-holds c = find-begins _ _ _ _ _ c.before.before.before.requires.0
+loop-holds c = find_begins _ _ _ _ _ c.before.before.before.requires.0
 
 mul-a : tie.Need-overflow-mul-a invariant-loop decreases-loop
 mul-a c = omega (arith, c.before.before.before.before.before.requires.0.here, c.before.before.before.before.before.well-formed)
@@ -61,7 +61,7 @@ same-bytes-requires : tie.Need-same-bytes-requires invariant-loop decreases-loop
 same-bytes-requires c κs = search rules
 
 returns : tie.Need-returns invariant-loop decreases-loop
-returns c = (find-here _ _ _ _ _ c.before.before.before.before.before.before.before.before.before.before.before.requires.0 _ c.before.before.before.before.before.before.before.loop.invariant (omega arith) (sym c.before.same_bytes.ensures ∙ c.if1.true), omega arith)
+returns c = (find_here _ _ _ _ _ c.before.before.before.before.before.before.before.before.before.before.before.requires.0 _ c.before.before.before.before.before.before.before.loop.invariant (omega arith) (sym c.before.same_bytes.ensures ∙ c.if1.true), omega arith)
 
 add-i : tie.Need-overflow-add-i invariant-loop decreases-loop
 add-i c = omega arith
@@ -70,7 +70,7 @@ loop-less : tie.Need-loop-smaller invariant-loop decreases-loop
 loop-less c = omega arith
 
 loop-again : tie.Need-loop-preserved invariant-loop decreases-loop
-loop-again c = find-more _ _ _ _ _ c.before.before.before.before.before.before.before.before.before.before.before.requires.0 _ c.before.before.before.before.before.before.before.loop.invariant (omega arith) (sym c.before.same_bytes.ensures ∙ c.if1.false)
+loop-again c = find_more _ _ _ _ _ c.before.before.before.before.before.before.before.before.before.before.before.requires.0 _ c.before.before.before.before.before.before.before.loop.invariant (omega arith) (sym c.before.same_bytes.ensures ∙ c.if1.false)
 
 returns-2 : tie.Need-returns-2 invariant-loop decreases-loop
 returns-2 c = (find_none _ _ _ _ _ c.before.before.before.before.before.requires.0 _ c.before.loop.invariant c.loop-test.false, omega arith)

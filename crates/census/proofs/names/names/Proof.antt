@@ -4,7 +4,7 @@ use native.Mathlib.Omega.{arith}
 use mathlib.Core.Path.{◌≡◌, refl}
 use lib.ListN.{length}
 use borrow.Author.Rules.{rules}
-use Rattle.census.proofs.NamesPass.{Naming, names-begin, names-over, names-end, names-within, names-grow, names-word, names-full, names_more}
+use Rattle.census.proofs.NamesPass.{Naming, names_begin, names_over, names_end, names_within, names_grow, names_word, names_full, names_more}
 use Rattle.census.proofs.names.names.Statement.{statement}
 use Rattle.census.proofs.names.names.Tie as tie
 use Rattle.spelling.proofs.modes.next_mode.Reads as next-mode-reads
@@ -17,7 +17,7 @@ abbrev decreases-loop : tie.decreases-loop
 decreases-loop text starts₀ lengths₀ predicates n₀ mode₀ at₀ starts lengths n mode at = length text - at
 
 loop-holds : tie.Need-loop-init invariant-loop decreases-loop
-loop-holds c = (names-begin _ _ _ _ c.before.before.before.requires.0.0 c.before.before.before.requires.1, refl, refl)
+loop-holds c = (names_begin _ _ _ _ c.before.before.before.requires.0.0 c.before.before.before.requires.1, refl, refl)
 
 next-word-requires : tie.Need-next-word-requires invariant-loop decreases-loop
 next-word-requires c κs = c.before.loop.invariant.0.pass.inside
@@ -29,31 +29,31 @@ same-length-2 : tie.Need-same-length-2 invariant-loop decreases-loop
 same-length-2 c = c.before.before.before.before.loop.invariant.2
 
 returns : tie.Need-returns invariant-loop decreases-loop
-returns c = names-end _ _ _ _ _ _ _ c.before.before.before.before.loop.invariant.0 _ _ _ c.before.before.next_word.ensures c.if1.true
+returns c = names_end _ _ _ _ _ _ _ c.before.before.before.before.loop.invariant.0 _ _ _ c.before.before.next_word.ensures c.if1.true
 
 is-name-requires : tie.Need-is-name-requires invariant-loop decreases-loop
 is-name-requires c κs = search rules
 
 note-requires : tie.Need-note-requires invariant-loop decreases-loop
-note-requires c κs = ((c.before.before.before.before.before.before.before.loop.invariant.0.table, names-within _ _ _ _ _ _ _ c.before.before.before.before.before.before.before.loop.invariant.0 _ _ _ c.before.before.before.before.before.next_word.ensures c.before.before.before.if1.false), (c.before.before.before.before.before.before.before.before.before.before.before.requires.0.1, c.before.before.before.before.before.before.before.loop.invariant.0.same))
+note-requires c κs = ((c.before.before.before.before.before.before.before.loop.invariant.0.table, names_within _ _ _ _ _ _ _ c.before.before.before.before.before.before.before.loop.invariant.0 _ _ _ c.before.before.before.before.before.next_word.ensures c.before.before.before.if1.false), (c.before.before.before.before.before.before.before.before.before.before.before.requires.0.1, c.before.before.before.before.before.before.before.loop.invariant.0.same))
 
 same-length-3 : tie.Need-same-length-3 invariant-loop decreases-loop
-same-length-3 c = omega (arith, c.before.before.before.before.before.note.ensures.same-starts, c.before.before.before.before.before.before.before.before.before.before.before.before.before.loop.invariant.1)
+same-length-3 c = omega (arith, c.before.before.before.before.before.note.ensures.same_starts, c.before.before.before.before.before.before.before.before.before.before.before.before.before.loop.invariant.1)
 
 same-length-4 : tie.Need-same-length-4 invariant-loop decreases-loop
-same-length-4 c = omega (arith, c.before.before.before.before.before.note.ensures.same-lengths, c.before.before.before.before.before.before.before.before.before.before.before.before.before.loop.invariant.2)
+same-length-4 c = omega (arith, c.before.before.before.before.before.note.ensures.same_lengths, c.before.before.before.before.before.before.before.before.before.before.before.before.before.loop.invariant.2)
 
 returns-2 : tie.Need-returns-2 invariant-loop decreases-loop
-returns-2 c = names-full _ _ _ _ _ _ _ c.before.before.before.before.before.before.before.before.before.before.before.before.before.loop.invariant.0 _ _ _ c.before.before.before.before.before.before.before.before.before.before.before.next_word.ensures c.before.before.before.before.before.before.before.before.before.if1.false _ c.before.before.before.before.before.before.before.before.is_name.ensures _ _ _ c.before.before.before.before.before.note.ensures c.if2.true
+returns-2 c = names_full _ _ _ _ _ _ _ c.before.before.before.before.before.before.before.before.before.before.before.before.before.loop.invariant.0 _ _ _ c.before.before.before.before.before.before.before.before.before.before.before.next_word.ensures c.before.before.before.before.before.before.before.before.before.if1.false _ c.before.before.before.before.before.before.before.before.is_name.ensures _ _ _ c.before.before.before.before.before.note.ensures c.if2.true
 
 next-mode-requires : tie.Need-next-mode-requires invariant-loop decreases-loop
-next-mode-requires c κs = (c.before.before.before.before.before.before.before.before.before.before.before.before.before.loop.invariant.0.low, names-word _ _ _ _ _ _ _ c.before.before.before.before.before.before.before.before.before.before.before.before.before.loop.invariant.0 _ _ _ c.before.before.before.before.before.before.before.before.before.before.before.next_word.ensures c.before.before.before.before.before.before.before.before.before.if1.false)
+next-mode-requires c κs = (c.before.before.before.before.before.before.before.before.before.before.before.before.before.loop.invariant.0.low, names_word _ _ _ _ _ _ _ c.before.before.before.before.before.before.before.before.before.before.before.before.before.loop.invariant.0 _ _ _ c.before.before.before.before.before.before.before.before.before.before.before.next_word.ensures c.before.before.before.before.before.before.before.before.before.if1.false)
 
 loop-less : tie.Need-loop-smaller invariant-loop decreases-loop
-loop-less c = omega (arith, names-grow _ _ _ _ _ _ _ c.before.before.before.before.before.before.before.before.before.before.before.before.before.before.loop.invariant.0 _ _ _ c.before.before.before.before.before.before.before.before.before.before.before.before.next_word.ensures c.before.before.before.before.before.before.before.before.before.before.if1.false, (names-within _ _ _ _ _ _ _ c.before.before.before.before.before.before.before.before.before.before.before.before.before.before.loop.invariant.0 _ _ _ c.before.before.before.before.before.before.before.before.before.before.before.before.next_word.ensures c.before.before.before.before.before.before.before.before.before.before.if1.false).inside)
+loop-less c = omega (arith, names_grow _ _ _ _ _ _ _ c.before.before.before.before.before.before.before.before.before.before.before.before.before.before.loop.invariant.0 _ _ _ c.before.before.before.before.before.before.before.before.before.before.before.before.next_word.ensures c.before.before.before.before.before.before.before.before.before.before.if1.false, (names_within _ _ _ _ _ _ _ c.before.before.before.before.before.before.before.before.before.before.before.before.before.before.loop.invariant.0 _ _ _ c.before.before.before.before.before.before.before.before.before.before.before.before.next_word.ensures c.before.before.before.before.before.before.before.before.before.before.if1.false).inside)
 
 loop-again : tie.Need-loop-preserved invariant-loop decreases-loop
-loop-again c = (names_more _ _ _ _ _ _ _ c.before.before.before.before.before.before.before.before.before.before.before.before.before.before.loop.invariant.0 _ _ _ c.before.before.before.before.before.before.before.before.before.before.before.before.next_word.ensures c.before.before.before.before.before.before.before.before.before.before.if1.false _ c.before.before.before.before.before.before.before.before.before.is_name.ensures _ _ _ c.before.before.before.before.before.before.note.ensures _ c.before.if2.false c.next-mode.ensures, omega (arith, c.before.before.before.before.before.before.note.ensures.same-starts, c.before.before.before.before.before.before.before.before.before.before.before.before.before.before.loop.invariant.1), omega (arith, c.before.before.before.before.before.before.note.ensures.same-lengths, c.before.before.before.before.before.before.before.before.before.before.before.before.before.before.loop.invariant.2))
+loop-again c = (names_more _ _ _ _ _ _ _ c.before.before.before.before.before.before.before.before.before.before.before.before.before.before.loop.invariant.0 _ _ _ c.before.before.before.before.before.before.before.before.before.before.before.before.next_word.ensures c.before.before.before.before.before.before.before.before.before.before.if1.false _ c.before.before.before.before.before.before.before.before.before.is_name.ensures _ _ _ c.before.before.before.before.before.before.note.ensures _ c.before.if2.false c.next-mode.ensures, omega (arith, c.before.before.before.before.before.before.note.ensures.same_starts, c.before.before.before.before.before.before.before.before.before.before.before.before.before.before.loop.invariant.1), omega (arith, c.before.before.before.before.before.before.note.ensures.same_lengths, c.before.before.before.before.before.before.before.before.before.before.before.before.before.before.loop.invariant.2))
 
 same-length-5 : tie.Need-same-length-5 invariant-loop decreases-loop
 same-length-5 c = c.before.loop.invariant.1
@@ -62,7 +62,7 @@ same-length-6 : tie.Need-same-length-6 invariant-loop decreases-loop
 same-length-6 c = c.before.loop.invariant.2
 
 returns-3 : tie.Need-returns-3 invariant-loop decreases-loop
-returns-3 c = names-over _ _ _ _ _ _ _ c.before.loop.invariant.0 c.loop-test.false
+returns-3 c = names_over _ _ _ _ _ _ _ c.before.loop.invariant.0 c.loop-test.false
 
 pub names-spec : {M : Type 1} → statement M
 names-spec =

@@ -5,8 +5,8 @@ use mathlib.Core.Path.{◌≡◌, refl, ◌∙◌}
 use native.Mathlib.Omega.{arith}
 use lib.ListN.{length}
 use borrow.Author.Rules.{rules}
-use Rattle.diagram.proofs.RemovalLaws.{Removing, removing-none, removing-more, removing-short, removing-all}
-use Rattle.diagram.proofs.RowLaws.{removal-short, removal-done}
+use Rattle.diagram.proofs.RemovalLaws.{Removing, removing_none, removing_more, removing_short, removing_all}
+use Rattle.diagram.proofs.RowLaws.{removal_short, removal_done}
 use Rattle.diagram.proofs.row.drops_row.Statement.{statement}
 use Rattle.diagram.proofs.row.drops_row.Tie as tie
 
@@ -23,7 +23,7 @@ first-level-requires c κs = c.before.before.requires.0.0
 loop-holds : tie.Need-loop-init invariant-loop decreases-loop
 loop-holds c =
     let s = c.before.before.before in
-    (omega arith, refl, removing-none c.first-level.result s.args.k s.requires.0.1 s.requires.1)
+    (omega arith, refl, removing_none c.first-level.result s.args.k s.requires.0.1 s.requires.1)
 
 sub-b : tie.Need-overflow-sub-b invariant-loop decreases-loop
 sub-b c = omega arith
@@ -58,8 +58,8 @@ returns : tie.Need-returns invariant-loop decreases-loop
 returns c =
     let test = c.before.before.before.before.before.before.before.before.before in
     let loop = test.before in
-    removal-short loop.before.first-level.ensures loop.before.before.before.before.requires.1
-    (removing-short test.loop-test.true loop.loop.invariant.2 (rw c.enum_told.given.1 at c.before.before.before.before.before.before.drop-walk.ensures))
+    removal_short loop.before.first-level.ensures loop.before.before.before.before.requires.1
+    (removing_short test.loop-test.true loop.loop.invariant.2 (rw c.enum_told.given.1 at c.before.before.before.before.before.before.drop-walk.ensures))
 
 loop-less : tie.Need-loop-smaller invariant-loop decreases-loop
 loop-less c = omega arith
@@ -70,7 +70,7 @@ loop-again c =
     let test = done.before.before.before in
     let v = test.before.loop.invariant in
     let g = rw c.before.m1.given.1 at done.drop-walk.ensures in
-    (omega (arith, v.0), done.drop-walk.auto.1.0 ∙ v.1, removing-more test.loop-test.true v.2 g.0 g.1)
+    (omega (arith, v.0), done.drop-walk.auto.1.0 ∙ v.1, removing_more test.loop-test.true v.2 g.0 g.1)
 
 same-length-3 : tie.Need-same-length-3 invariant-loop decreases-loop
 same-length-3 c = c.before.loop.invariant.2.size
@@ -82,7 +82,7 @@ returns-2 : tie.Need-returns-2 invariant-loop decreases-loop
 returns-2 c =
     let loop = c.before in
     let v = loop.loop.invariant.2 in
-    (removal-done loop.before.first-level.ensures loop.before.before.before.before.requires.1 (removing-all (omega (arith, c.loop-test.false)) v), v.kept)
+    (removal_done loop.before.first-level.ensures loop.before.before.before.before.requires.1 (removing_all (omega (arith, c.loop-test.false)) v), v.kept)
 
 pub drops-row-spec : {M : Type 1} → statement M
 drops-row-spec =

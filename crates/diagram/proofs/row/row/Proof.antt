@@ -1,6 +1,6 @@
 -- `row::row` meets its contract: one law for each instruction. Assumes nothing.
 use native.Mathlib.Omega.{arith}
-use Rattle.diagram.proofs.RowLaws.{within-no, leads-to, row-yes, row-and, row-not, row-since, row_old, row_drop}
+use Rattle.diagram.proofs.RowLaws.{within_no, leads_to, row_yes, row_and, row_not, row_since, row_old, row_drop}
 use borrow.Author.Rules.{rules}
 use Rattle.diagram.proofs.row.row.Statement.{statement}
 use Rattle.diagram.proofs.row.row.Tie as tie
@@ -26,7 +26,7 @@ mul-since-walk-2 c = search rules
 since-walk-requires : tie.Need-since-walk-requires
 since-walk-requires c κs =
     let s = c.before.before.before.before.before.before.before.before.before in
-    (s.requires.0.1, (omega arith, leads-to s.requires.1.1 _ c.before.before.before.pick.ensures, within-no _ _ _, leads-to s.requires.1.1 _ c.before.before.pick2.ensures))
+    (s.requires.0.1, (omega arith, leads_to s.requires.1.1 _ c.before.before.before.pick.ensures, within_no _ _ _, leads_to s.requires.1.1 _ c.before.before.pick2.ensures))
 
 uncounted-requires : tie.Need-uncounted-requires
 uncounted-requires c κs = search rules
@@ -46,7 +46,7 @@ mul-not-walk-2 c = search rules
 not-walk-requires : tie.Need-not-walk-requires
 not-walk-requires c κs =
     let s = c.before.before.before.before.before.before.before.before in
-    (s.requires.0.1, (omega arith, leads-to s.requires.1.1 _ c.before.before.pick3.ensures))
+    (s.requires.0.1, (omega arith, leads_to s.requires.1.1 _ c.before.before.pick3.ensures))
 
 enum-known-x-3 : tie.Need-enum-known-x-3
 enum-known-x-3 c = search rules
@@ -69,7 +69,7 @@ mul-since-walk-4 c = search rules
 since-walk-requires-2 : tie.Need-since-walk-requires-2
 since-walk-requires-2 c κs =
     let s = c.before.before.before.before.before.before.before.before.before.before in
-    (s.requires.0.1, (omega arith, leads-to s.requires.1.1 _ c.before.before.before.before.pick4.ensures, leads-to s.requires.1.1 _ c.before.before.before.pick5.ensures, leads-to s.requires.1.0 _ c.before.before.pick6.ensures))
+    (s.requires.0.1, (omega arith, leads_to s.requires.1.1 _ c.before.before.before.before.pick4.ensures, leads_to s.requires.1.1 _ c.before.before.before.pick5.ensures, leads_to s.requires.1.0 _ c.before.before.pick6.ensures))
 
 uncounted-requires-2 : tie.Need-uncounted-requires-2
 uncounted-requires-2 c κs = search rules
@@ -89,7 +89,7 @@ pick-requires-8 c κs = search rules
 drops-row-requires : tie.Need-drops-row-requires
 drops-row-requires c κs =
     let s = c.before.before.before.before.before.before.before.before in
-    (s.requires.0, leads-to s.requires.1.1 _ c.before.before.pick8.ensures)
+    (s.requires.0, leads_to s.requires.1.1 _ c.before.before.pick8.ensures)
 
 uncounted-requires-3 : tie.Need-uncounted-requires-3
 uncounted-requires-3 c κs = search rules
@@ -97,7 +97,7 @@ uncounted-requires-3 c κs = search rules
 returns : tie.Need-returns
 returns c =
     let s = c.before.before.before.before in
-    rw c.enum_told.given.1 (row-yes s.args.k s.args.olds.now s.args.news.now s.args.i s.requires.0.1)
+    rw c.enum_told.given.1 (row_yes s.args.k s.args.olds.now s.args.news.now s.args.i s.requires.0.1)
 
 same_length : tie.Need-same-length
 same_length c = search rules
@@ -109,7 +109,7 @@ returns-2 : tie.Need-returns-2
 returns-2 c =
     let done = c.before.before.before.before.before.since-walk in
     let s = c.before.before.before.before.before.before.before.before.before.before.before.before.before.before.before in
-    rw (c.before.before.before.before.before.before.before.before.before.before.before.x.given.1, c.uncounted.ensures) (row-and s.args.k s.args.olds.now s.args.news.now s.args.i s.requires.0.1 done.new.0 done.new.1.0 _ _ done.result (rw (c.before.before.before.before.before.before.before.before.before.pick.ensures, c.before.before.before.before.before.before.before.before.pick2.ensures) at done.ensures))
+    rw (c.before.before.before.before.before.before.before.before.before.before.before.x.given.1, c.uncounted.ensures) (row_and s.args.k s.args.olds.now s.args.news.now s.args.i s.requires.0.1 done.new.0 done.new.1.0 _ _ done.result (rw (c.before.before.before.before.before.before.before.before.before.pick.ensures, c.before.before.before.before.before.before.before.before.pick2.ensures) at done.ensures))
 
 same-length-3 : tie.Need-same-length-3
 same-length-3 c = search rules
@@ -121,7 +121,7 @@ returns-3 : tie.Need-returns-3
 returns-3 c =
     let done = c.before.before.before.before.not-walk in
     let s = c.before.before.before.before.before.before.before.before.before.before.before.before.before in
-    rw c.before.before.before.before.before.before.before.before.before.x2.given.1 (row-not s.args.k s.args.olds.now s.args.news.now s.args.i s.requires.0.1 done.new.0 done.new.1.0 s.requires.1.1 _ done.result (rw c.before.before.before.before.before.before.before.pick3.ensures at done.ensures))
+    rw c.before.before.before.before.before.before.before.before.before.x2.given.1 (row_not s.args.k s.args.olds.now s.args.news.now s.args.i s.requires.0.1 done.new.0 done.new.1.0 s.requires.1.1 _ done.result (rw c.before.before.before.before.before.before.before.pick3.ensures at done.ensures))
 
 same-length-5 : tie.Need-same-length-5
 same-length-5 c = search rules
@@ -133,7 +133,7 @@ returns-4 : tie.Need-returns-4
 returns-4 c =
     let done = c.before.before.before.before.before.since-walk2 in
     let s = c.before.before.before.before.before.before.before.before.before.before.before.before.before.before.before.before in
-    rw (c.before.before.before.before.before.before.before.before.before.before.before.before.x3.given.1, c.uncounted2.ensures) (row-since s.args.k s.args.olds.now s.args.news.now s.args.i s.requires.0.1 done.new.0 done.new.1.0 _ _ _ _ _ c.before.before.before.before.before.before.before.before.before.before.pick4.ensures c.before.before.before.before.before.before.before.before.before.pick5.ensures c.before.before.before.before.before.before.before.before.pick6.ensures done.result done.ensures)
+    rw (c.before.before.before.before.before.before.before.before.before.before.before.before.x3.given.1, c.uncounted2.ensures) (row_since s.args.k s.args.olds.now s.args.news.now s.args.i s.requires.0.1 done.new.0 done.new.1.0 _ _ _ _ _ c.before.before.before.before.before.before.before.before.before.before.pick4.ensures c.before.before.before.before.before.before.before.before.before.pick5.ensures c.before.before.before.before.before.before.before.before.pick6.ensures done.result done.ensures)
 
 returns-5 : tie.Need-returns-5
 returns-5 c =

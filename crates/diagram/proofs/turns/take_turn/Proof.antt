@@ -2,8 +2,8 @@
 use native.Mathlib.Omega.{arith}
 use borrow.Author.Rules.{rules}
 use Rattle.nodes.proofs.ReadLaws.{stays}
-use Rattle.making.proofs.NodesLaws.{shelved-same}
-use Rattle.diagram.proofs.TurnLaws.{miss-tree}
+use Rattle.making.proofs.NodesLaws.{shelved_same}
+use Rattle.diagram.proofs.TurnLaws.{miss_tree}
 use Rattle.diagram.proofs.turns.take_turn.Statement.{statement}
 use Rattle.diagram.proofs.turns.take_turn.Tie as tie
 
@@ -22,7 +22,7 @@ returns : tie.Need-returns
 returns c =
     let s = c.before.before.before.before in
     let fine = rw c.enum_told.given.1 at s.requires.1.2 in
-    rw c.enum_told.given.1 (stays _ _ _ _ s.requires.0.table s.requires.1.1 (miss-tree s.args.k fine), shelved-same s.requires.0)
+    rw c.enum_told.given.1 (stays _ _ _ _ s.requires.0.table s.requires.1.1 (miss_tree s.args.k fine), shelved_same s.requires.0)
 
 same_length : tie.Need-same-length
 same_length c = search rules

@@ -1,5 +1,5 @@
 -- `operands::hold_true` meets its contract. Assumes nothing.
-use Rattle.drive.proofs.OperandSteps.{true-held}
+use Rattle.drive.proofs.OperandSteps.{true_held}
 use borrow.Author.Rules.{rules}
 use Rattle.drive.proofs.operands.hold_true.Statement.{statement}
 use Rattle.drive.proofs.operands.hold_true.Tie as tie
@@ -26,7 +26,7 @@ same-length-2 c = search rules
 
 -- src/operands.rt:71:1
 returns : tie.Need-returns
-returns c = true-held _ _ _ _ _ _ _ _ _ _ _ c.before.before.before.before.before.before.before.plain.ensures c.before.before.wait.ensures
+returns c = true_held _ _ _ _ _ _ _ _ _ _ _ c.before.before.before.before.before.before.before.plain.ensures c.before.before.wait.ensures
 
 pub hold-true-spec : {M : Type 1} → statement M
 hold-true-spec =

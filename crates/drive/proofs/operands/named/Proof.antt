@@ -1,6 +1,6 @@
 -- `operands::named` meets its contract. Assumes nothing.
 use Rattle.census.specs.Tables.{names_at}
-use Rattle.drive.proofs.AtomLaws.{atom-made}
+use Rattle.drive.proofs.AtomLaws.{atom_made}
 use borrow.Author.Rules.{rules}
 use Rattle.drive.proofs.operands.named.Statement.{statement}
 use Rattle.drive.proofs.operands.named.Tie as tie
@@ -36,7 +36,7 @@ same_length c = search rules
 
 -- src/operands.rt:34:1
 returns : tie.Need-returns
-returns c = atom-made (names_at c.before.before.before.before.before.before.before.before.before.before.before.before.before.before.args.text.now c.before.before.before.before.before.before.before.before.before.before.before.before.before.before.args.pstarts.now c.before.before.before.before.before.before.before.before.before.before.before.before.before.before.args.plengths.now c.before.before.before.before.before.before.before.before.before.before.before.before.before.before.args.pn) (names_at c.before.before.before.before.before.before.before.before.before.before.before.before.before.before.args.text.now c.before.before.before.before.before.before.before.before.before.before.before.before.before.before.args.vstarts.now c.before.before.before.before.before.before.before.before.before.before.before.before.before.before.args.vlengths.now c.before.before.before.before.before.before.before.before.before.before.before.before.before.before.args.vn) _ _ _ _ _ _ _ _ _ _ c.before.before.before.before.before.before.before.find.ensures.0 c.before.before.before.before.before.before.atom.ensures c.before.before.make.ensures
+returns c = atom_made (names_at c.before.before.before.before.before.before.before.before.before.before.before.before.before.before.args.text.now c.before.before.before.before.before.before.before.before.before.before.before.before.before.before.args.pstarts.now c.before.before.before.before.before.before.before.before.before.before.before.before.before.before.args.plengths.now c.before.before.before.before.before.before.before.before.before.before.before.before.before.before.args.pn) (names_at c.before.before.before.before.before.before.before.before.before.before.before.before.before.before.args.text.now c.before.before.before.before.before.before.before.before.before.before.before.before.before.before.args.vstarts.now c.before.before.before.before.before.before.before.before.before.before.before.before.before.before.args.vlengths.now c.before.before.before.before.before.before.before.before.before.before.before.before.before.before.args.vn) _ _ _ _ _ _ _ _ _ _ c.before.before.before.before.before.before.before.find.ensures.0 c.before.before.before.before.before.before.atom.ensures c.before.before.make.ensures
 
 pub named-spec : {M : Type 1} → statement M
 named-spec =

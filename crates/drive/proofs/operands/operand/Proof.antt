@@ -1,7 +1,7 @@
 -- `operands::operand` meets its contract. Assumes nothing.
 use Rattle.census.specs.Tables.{names_at}
 use native.Mathlib.Omega.{arith}
-use Rattle.drive.proofs.OperandSteps.{operand-name, operand-true, operand-false, operand-once, operand-historically, operand-previously, operand-negation, operand-group, operand-universal, operand-existential, operand-other}
+use Rattle.drive.proofs.OperandSteps.{operand_name, operand_true, operand_false, operand_once, operand_historically, operand_previously, operand_negation, operand_group, operand_universal, operand_existential, operand_other}
 use borrow.Author.Rules.{rules}
 use Rattle.drive.proofs.operands.operand.Statement.{statement}
 use Rattle.drive.proofs.operands.operand.Tie as tie
@@ -24,7 +24,7 @@ same_length c = search rules
 
 -- src/operands.rt:117:9
 returns : tie.Need-returns
-returns c = operand-name (names_at c.before.before.before.before.before.before.before.before.before.before.before.before.args.text.now c.before.before.before.before.before.before.before.before.before.before.before.before.args.pstarts.now c.before.before.before.before.before.before.before.before.before.before.before.before.args.plengths.now c.before.before.before.before.before.before.before.before.before.before.before.before.args.pn) (names_at c.before.before.before.before.before.before.before.before.before.before.before.before.args.text.now c.before.before.before.before.before.before.before.before.before.before.before.before.args.vstarts.now c.before.before.before.before.before.before.before.before.before.before.before.before.args.vlengths.now c.before.before.before.before.before.before.before.before.before.before.before.before.args.vn) _ _ _ _ _ _ _ _ _ _ _ _ c.before.before.before.before.if1.true c.before.before.named.ensures
+returns c = operand_name (names_at c.before.before.before.before.before.before.before.before.before.before.before.before.args.text.now c.before.before.before.before.before.before.before.before.before.before.before.before.args.pstarts.now c.before.before.before.before.before.before.before.before.before.before.before.before.args.plengths.now c.before.before.before.before.before.before.before.before.before.before.before.before.args.pn) (names_at c.before.before.before.before.before.before.before.before.before.before.before.before.args.text.now c.before.before.before.before.before.before.before.before.before.before.before.before.args.vstarts.now c.before.before.before.before.before.before.before.before.before.before.before.before.args.vlengths.now c.before.before.before.before.before.before.before.before.before.before.before.before.args.vn) _ _ _ _ _ _ _ _ _ _ _ _ c.before.before.before.before.if1.true c.before.before.named.ensures
 
 -- src/operands.rt:124:13
 plain-requires : tie.Need-plain-requires
@@ -36,7 +36,7 @@ same-length-2 c = search rules
 
 -- src/operands.rt:125:9
 returns-2 : tie.Need-returns-2
-returns-2 c = operand-true (names_at c.before.before.before.before.before.before.before.before.before.before.before.before.before.args.text.now c.before.before.before.before.before.before.before.before.before.before.before.before.before.args.pstarts.now c.before.before.before.before.before.before.before.before.before.before.before.before.before.args.plengths.now c.before.before.before.before.before.before.before.before.before.before.before.before.before.args.pn) (names_at c.before.before.before.before.before.before.before.before.before.before.before.before.before.args.text.now c.before.before.before.before.before.before.before.before.before.before.before.before.before.args.vstarts.now c.before.before.before.before.before.before.before.before.before.before.before.before.before.args.vlengths.now c.before.before.before.before.before.before.before.before.before.before.before.before.before.args.vn) _ _ _ _ _ _ _ _ _ _ _ _ c.before.before.before.before.if2.true c.before.before.plain.ensures
+returns-2 c = operand_true (names_at c.before.before.before.before.before.before.before.before.before.before.before.before.before.args.text.now c.before.before.before.before.before.before.before.before.before.before.before.before.before.args.pstarts.now c.before.before.before.before.before.before.before.before.before.before.before.before.before.args.plengths.now c.before.before.before.before.before.before.before.before.before.before.before.before.before.args.pn) (names_at c.before.before.before.before.before.before.before.before.before.before.before.before.before.args.text.now c.before.before.before.before.before.before.before.before.before.before.before.before.before.args.vstarts.now c.before.before.before.before.before.before.before.before.before.before.before.before.before.args.vlengths.now c.before.before.before.before.before.before.before.before.before.before.before.before.before.args.vn) _ _ _ _ _ _ _ _ _ _ _ _ c.before.before.before.before.if2.true c.before.before.plain.ensures
 
 -- src/operands.rt:132:13
 plain-requires-2 : tie.Need-plain-requires-2
@@ -52,7 +52,7 @@ same-length-3 c = search rules
 
 -- src/operands.rt:134:9
 returns-3 : tie.Need-returns-3
-returns-3 c = operand-false (names_at c.before.before.before.before.before.before.before.before.before.before.before.before.before.before.before.before.before.before.args.text.now c.before.before.before.before.before.before.before.before.before.before.before.before.before.before.before.before.before.before.args.pstarts.now c.before.before.before.before.before.before.before.before.before.before.before.before.before.before.before.before.before.before.args.plengths.now c.before.before.before.before.before.before.before.before.before.before.before.before.before.before.before.before.before.before.args.pn) (names_at c.before.before.before.before.before.before.before.before.before.before.before.before.before.before.before.before.before.before.args.text.now c.before.before.before.before.before.before.before.before.before.before.before.before.before.before.before.before.before.before.args.vstarts.now c.before.before.before.before.before.before.before.before.before.before.before.before.before.before.before.before.before.before.args.vlengths.now c.before.before.before.before.before.before.before.before.before.before.before.before.before.before.before.before.before.before.args.vn) _ _ _ _ _ _ _ _ _ _ _ _ _ _ _ c.before.before.before.before.before.before.before.before.if3.true c.before.before.before.before.before.before.plain2.ensures c.before.before.negate.ensures
+returns-3 c = operand_false (names_at c.before.before.before.before.before.before.before.before.before.before.before.before.before.before.before.before.before.before.args.text.now c.before.before.before.before.before.before.before.before.before.before.before.before.before.before.before.before.before.before.args.pstarts.now c.before.before.before.before.before.before.before.before.before.before.before.before.before.before.before.before.before.before.args.plengths.now c.before.before.before.before.before.before.before.before.before.before.before.before.before.before.before.before.before.before.args.pn) (names_at c.before.before.before.before.before.before.before.before.before.before.before.before.before.before.before.before.before.before.args.text.now c.before.before.before.before.before.before.before.before.before.before.before.before.before.before.before.before.before.before.args.vstarts.now c.before.before.before.before.before.before.before.before.before.before.before.before.before.before.before.before.before.before.args.vlengths.now c.before.before.before.before.before.before.before.before.before.before.before.before.before.before.before.before.before.before.args.vn) _ _ _ _ _ _ _ _ _ _ _ _ _ _ _ c.before.before.before.before.before.before.before.before.if3.true c.before.before.before.before.before.before.plain2.ensures c.before.before.negate.ensures
 
 -- src/operands.rt:141:9
 hold-true-requires : tie.Need-hold-true-requires
@@ -68,7 +68,7 @@ same-length-5 c = search rules
 
 -- src/operands.rt:141:9
 returns-4 : tie.Need-returns-4
-returns-4 c = operand-once (names_at c.before.before.before.before.before.before.before.before.before.before.before.before.before.before.before.before.before.before.args.text.now c.before.before.before.before.before.before.before.before.before.before.before.before.before.before.before.before.before.before.args.pstarts.now c.before.before.before.before.before.before.before.before.before.before.before.before.before.before.before.before.before.before.args.plengths.now c.before.before.before.before.before.before.before.before.before.before.before.before.before.before.before.before.before.before.args.pn) (names_at c.before.before.before.before.before.before.before.before.before.before.before.before.before.before.before.before.before.before.args.text.now c.before.before.before.before.before.before.before.before.before.before.before.before.before.before.before.before.before.before.args.vstarts.now c.before.before.before.before.before.before.before.before.before.before.before.before.before.before.before.before.before.before.args.vlengths.now c.before.before.before.before.before.before.before.before.before.before.before.before.before.before.before.before.before.before.args.vn) _ _ _ _ _ _ _ _ _ _ _ _ _ _ c.before.before.before.before.before.before.before.if4.true c.before.before.before.before.hold-true.ensures
+returns-4 c = operand_once (names_at c.before.before.before.before.before.before.before.before.before.before.before.before.before.before.before.before.before.before.args.text.now c.before.before.before.before.before.before.before.before.before.before.before.before.before.before.before.before.before.before.args.pstarts.now c.before.before.before.before.before.before.before.before.before.before.before.before.before.before.before.before.before.before.args.plengths.now c.before.before.before.before.before.before.before.before.before.before.before.before.before.before.before.before.before.before.args.pn) (names_at c.before.before.before.before.before.before.before.before.before.before.before.before.before.before.before.before.before.before.args.text.now c.before.before.before.before.before.before.before.before.before.before.before.before.before.before.before.before.before.before.args.vstarts.now c.before.before.before.before.before.before.before.before.before.before.before.before.before.before.before.before.before.before.args.vlengths.now c.before.before.before.before.before.before.before.before.before.before.before.before.before.before.before.before.before.before.args.vn) _ _ _ _ _ _ _ _ _ _ _ _ _ _ c.before.before.before.before.before.before.before.if4.true c.before.before.before.before.hold-true.ensures
 
 -- src/operands.rt:144:9
 hold-true-requires-2 : tie.Need-hold-true-requires-2
@@ -84,7 +84,7 @@ same-length-7 c = search rules
 
 -- src/operands.rt:144:9
 returns-5 : tie.Need-returns-5
-returns-5 c = operand-historically (names_at c.before.before.before.before.before.before.before.before.before.before.before.before.before.before.before.before.before.before.before.args.text.now c.before.before.before.before.before.before.before.before.before.before.before.before.before.before.before.before.before.before.before.args.pstarts.now c.before.before.before.before.before.before.before.before.before.before.before.before.before.before.before.before.before.before.before.args.plengths.now c.before.before.before.before.before.before.before.before.before.before.before.before.before.before.before.before.before.before.before.args.pn) (names_at c.before.before.before.before.before.before.before.before.before.before.before.before.before.before.before.before.before.before.before.args.text.now c.before.before.before.before.before.before.before.before.before.before.before.before.before.before.before.before.before.before.before.args.vstarts.now c.before.before.before.before.before.before.before.before.before.before.before.before.before.before.before.before.before.before.before.args.vlengths.now c.before.before.before.before.before.before.before.before.before.before.before.before.before.before.before.before.before.before.before.args.vn) _ _ _ _ _ _ _ _ _ _ _ _ _ _ c.before.before.before.before.before.before.before.if5.true c.before.before.before.before.hold-true2.ensures
+returns-5 c = operand_historically (names_at c.before.before.before.before.before.before.before.before.before.before.before.before.before.before.before.before.before.before.before.args.text.now c.before.before.before.before.before.before.before.before.before.before.before.before.before.before.before.before.before.before.before.args.pstarts.now c.before.before.before.before.before.before.before.before.before.before.before.before.before.before.before.before.before.before.before.args.plengths.now c.before.before.before.before.before.before.before.before.before.before.before.before.before.before.before.before.before.before.before.args.pn) (names_at c.before.before.before.before.before.before.before.before.before.before.before.before.before.before.before.before.before.before.before.args.text.now c.before.before.before.before.before.before.before.before.before.before.before.before.before.before.before.before.before.before.before.args.vstarts.now c.before.before.before.before.before.before.before.before.before.before.before.before.before.before.before.before.before.before.before.args.vlengths.now c.before.before.before.before.before.before.before.before.before.before.before.before.before.before.before.before.before.before.before.args.vn) _ _ _ _ _ _ _ _ _ _ _ _ _ _ c.before.before.before.before.before.before.before.if5.true c.before.before.before.before.hold-true2.ensures
 
 -- src/operands.rt:147:9
 hold-requires : tie.Need-hold-requires
@@ -96,7 +96,7 @@ same-length-8 c = search rules
 
 -- src/operands.rt:147:9
 returns-6 : tie.Need-returns-6
-returns-6 c = operand-previously (names_at c.before.before.before.before.before.before.before.before.before.before.before.before.before.before.before.before.before.args.text.now c.before.before.before.before.before.before.before.before.before.before.before.before.before.before.before.before.before.args.pstarts.now c.before.before.before.before.before.before.before.before.before.before.before.before.before.before.before.before.before.args.plengths.now c.before.before.before.before.before.before.before.before.before.before.before.before.before.before.before.before.before.args.pn) (names_at c.before.before.before.before.before.before.before.before.before.before.before.before.before.before.before.before.before.args.text.now c.before.before.before.before.before.before.before.before.before.before.before.before.before.before.before.before.before.args.vstarts.now c.before.before.before.before.before.before.before.before.before.before.before.before.before.before.before.before.before.args.vlengths.now c.before.before.before.before.before.before.before.before.before.before.before.before.before.before.before.before.before.args.vn) _ _ _ _ _ _ _ _ _ _ _ _ _ c.before.before.before.before.if6.true c.before.before.before.before.before.before.before.before.before.before.before.before.before.before.before.before.before.requires.1.1.3 c.before.before.hold.ensures
+returns-6 c = operand_previously (names_at c.before.before.before.before.before.before.before.before.before.before.before.before.before.before.before.before.before.args.text.now c.before.before.before.before.before.before.before.before.before.before.before.before.before.before.before.before.before.args.pstarts.now c.before.before.before.before.before.before.before.before.before.before.before.before.before.before.before.before.before.args.plengths.now c.before.before.before.before.before.before.before.before.before.before.before.before.before.before.before.before.before.args.pn) (names_at c.before.before.before.before.before.before.before.before.before.before.before.before.before.before.before.before.before.args.text.now c.before.before.before.before.before.before.before.before.before.before.before.before.before.before.before.before.before.args.vstarts.now c.before.before.before.before.before.before.before.before.before.before.before.before.before.before.before.before.before.args.vlengths.now c.before.before.before.before.before.before.before.before.before.before.before.before.before.before.before.before.before.args.vn) _ _ _ _ _ _ _ _ _ _ _ _ _ c.before.before.before.before.if6.true c.before.before.before.before.before.before.before.before.before.before.before.before.before.before.before.before.before.requires.1.1.3 c.before.before.hold.ensures
 
 -- src/operands.rt:150:9
 hold-requires-2 : tie.Need-hold-requires-2
@@ -108,7 +108,7 @@ same-length-9 c = search rules
 
 -- src/operands.rt:150:9
 returns-7 : tie.Need-returns-7
-returns-7 c = operand-negation (names_at c.before.before.before.before.before.before.before.before.before.before.before.before.before.before.before.before.before.before.args.text.now c.before.before.before.before.before.before.before.before.before.before.before.before.before.before.before.before.before.before.args.pstarts.now c.before.before.before.before.before.before.before.before.before.before.before.before.before.before.before.before.before.before.args.plengths.now c.before.before.before.before.before.before.before.before.before.before.before.before.before.before.before.before.before.before.args.pn) (names_at c.before.before.before.before.before.before.before.before.before.before.before.before.before.before.before.before.before.before.args.text.now c.before.before.before.before.before.before.before.before.before.before.before.before.before.before.before.before.before.before.args.vstarts.now c.before.before.before.before.before.before.before.before.before.before.before.before.before.before.before.before.before.before.args.vlengths.now c.before.before.before.before.before.before.before.before.before.before.before.before.before.before.before.before.before.before.args.vn) _ _ _ _ _ _ _ _ _ _ _ _ _ c.before.before.before.before.if7.true c.before.before.before.before.before.before.before.before.before.before.before.before.before.before.before.before.before.before.requires.1.1.3 c.before.before.hold2.ensures
+returns-7 c = operand_negation (names_at c.before.before.before.before.before.before.before.before.before.before.before.before.before.before.before.before.before.before.args.text.now c.before.before.before.before.before.before.before.before.before.before.before.before.before.before.before.before.before.before.args.pstarts.now c.before.before.before.before.before.before.before.before.before.before.before.before.before.before.before.before.before.before.args.plengths.now c.before.before.before.before.before.before.before.before.before.before.before.before.before.before.before.before.before.before.args.pn) (names_at c.before.before.before.before.before.before.before.before.before.before.before.before.before.before.before.before.before.before.args.text.now c.before.before.before.before.before.before.before.before.before.before.before.before.before.before.before.before.before.before.args.vstarts.now c.before.before.before.before.before.before.before.before.before.before.before.before.before.before.before.before.before.before.args.vlengths.now c.before.before.before.before.before.before.before.before.before.before.before.before.before.before.before.before.before.before.args.vn) _ _ _ _ _ _ _ _ _ _ _ _ _ c.before.before.before.before.if7.true c.before.before.before.before.before.before.before.before.before.before.before.before.before.before.before.before.before.before.requires.1.1.3 c.before.before.hold2.ensures
 
 -- src/operands.rt:153:13
 slot-after-requires : tie.Need-slot-after-requires
@@ -124,7 +124,7 @@ same-length-10 c = search rules
 
 -- src/operands.rt:154:9
 returns-8 : tie.Need-returns-8
-returns-8 c = operand-universal (names_at c.before.before.before.before.before.before.before.before.before.before.before.before.before.before.before.before.before.before.before.before.args.text.now c.before.before.before.before.before.before.before.before.before.before.before.before.before.before.before.before.before.before.before.before.args.pstarts.now c.before.before.before.before.before.before.before.before.before.before.before.before.before.before.before.before.before.before.before.before.args.plengths.now c.before.before.before.before.before.before.before.before.before.before.before.before.before.before.before.before.before.before.before.before.args.pn) (names_at c.before.before.before.before.before.before.before.before.before.before.before.before.before.before.before.before.before.before.before.before.args.text.now c.before.before.before.before.before.before.before.before.before.before.before.before.before.before.before.before.before.before.before.before.args.vstarts.now c.before.before.before.before.before.before.before.before.before.before.before.before.before.before.before.before.before.before.before.before.args.vlengths.now c.before.before.before.before.before.before.before.before.before.before.before.before.before.before.before.before.before.before.before.before.args.vn) _ _ _ _ _ _ _ _ _ _ _ _ _ _ c.before.before.before.before.before.if8.true c.before.before.before.before.before.before.before.before.before.before.before.before.before.before.before.before.before.before.before.before.requires.1.1.3 c.before.before.before.before.slot-after.ensures c.before.before.hold3.ensures
+returns-8 c = operand_universal (names_at c.before.before.before.before.before.before.before.before.before.before.before.before.before.before.before.before.before.before.before.before.args.text.now c.before.before.before.before.before.before.before.before.before.before.before.before.before.before.before.before.before.before.before.before.args.pstarts.now c.before.before.before.before.before.before.before.before.before.before.before.before.before.before.before.before.before.before.before.before.args.plengths.now c.before.before.before.before.before.before.before.before.before.before.before.before.before.before.before.before.before.before.before.before.args.pn) (names_at c.before.before.before.before.before.before.before.before.before.before.before.before.before.before.before.before.before.before.before.before.args.text.now c.before.before.before.before.before.before.before.before.before.before.before.before.before.before.before.before.before.before.before.before.args.vstarts.now c.before.before.before.before.before.before.before.before.before.before.before.before.before.before.before.before.before.before.before.before.args.vlengths.now c.before.before.before.before.before.before.before.before.before.before.before.before.before.before.before.before.before.before.before.before.args.vn) _ _ _ _ _ _ _ _ _ _ _ _ _ _ c.before.before.before.before.before.if8.true c.before.before.before.before.before.before.before.before.before.before.before.before.before.before.before.before.before.before.before.before.requires.1.1.3 c.before.before.before.before.slot-after.ensures c.before.before.hold3.ensures
 
 -- src/operands.rt:157:13
 slot-after-requires-2 : tie.Need-slot-after-requires-2
@@ -140,7 +140,7 @@ same-length-11 c = search rules
 
 -- src/operands.rt:158:9
 returns-9 : tie.Need-returns-9
-returns-9 c = operand-existential (names_at c.before.before.before.before.before.before.before.before.before.before.before.before.before.before.before.before.before.before.before.before.before.args.text.now c.before.before.before.before.before.before.before.before.before.before.before.before.before.before.before.before.before.before.before.before.before.args.pstarts.now c.before.before.before.before.before.before.before.before.before.before.before.before.before.before.before.before.before.before.before.before.before.args.plengths.now c.before.before.before.before.before.before.before.before.before.before.before.before.before.before.before.before.before.before.before.before.before.args.pn) (names_at c.before.before.before.before.before.before.before.before.before.before.before.before.before.before.before.before.before.before.before.before.before.args.text.now c.before.before.before.before.before.before.before.before.before.before.before.before.before.before.before.before.before.before.before.before.before.args.vstarts.now c.before.before.before.before.before.before.before.before.before.before.before.before.before.before.before.before.before.before.before.before.before.args.vlengths.now c.before.before.before.before.before.before.before.before.before.before.before.before.before.before.before.before.before.before.before.before.before.args.vn) _ _ _ _ _ _ _ _ _ _ _ _ _ _ c.before.before.before.before.before.if9.true c.before.before.before.before.before.before.before.before.before.before.before.before.before.before.before.before.before.before.before.before.before.requires.1.1.3 c.before.before.before.before.slot-after2.ensures c.before.before.hold4.ensures
+returns-9 c = operand_existential (names_at c.before.before.before.before.before.before.before.before.before.before.before.before.before.before.before.before.before.before.before.before.before.args.text.now c.before.before.before.before.before.before.before.before.before.before.before.before.before.before.before.before.before.before.before.before.before.args.pstarts.now c.before.before.before.before.before.before.before.before.before.before.before.before.before.before.before.before.before.before.before.before.before.args.plengths.now c.before.before.before.before.before.before.before.before.before.before.before.before.before.before.before.before.before.before.before.before.before.args.pn) (names_at c.before.before.before.before.before.before.before.before.before.before.before.before.before.before.before.before.before.before.before.before.before.args.text.now c.before.before.before.before.before.before.before.before.before.before.before.before.before.before.before.before.before.before.before.before.before.args.vstarts.now c.before.before.before.before.before.before.before.before.before.before.before.before.before.before.before.before.before.before.before.before.before.args.vlengths.now c.before.before.before.before.before.before.before.before.before.before.before.before.before.before.before.before.before.before.before.before.before.args.vn) _ _ _ _ _ _ _ _ _ _ _ _ _ _ c.before.before.before.before.before.if9.true c.before.before.before.before.before.before.before.before.before.before.before.before.before.before.before.before.before.before.before.before.before.requires.1.1.3 c.before.before.before.before.slot-after2.ensures c.before.before.hold4.ensures
 
 -- src/operands.rt:161:9
 hold-requires-5 : tie.Need-hold-requires-5
@@ -152,11 +152,11 @@ same-length-12 c = search rules
 
 -- src/operands.rt:161:9
 returns-10 : tie.Need-returns-10
-returns-10 c = operand-group (names_at c.before.before.before.before.before.before.before.before.before.before.before.before.before.before.before.before.before.before.before.before.before.args.text.now c.before.before.before.before.before.before.before.before.before.before.before.before.before.before.before.before.before.before.before.before.before.args.pstarts.now c.before.before.before.before.before.before.before.before.before.before.before.before.before.before.before.before.before.before.before.before.before.args.plengths.now c.before.before.before.before.before.before.before.before.before.before.before.before.before.before.before.before.before.before.before.before.before.args.pn) (names_at c.before.before.before.before.before.before.before.before.before.before.before.before.before.before.before.before.before.before.before.before.before.args.text.now c.before.before.before.before.before.before.before.before.before.before.before.before.before.before.before.before.before.before.before.before.before.args.vstarts.now c.before.before.before.before.before.before.before.before.before.before.before.before.before.before.before.before.before.before.before.before.before.args.vlengths.now c.before.before.before.before.before.before.before.before.before.before.before.before.before.before.before.before.before.before.before.before.before.args.vn) _ _ _ _ _ _ _ _ _ _ _ _ _ c.before.before.before.before.if10.true c.before.before.before.before.before.before.before.before.before.before.before.before.before.before.before.before.before.before.before.before.before.requires.1.1.3 c.before.before.hold5.ensures
+returns-10 c = operand_group (names_at c.before.before.before.before.before.before.before.before.before.before.before.before.before.before.before.before.before.before.before.before.before.args.text.now c.before.before.before.before.before.before.before.before.before.before.before.before.before.before.before.before.before.before.before.before.before.args.pstarts.now c.before.before.before.before.before.before.before.before.before.before.before.before.before.before.before.before.before.before.before.before.before.args.plengths.now c.before.before.before.before.before.before.before.before.before.before.before.before.before.before.before.before.before.before.before.before.before.args.pn) (names_at c.before.before.before.before.before.before.before.before.before.before.before.before.before.before.before.before.before.before.before.before.before.args.text.now c.before.before.before.before.before.before.before.before.before.before.before.before.before.before.before.before.before.before.before.before.before.args.vstarts.now c.before.before.before.before.before.before.before.before.before.before.before.before.before.before.before.before.before.before.before.before.before.args.vlengths.now c.before.before.before.before.before.before.before.before.before.before.before.before.before.before.before.before.before.before.before.before.before.args.vn) _ _ _ _ _ _ _ _ _ _ _ _ _ c.before.before.before.before.if10.true c.before.before.before.before.before.before.before.before.before.before.before.before.before.before.before.before.before.before.before.before.before.requires.1.1.3 c.before.before.hold5.ensures
 
 -- src/operands.rt:84:1
 returns-11 : tie.Need-returns-11
-returns-11 c = operand-other (names_at c.before.before.before.before.before.before.before.before.before.before.before.before.before.before.before.before.before.args.text.now c.before.before.before.before.before.before.before.before.before.before.before.before.before.before.before.before.before.args.pstarts.now c.before.before.before.before.before.before.before.before.before.before.before.before.before.before.before.before.before.args.plengths.now c.before.before.before.before.before.before.before.before.before.before.before.before.before.before.before.before.before.args.pn) (names_at c.before.before.before.before.before.before.before.before.before.before.before.before.before.before.before.before.before.args.text.now c.before.before.before.before.before.before.before.before.before.before.before.before.before.before.before.before.before.args.vstarts.now c.before.before.before.before.before.before.before.before.before.before.before.before.before.before.before.before.before.args.vlengths.now c.before.before.before.before.before.before.before.before.before.before.before.before.before.before.before.before.before.args.vn) _ _ _ _ _ _ _ _ _ c.before.before.before.before.before.before.before.before.before.if1.false c.before.before.before.before.before.before.before.before.if2.false c.before.before.before.before.before.before.before.if3.false c.before.before.before.before.before.before.if4.false c.before.before.before.before.before.if5.false c.before.before.before.before.if6.false c.before.before.before.if7.false c.before.before.if8.false c.before.if9.false c.if10.false c.before.before.before.before.before.before.before.before.before.before.before.before.before.before.before.before.before.requires.1.1.3
+returns-11 c = operand_other (names_at c.before.before.before.before.before.before.before.before.before.before.before.before.before.before.before.before.before.args.text.now c.before.before.before.before.before.before.before.before.before.before.before.before.before.before.before.before.before.args.pstarts.now c.before.before.before.before.before.before.before.before.before.before.before.before.before.before.before.before.before.args.plengths.now c.before.before.before.before.before.before.before.before.before.before.before.before.before.before.before.before.before.args.pn) (names_at c.before.before.before.before.before.before.before.before.before.before.before.before.before.before.before.before.before.args.text.now c.before.before.before.before.before.before.before.before.before.before.before.before.before.before.before.before.before.args.vstarts.now c.before.before.before.before.before.before.before.before.before.before.before.before.before.before.before.before.before.args.vlengths.now c.before.before.before.before.before.before.before.before.before.before.before.before.before.before.before.before.before.args.vn) _ _ _ _ _ _ _ _ _ c.before.before.before.before.before.before.before.before.before.if1.false c.before.before.before.before.before.before.before.before.if2.false c.before.before.before.before.before.before.before.if3.false c.before.before.before.before.before.before.if4.false c.before.before.before.before.before.if5.false c.before.before.before.before.if6.false c.before.before.before.if7.false c.before.before.if8.false c.before.if9.false c.if10.false c.before.before.before.before.before.before.before.before.before.before.before.before.before.before.before.before.before.requires.1.1.3
 
 pub operand-spec : {M : Type 1} → statement M
 operand-spec =

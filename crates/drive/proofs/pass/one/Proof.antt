@@ -1,7 +1,7 @@
 -- `pass::one` meets its contract. Assumes nothing.
 use Rattle.census.specs.Tables.{names_at}
 use native.Mathlib.Omega.{arith}
-use Rattle.drive.proofs.OperatorSteps.{one-operand, one-operator, one_none}
+use Rattle.drive.proofs.OperatorSteps.{one_operand, one_operator, one_none}
 use borrow.Author.Rules.{rules}
 use Rattle.drive.proofs.pass.one.Statement.{statement}
 use Rattle.drive.proofs.pass.one.Tie as tie
@@ -24,7 +24,7 @@ same-length-2 c = search rules
 
 -- src/pass.rt:41:9
 returns : tie.Need-returns
-returns c = one-operand (names_at c.before.before.before.before.before.before.before.before.before.before.before.before.before.before.before.args.text.now c.before.before.before.before.before.before.before.before.before.before.before.before.before.before.before.args.pstarts.now c.before.before.before.before.before.before.before.before.before.before.before.before.before.before.before.args.plengths.now c.before.before.before.before.before.before.before.before.before.before.before.before.before.before.before.args.pn) (names_at c.before.before.before.before.before.before.before.before.before.before.before.before.before.before.before.args.text.now c.before.before.before.before.before.before.before.before.before.before.before.before.before.before.before.args.vstarts.now c.before.before.before.before.before.before.before.before.before.before.before.before.before.before.before.args.vlengths.now c.before.before.before.before.before.before.before.before.before.before.before.before.before.before.before.args.vn) _ _ _ _ _ _ _ _ _ _ _ _ _ _ _ c.before.before.before.before.before.before.before.if1.true c.before.before.before.before.operand.ensures
+returns c = one_operand (names_at c.before.before.before.before.before.before.before.before.before.before.before.before.before.before.before.args.text.now c.before.before.before.before.before.before.before.before.before.before.before.before.before.before.before.args.pstarts.now c.before.before.before.before.before.before.before.before.before.before.before.before.before.before.before.args.plengths.now c.before.before.before.before.before.before.before.before.before.before.before.before.before.before.before.args.pn) (names_at c.before.before.before.before.before.before.before.before.before.before.before.before.before.before.before.args.text.now c.before.before.before.before.before.before.before.before.before.before.before.before.before.before.before.args.vstarts.now c.before.before.before.before.before.before.before.before.before.before.before.before.before.before.before.args.vlengths.now c.before.before.before.before.before.before.before.before.before.before.before.before.before.before.before.args.vn) _ _ _ _ _ _ _ _ _ _ _ _ _ _ _ c.before.before.before.before.before.before.before.if1.true c.before.before.before.before.operand.ensures
 
 -- src/pass.rt:56:9
 operator-requires : tie.Need-operator-requires
@@ -40,7 +40,7 @@ same-length-4 c = search rules
 
 -- src/pass.rt:56:9
 returns-2 : tie.Need-returns-2
-returns-2 c = one-operator (names_at c.before.before.before.before.before.before.before.before.before.before.before.before.before.before.before.before.args.text.now c.before.before.before.before.before.before.before.before.before.before.before.before.before.before.before.before.args.pstarts.now c.before.before.before.before.before.before.before.before.before.before.before.before.before.before.before.before.args.plengths.now c.before.before.before.before.before.before.before.before.before.before.before.before.before.before.before.before.args.pn) (names_at c.before.before.before.before.before.before.before.before.before.before.before.before.before.before.before.before.args.text.now c.before.before.before.before.before.before.before.before.before.before.before.before.before.before.before.before.args.vstarts.now c.before.before.before.before.before.before.before.before.before.before.before.before.before.before.before.before.args.vlengths.now c.before.before.before.before.before.before.before.before.before.before.before.before.before.before.before.before.args.vn) _ _ _ _ _ _ _ _ _ _ _ _ _ _ _ c.before.before.before.before.before.before.before.before.if1.false c.before.before.before.before.before.before.before.if2.true c.before.before.before.before.operator.ensures
+returns-2 c = one_operator (names_at c.before.before.before.before.before.before.before.before.before.before.before.before.before.before.before.before.args.text.now c.before.before.before.before.before.before.before.before.before.before.before.before.before.before.before.before.args.pstarts.now c.before.before.before.before.before.before.before.before.before.before.before.before.before.before.before.before.args.plengths.now c.before.before.before.before.before.before.before.before.before.before.before.before.before.before.before.before.args.pn) (names_at c.before.before.before.before.before.before.before.before.before.before.before.before.before.before.before.before.args.text.now c.before.before.before.before.before.before.before.before.before.before.before.before.before.before.before.before.args.vstarts.now c.before.before.before.before.before.before.before.before.before.before.before.before.before.before.before.before.args.vlengths.now c.before.before.before.before.before.before.before.before.before.before.before.before.before.before.before.before.args.vn) _ _ _ _ _ _ _ _ _ _ _ _ _ _ _ c.before.before.before.before.before.before.before.before.if1.false c.before.before.before.before.before.before.before.if2.true c.before.before.before.before.operator.ensures
 
 -- src/pass.rt:21:1
 returns-3 : tie.Need-returns-3

@@ -4,12 +4,12 @@ use Prim.Native.Nat.{◌+◌, ◌*◌, ◌-◌, ◌/◌, ◌≤◌}
 use native.Mathlib.Omega.{arith}
 use mathlib.Core.Path.{◌≡◌, refl, ◌∙◌}
 use lib.ListN.{length}
-use Rattle.trees.proofs.Tests.{false-true}
+use Rattle.trees.proofs.Tests.{false_true}
 use Rattle.nodes.specs.Nodes.{Between}
 use Rattle.nodes.specs.Chains.{Chained}
 use Rattle.keeping.specs.Checks.{Apart}
-use Rattle.nodes.proofs.ChainLaws.{joined-between, between-trans, between-zeroed, chained-start, chained-walk, chained-missed, chained-found, chained_more}
-use Rattle.keeping.proofs.CheckLaws.{apart_more, apart-not}
+use Rattle.nodes.proofs.ChainLaws.{joined_between, between_trans, between_zeroed, chained_start, chained_walk, chained_missed, chained_found, chained_more}
+use Rattle.keeping.proofs.CheckLaws.{apart_more, apart_not}
 use Rattle.keeping.proofs.each.all_differ.Statement.{statement}
 use Rattle.keeping.proofs.each.all_differ.Tie as tie
 
@@ -35,7 +35,7 @@ room l = omega (arith, size l, l.before.before.before.before.before.before.befor
 
 -- only heads and links have changed since the entry
 between : (l : tie.At-loop invariant-loop decreases-loop) → let C = length l.before.before.before.before.before.before.before.args.nodes.now / 3 in Between (13 * C) (15 * C) l.before.before.before.before.before.before.before.args.work.now l.loop.work
-between l = between-trans (between-zeroed (omega arith) (omega arith) l.before.before.before.zero.ensures) l.loop.invariant.2
+between l = between_trans (between_zeroed (omega arith) (omega arith) l.before.before.before.zero.ensures) l.loop.invariant.2
 
 zero-requires : tie.Need-zero-requires invariant-loop decreases-loop
 zero-requires c κs = let s = c.before.before.before in omega (arith, s.requires.0.room)
@@ -48,7 +48,7 @@ loop-holds c =
       omega arith,
       refl,
       record { same = record { eq = λ i h. refl }; rest = record { eq = λ i h. refl } },
-      chained-start z.ensures.zero,
+      chained_start z.ensures.zero,
       λ i j h. absurd (omega arith),
     )
 
@@ -101,7 +101,7 @@ seek-requires : tie.Need-seek-requires invariant-loop decreases-loop
 seek-requires c κs =
     let l = c.before.before.before.before.before.before in
     let low = c.before.before.before.before.before.loop-test.true in
-    chained-walk l.loop.invariant.3 _ _ _ c.before.slot.result c.before.slot.ensures.0 c.before.slot.ensures.1 (omega (arith, low, l.before.before.before.before.before.before.before.requires.1)) (omega (arith, room l))
+    chained_walk l.loop.invariant.3 _ _ _ c.before.slot.result c.before.slot.ensures.0 c.before.slot.ensures.1 (omega (arith, low, l.before.before.before.before.before.before.before.requires.1)) (omega (arith, room l))
 
 same_length : tie.Need-same-length invariant-loop decreases-loop
 same_length c = size c.before.before.before.before.before.before.before.before
@@ -112,8 +112,8 @@ returns c =
     let s = l.before.before.before.before.before.before.before in
     let slot = c.before.before.before.slot in
     let some = c.if1.true in
-    let f = chained-found l.loop.invariant.3 _ _ _ slot.result slot.ensures.0 slot.ensures.1 c.before.seek.ensures (omega arith) in
-    (apart-not s.args.nodes.now s.args.n l.loop.j (c.before.seek.result - 1) c.before.before.before.before.before.before.before.loop-test.true f.0 f.1, (between l, λ e. absurd (false-true refl e)))
+    let f = chained_found l.loop.invariant.3 _ _ _ slot.result slot.ensures.0 slot.ensures.1 c.before.seek.ensures (omega arith) in
+    (apart_not s.args.nodes.now s.args.n l.loop.j (c.before.seek.result - 1) c.before.before.before.before.before.before.before.loop-test.true f.0 f.1, (between l, λ e. absurd (false_true refl e)))
 
 join-requires : tie.Need-join-requires invariant-loop decreases-loop
 join-requires c κs =
@@ -141,9 +141,9 @@ loop-again c =
     let more = chained_more l.loop.invariant.3 _ _ _ slot.result below slot.ensures.1 (record { level = refl; low = refl; high = refl }) (omega (arith, low, s.requires.1)) (omega (arith, room l)) in (
       omega (arith, low),
       join.auto.0 ∙ l.loop.invariant.1,
-      between-trans l.loop.invariant.2 (rw join.ensures (joined-between (13 * C) (15 * C) l.loop.work _ (14 * C) l.loop.j (omega arith) (omega arith) (omega (arith, low, s.requires.1)))),
+      between_trans l.loop.invariant.2 (rw join.ensures (joined_between (13 * C) (15 * C) l.loop.work _ (14 * C) l.loop.j (omega arith) (omega arith) (omega (arith, low, s.requires.1)))),
       rw join.ensures more,
-      apart_more ns l.loop.j l.loop.invariant.4 (chained-missed l.loop.invariant.3 _ _ _ slot.result below slot.ensures.1 seek.ensures c.before.before.before.before.if1.false),
+      apart_more ns l.loop.j l.loop.invariant.4 (chained_missed l.loop.invariant.3 _ _ _ slot.result below slot.ensures.1 seek.ensures c.before.before.before.before.if1.false),
     )
 
 same-length-2 : tie.Need-same-length-2 invariant-loop decreases-loop

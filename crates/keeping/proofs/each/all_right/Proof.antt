@@ -3,9 +3,9 @@ use Prim.Native.Nat.{◌-◌, ◌≤◌}
 use native.Mathlib.Omega.{arith}
 use mathlib.Core.Path.{◌≡◌, sym, ◌∙◌}
 use borrow.Author.Tests.{not-true, not-false}
-use Rattle.trees.proofs.Tests.{false-true}
+use Rattle.trees.proofs.Tests.{false_true}
 use Rattle.keeping.specs.Checks.{Right}
-use Rattle.keeping.proofs.CheckLaws.{right-more}
+use Rattle.keeping.proofs.CheckLaws.{right_more}
 use Rattle.keeping.proofs.each.all_right.Statement.{statement}
 use Rattle.keeping.proofs.each.all_right.Tie as tie
 
@@ -22,7 +22,7 @@ node-right-requires : tie.Need-node-right-requires invariant-loop decreases-loop
 node-right-requires c κs = omega arith
 
 returns : tie.Need-returns invariant-loop decreases-loop
-returns c = λ h. false-true (sym c.before.node-right.ensures ∙ not-true _ c.if1.true) (h.node c.before.before.before.loop.j c.before.before.loop-test.true)
+returns c = λ h. false_true (sym c.before.node_right_law.ensures ∙ not-true _ c.if1.true) (h.node c.before.before.before.loop.j c.before.before.loop-test.true)
 
 cast-i : tie.Need-overflow-cast-i invariant-loop decreases-loop
 cast-i c = omega arith
@@ -48,7 +48,7 @@ loop-less c = omega arith
 loop-again : tie.Need-loop-preserved invariant-loop decreases-loop
 loop-again c =
     let e1 = c.before.before in
-    (omega arith, right-more c.before.before.before.before.before.loop.invariant.1 (sym e1.before.node-right.ensures ∙ not-false _ e1.if1.false) c.if2.false)
+    (omega arith, right_more c.before.before.before.before.before.loop.invariant.1 (sym e1.before.node_right_law.ensures ∙ not-false _ e1.if1.false) c.if2.false)
 
 returns-3 : tie.Need-returns-3 invariant-loop decreases-loop
 returns-3 c =

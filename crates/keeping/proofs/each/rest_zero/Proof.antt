@@ -3,7 +3,7 @@
 use Prim.Native.Nat.{◌-◌}
 use native.Mathlib.Omega.{arith}
 use lib.ListN.{length}
-use Rattle.keeping.proofs.CheckLaws.{Ored, ored-none, ored-more, ored-end}
+use Rattle.keeping.proofs.CheckLaws.{Ored, ored_none, ored_more, ored_end}
 use Rattle.keeping.proofs.each.rest_zero.Statement.{statement}
 use Rattle.keeping.proofs.each.rest_zero.Tie as tie
 
@@ -14,7 +14,7 @@ abbrev decreases-loop : tie.decreases-loop
 decreases-loop xs from all₀ i₀ all i = length xs - i
 
 loop-holds : tie.Need-loop-init invariant-loop decreases-loop
-loop-holds c = ored-none _ _
+loop-holds c = ored_none _ _
 
 mul-all : tie.Need-overflow-mul-all invariant-loop decreases-loop
 mul-all c = omega arith
@@ -29,10 +29,10 @@ loop-less : tie.Need-loop-smaller invariant-loop decreases-loop
 loop-less c = omega arith
 
 loop-again : tie.Need-loop-preserved invariant-loop decreases-loop
-loop-again c = ored-more c.before.before.loop.invariant
+loop-again c = ored_more c.before.before.loop.invariant
 
 returns : tie.Need-returns invariant-loop decreases-loop
-returns c = ored-end c.before.loop.invariant c.loop-test.false
+returns c = ored_end c.before.loop.invariant c.loop-test.false
 
 pub rest-zero-spec : {M : Type 1} → statement M
 rest-zero-spec =

@@ -1,6 +1,6 @@
 -- `free::asks` meets its contract: the law of a node's set. Assumes nothing.
 use native.Mathlib.Omega.{arith}
-use Rattle.keeping.proofs.FreeLaws.{asks-is}
+use Rattle.keeping.proofs.FreeLaws.{asks_is}
 use borrow.Author.Rules.{rules}
 use Rattle.keeping.proofs.free.asks.Statement.{statement}
 use Rattle.keeping.proofs.free.asks.Tie as tie
@@ -44,7 +44,7 @@ marked-requires-2 c κs = let s = c.before.before.before.before.before.before.be
 returns : tie.Need-returns
 returns c =
     let s = c.before.before.before.before.before.before.before.before in
-    rw (c.before.before.before.before.own.ensures, c.before.before.marked.ensures, c.marked2.ensures) (asks-is s.requires.0.0 s.requires.1.0.0 s.requires.1.1)
+    rw (c.before.before.before.before.own.ensures, c.before.before.marked.ensures, c.marked2.ensures) (asks_is s.requires.0.0 s.requires.1.0.0 s.requires.1.1)
 
 pub asks-spec : {M : Type 1} → statement M
 asks-spec =

@@ -1,7 +1,7 @@
 -- `free::free_only` meets its contract: the marks decide. Assumes nothing.
 use native.Mathlib.Omega.{arith}
 use mathlib.Core.Path.{refl}
-use Rattle.keeping.proofs.FreeLaws.{leaves_free, free-decided}
+use Rattle.keeping.proofs.FreeLaws.{leaves_free, free_decided}
 use borrow.Author.Rules.{rules}
 use Rattle.keeping.proofs.free.free_only.Statement.{statement}
 use Rattle.keeping.proofs.free.free_only.Tie as tie
@@ -32,7 +32,7 @@ returns-2 c =
     let s = c.before.before.before.before.before.before.before.before.before in
     let some = c.before.before.before.before.before.before.if1.false in
     let told = c.rows-allowed in
-    (free-decided m.ensures.0 s.args.allowed.now s.requires.1.0 s.requires.1.1.1 told.result told.ensures, record { eq = λ i h. m.ensures.1.eq i (omega arith) })
+    (free_decided m.ensures.0 s.args.allowed.now s.requires.1.0 s.requires.1.1.1 told.result told.ensures, record { eq = λ i h. m.ensures.1.eq i (omega arith) })
 
 pub free-only-spec : {M : Type 1} → statement M
 free-only-spec =

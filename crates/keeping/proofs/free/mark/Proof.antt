@@ -7,7 +7,7 @@ use lib.ListN.{length, set, length-set}
 use lib.Seq.{get_or-set_other}
 use Rattle.nodes.specs.Nodes.{Rest}
 use Rattle.keeping.specs.Checks.{Marks}
-use Rattle.keeping.proofs.FreeLaws.{marks-none, marks-more}
+use Rattle.keeping.proofs.FreeLaws.{marks_none, marks_more}
 use Rattle.keeping.proofs.free.mark.Statement.{statement}
 use Rattle.keeping.proofs.free.mark.Tie as tie
 
@@ -28,7 +28,7 @@ slice-write-work-2 : tie.Need-slice-write-work-2 invariant-loop decreases-loop
 slice-write-work-2 c = simp length-set (omega arith)
 
 loop-holds : tie.Need-loop-init invariant-loop decreases-loop
-loop-holds c = let s = c.before.before in (omega arith, refl, marks-none s.args.nodes.now s.args.kept s.args.k s.args.work.now (omega arith), record { eq = λ i h. refl })
+loop-holds c = let s = c.before.before in (omega arith, refl, marks_none s.args.nodes.now s.args.kept s.args.k s.args.work.now (omega arith), record { eq = λ i h. refl })
 
 asks-requires : tie.Need-asks-requires invariant-loop decreases-loop
 asks-requires c κs =
@@ -61,7 +61,7 @@ loop-again c =
     let v = l.loop.invariant in (
       omega arith,
       length-set l.loop.work (l.loop.j + 2) c.asks.result ∙ v.1,
-      marks-more v.2 (omega (arith, size l, s.requires.1.0)) c.asks.result c.asks.ensures,
+      marks_more v.2 (omega (arith, size l, s.requires.1.0)) c.asks.result c.asks.ensures,
       record { eq = λ i h. get_or-set_other l.loop.work (l.loop.j + 2) i c.asks.result 0 (omega arith) ∙ v.3.eq i h },
     )
 

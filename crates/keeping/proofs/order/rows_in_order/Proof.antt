@@ -5,7 +5,7 @@ use mathlib.Core.Path.{◌≡◌}
 use mathlib.Core.Logic.{⊎_elim}
 use native.Mathlib.Omega.{arith}
 use lib.ListN.{get_or}
-use Rattle.keeping.proofs.OrderLaws.{Followed, followed, followed-not, RowsFollowed, rows_none, rows_more, rows_short, rows_whole}
+use Rattle.keeping.proofs.OrderLaws.{Followed, followed, followed_not, RowsFollowed, rows_none, rows_more, rows_short, rows_whole}
 use Rattle.keeping.proofs.order.rows_in_order.Statement.{statement}
 use Rattle.keeping.proofs.order.rows_in_order.Tie as tie
 
@@ -54,7 +54,7 @@ loop-again c =
     let below = s.requires.0.1 l.loop.i h in
     let f : Followed s.args.nodes.now s.args.kept l.loop.n (get_or s.args.refs.now l.loop.i 0) c.if1.n = ⊎_elim
     (λ w. rw w.2 (followed (omega (arith, w.0.taken)) w.1.ensures))
-    (λ w. rw w.1 (followed-not s.requires.0.0 l.loop.invariant.1.most w.0.left))
+    (λ w. rw w.1 (followed_not s.requires.0.0 l.loop.invariant.1.most w.0.left))
     c.if1.branch in
     (omega (arith, h), rows_more s.args.nodes.now s.args.kept s.args.refs.now s.args.count l.loop.i l.loop.n c.if1.n h (omega (arith, s.requires.1.0, s.requires.1.1)) l.loop.invariant.1 f)
 

@@ -1,6 +1,6 @@
 -- `happening::event` meets its contract. Assumes nothing.
 use borrow.Author.Rules.{rules}
-use Rattle.linked.proofs.HappeningLaws.{event-read}
+use Rattle.linked.proofs.HappeningLaws.{event_read}
 use Rattle.linked.proofs.happening.event.Statement.{statement}
 use Rattle.linked.proofs.happening.event.Tie as tie
 
@@ -41,7 +41,7 @@ returns c =
     let second = third.before in
     let first = second.before in
     let none = first.before in
-    event-read _ _ _ _ _ _ _ _ _ _ c.count_of.ensures none.fact-at.ensures first.fact-at2.ensures second.fact-at3.ensures
+    event_read _ _ _ _ _ _ _ _ _ _ c.count_of.ensures none.fact-at.ensures first.fact-at2.ensures second.fact-at3.ensures
     third.fact-at4.ensures fourth.fact-at5.ensures fifth.fact-at6.ensures sixth.fact-at7.ensures seventh.fact-at8.ensures
 
 pub event-spec : {M : Type 1} → statement M

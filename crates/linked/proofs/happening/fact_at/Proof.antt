@@ -1,6 +1,6 @@
 -- `happening::fact_at` meets its contract. Assumes nothing.
 use borrow.Author.Rules.{rules}
-use Rattle.linked.proofs.HappeningLaws.{fact-read}
+use Rattle.linked.proofs.HappeningLaws.{fact_read}
 use Rattle.linked.proofs.happening.fact_at.Statement.{statement}
 use Rattle.linked.proofs.happening.fact_at.Tie as tie
 
@@ -39,7 +39,7 @@ returns c =
     let third = c.before.before in
     let second = third.before in
     let first = second.before in
-    fact-read _ _ _ _ _ _ _ c.before.number-at4.ensures c.number-at5.ensures first.number_at.ensures second.number-at2.ensures third.number-at3.ensures
+    fact_read _ _ _ _ _ _ _ c.before.number-at4.ensures c.number-at5.ensures first.number_at.ensures second.number-at2.ensures third.number-at3.ensures
 
 pub fact-at-spec : {M : Type 1} → statement M
 fact-at-spec =

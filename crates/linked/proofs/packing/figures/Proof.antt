@@ -1,5 +1,5 @@
 -- `packing::figures` meets its contract. Assumes nothing.
-use Rattle.linked.proofs.PackingLaws.{figures-read}
+use Rattle.linked.proofs.PackingLaws.{figures_read}
 use borrow.Author.Rules.{rules}
 use Rattle.linked.proofs.packing.figures.Statement.{statement}
 use Rattle.linked.proofs.packing.figures.Tie as tie
@@ -32,7 +32,7 @@ returns : tie.Need-returns
 returns c =
     let k = c.before.before.before.before in
     let s = k.before.before.before.before in
-    figures-read s.args.numbers.now k.copy.new.1.0 s.requires k.copy.ensures
+    figures_read s.args.numbers.now k.copy.new.1.0 s.requires k.copy.ensures
 
 pub figures-spec : {M : Type 1} → statement M
 figures-spec =

@@ -3,7 +3,7 @@ use native.Mathlib.Omega.{arith}
 use mathlib.Core.Path.{◌≡◌, sym, ◌∙◌}
 use lib.ListN.{length, length-map, length-set}
 use Rattle.monitor.specs.Said.{whole}
-use Rattle.linked.proofs.PackingLaws.{state-written}
+use Rattle.linked.proofs.PackingLaws.{state_written}
 use borrow.Author.Rules.{rules}
 use Rattle.linked.proofs.packing.pack.Statement.{statement}
 use Rattle.linked.proofs.packing.pack.Tie as tie
@@ -17,8 +17,8 @@ many : (s : tie.Start) → length s.args.t2 ≡ 64
 many s = s.well-formed.1.0.1.0.1
 
 -- 64 sizes
-many-sizes : (s : tie.Start) → length s.args.t3 ≡ 64
-many-sizes s = s.well-formed.1.1.0.1.0.1
+many_sizes : (s : tie.Start) → length s.args.t3 ≡ 64
+many_sizes s = s.well-formed.1.1.0.1.0.1
 
 -- the slice has 135 numbers after the counts are written, and after the references are
 still : (c : tie.After-copy) → length c.copy.new.1.0 ≡ 135
@@ -56,7 +56,7 @@ slice-aggregate-copy-3 c = search rules
 
 copy-requires-3 : tie.Need-copy-requires-3
 copy-requires-3 c κs =
-    let h = many-sizes c.before.before.before.before.before.before.before.before.before.before.before.before.before.before in
+    let h = many_sizes c.before.before.before.before.before.before.before.before.before.before.before.before.before.before in
     let e = still-2 c.before.before.before.before in
     omega arith
 
@@ -69,7 +69,7 @@ returns c =
     let counted = c.before.before.before.before.before.before.before.before.before.before.before.before.copy in
     let referred = c.before.before.before.before.before.before.before.copy2 in
     let sized = c.before.before.copy3 in
-    state-written (whole s.args.figures s.args.t2 s.args.t3) s.args.numbers.now counted.new.1.0 referred.new.1.0 sized.new.1.0 s.requires (few s) (many s) (many-sizes s)
+    state_written (whole s.args.figures s.args.t2 s.args.t3) s.args.numbers.now counted.new.1.0 referred.new.1.0 sized.new.1.0 s.requires (few s) (many s) (many_sizes s)
     counted.ensures referred.ensures sized.ensures
 
 pub pack-spec : {M : Type 1} → statement M

@@ -1,6 +1,6 @@
 -- `packing::put_found` meets its contract: each arm by its variant. Assumes nothing.
 use mathlib.Core.Path.{ap, sym, ◌∙◌}
-use Rattle.linked.specs.Packing.{packedLookup}
+use Rattle.linked.specs.Packing.{packed_lookup}
 use borrow.Author.Rules.{rules}
 use Rattle.linked.proofs.packing.put_found.Statement.{statement}
 use Rattle.linked.proofs.packing.put_found.Tie as tie
@@ -33,29 +33,29 @@ same_length : tie.Need-same-length
 same_length c = search rules
 
 returns : tie.Need-returns
-unfolding packedLookup
-returns c = c.before.before.two.ensures ∙ sym (ap packedLookup c.before.before.before.before.before.found.given.1)
+unfolding packed_lookup
+returns c = c.before.before.two.ensures ∙ sym (ap packed_lookup c.before.before.before.before.before.found.given.1)
 
 same-length-2 : tie.Need-same-length-2
 same-length-2 c = search rules
 
 returns-2 : tie.Need-returns-2
-unfolding packedLookup
-returns-2 c = c.before.before.two2.ensures ∙ sym (ap packedLookup c.before.before.before.before.enum_told.given.1)
+unfolding packed_lookup
+returns-2 c = c.before.before.two2.ensures ∙ sym (ap packed_lookup c.before.before.before.before.enum_told.given.1)
 
 same-length-3 : tie.Need-same-length-3
 same-length-3 c = search rules
 
 returns-3 : tie.Need-returns-3
-unfolding packedLookup
-returns-3 c = c.before.before.two3.ensures ∙ sym (ap packedLookup c.before.before.before.before.enum-told2.given.1)
+unfolding packed_lookup
+returns-3 c = c.before.before.two3.ensures ∙ sym (ap packed_lookup c.before.before.before.before.enum-told2.given.1)
 
 same-length-4 : tie.Need-same-length-4
 same-length-4 c = search rules
 
 returns-4 : tie.Need-returns-4
-unfolding packedLookup
-returns-4 c = c.before.before.two4.ensures ∙ sym (ap packedLookup c.before.before.before.before.enum-told3.given.1)
+unfolding packed_lookup
+returns-4 c = c.before.before.two4.ensures ∙ sym (ap packed_lookup c.before.before.before.before.enum-told3.given.1)
 
 pub put-found-spec : {M : Type 1} → statement M
 put-found-spec =

@@ -1,8 +1,8 @@
 -- `packing::put_six` meets its contract: each arm by its variant. Assumes nothing.
 use mathlib.Core.Path.{ap, sym, ◌∙◌}
 use Rattle.meaning.specs.declared.Answer.{Answer}
-use Rattle.linked.specs.Packing.{firstSix}
-use Rattle.linked.proofs.PackingLaws.{verdict-put}
+use Rattle.linked.specs.Packing.{first_six}
+use Rattle.linked.proofs.PackingLaws.{verdict_put}
 use borrow.Author.Rules.{rules}
 use Rattle.linked.proofs.packing.put_six.Statement.{statement}
 use Rattle.linked.proofs.packing.put_six.Tie as tie
@@ -32,10 +32,10 @@ same_length : tie.Need-same-length
 same_length c = search rules
 
 returns : tie.Need-returns
-unfolding firstSix
+unfolding first_six
 returns c =
     let s = c.before.before.before.before.before.before.before in
-    c.before.before.six.ensures ∙ sym (ap (λ (x : Answer). firstSix x s.args.complements s.args.swept) c.before.before.before.before.enum_told.given.1)
+    c.before.before.six.ensures ∙ sym (ap (λ (x : Answer). first_six x s.args.complements s.args.swept) c.before.before.before.before.enum_told.given.1)
 
 same-length-2 : tie.Need-same-length-2
 same-length-2 c = search rules
@@ -43,17 +43,17 @@ same-length-2 c = search rules
 returns-2 : tie.Need-returns-2
 returns-2 c =
     let f = c.before.before in
-    verdict-put _ _ _ _ _ _ _ _ f.six2.ensures f.before.bit-of.ensures f.before.before.before.before.answer.given.1
+    verdict_put _ _ _ _ _ _ _ _ f.six2.ensures f.before.bit-of.ensures f.before.before.before.before.answer.given.1
 
 same-length-3 : tie.Need-same-length-3
 same-length-3 c = search rules
 
 returns-3 : tie.Need-returns-3
-unfolding firstSix
+unfolding first_six
 returns-3 c =
     let s = c.before.before.before.before.before.before.before.before in
     let f = c.before.before in
-    f.six3.ensures ∙ sym (ap (λ (x : Answer). firstSix x s.args.complements s.args.swept) f.before.before.before.answer2.given.1)
+    f.six3.ensures ∙ sym (ap (λ (x : Answer). first_six x s.args.complements s.args.swept) f.before.before.before.answer2.given.1)
 
 pub put-six-spec : {M : Type 1} → statement M
 put-six-spec =

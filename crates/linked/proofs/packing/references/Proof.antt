@@ -1,5 +1,5 @@
 -- `packing::references` meets its contract. Assumes nothing.
-use Rattle.linked.proofs.PackingLaws.{references-read}
+use Rattle.linked.proofs.PackingLaws.{references_read}
 use borrow.Author.Rules.{rules}
 use Rattle.linked.proofs.packing.references.Statement.{statement}
 use Rattle.linked.proofs.packing.references.Tie as tie
@@ -23,7 +23,7 @@ returns : tie.Need-returns
 returns c =
     let k = c.before in
     let s = k.before.before.before.before in
-    references-read s.args.numbers.now k.copy.new.1.0 s.requires k.copy.ensures
+    references_read s.args.numbers.now k.copy.new.1.0 s.requires k.copy.ensures
 
 pub references-spec : {M : Type 1} → statement M
 references-spec = tie.close (tie.spec sub-copy part-copy-start part-copy-end slice-aggregate-copy copy-requires returns)

@@ -2,7 +2,7 @@
 use native.Mathlib.Omega.{arith}
 use lib.ListN.{length-set}
 use borrow.Author.Rules.{rules}
-use Rattle.linked.proofs.PackingLaws.{six-are}
+use Rattle.linked.proofs.PackingLaws.{six_are}
 use Rattle.linked.proofs.packing.six.Statement.{statement}
 use Rattle.linked.proofs.packing.six.Tie as tie
 
@@ -28,7 +28,7 @@ same_length : tie.Need-same-length
 same_length c = search rules
 
 returns : tie.Need-returns
-returns c = six-are c.args.numbers.now c.args.a c.args.b c.args.c c.args.d c.args.e c.args.f c.requires
+returns c = six_are c.args.numbers.now c.args.a c.args.b c.args.c c.args.d c.args.e c.args.f c.requires
 
 pub six-spec : {M : Type 1} → statement M
 six-spec =

@@ -1,5 +1,5 @@
 -- `packing::sizes` meets its contract. Assumes nothing.
-use Rattle.linked.proofs.PackingLaws.{sizes-read}
+use Rattle.linked.proofs.PackingLaws.{sizes_read}
 use borrow.Author.Rules.{rules}
 use Rattle.linked.proofs.packing.sizes.Statement.{statement}
 use Rattle.linked.proofs.packing.sizes.Tie as tie
@@ -23,7 +23,7 @@ returns : tie.Need-returns
 returns c =
     let k = c.before in
     let s = k.before.before.before.before in
-    sizes-read s.args.numbers.now k.copy.new.1.0 s.requires k.copy.ensures
+    sizes_read s.args.numbers.now k.copy.new.1.0 s.requires k.copy.ensures
 
 pub sizes-spec : {M : Type 1} → statement M
 sizes-spec = tie.close (tie.spec sub-copy part-copy-start part-copy-end slice-aggregate-copy copy-requires returns)

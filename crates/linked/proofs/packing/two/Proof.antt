@@ -1,5 +1,5 @@
 -- `packing::two` meets its contract. Assumes nothing.
-use Rattle.linked.proofs.PackingLaws.{two-are}
+use Rattle.linked.proofs.PackingLaws.{two_are}
 use borrow.Author.Rules.{rules}
 use Rattle.linked.proofs.packing.two.Statement.{statement}
 use Rattle.linked.proofs.packing.two.Tie as tie
@@ -14,7 +14,7 @@ same_length : tie.Need-same-length
 same_length c = search rules
 
 returns : tie.Need-returns
-returns c = two-are c.args.numbers.now c.args.a c.args.b c.requires
+returns c = two_are c.args.numbers.now c.args.a c.args.b c.requires
 
 pub two-spec : {M : Type 1} → statement M
 two-spec = tie.close (tie.spec slice-write-numbers slice-write-numbers-2 same_length returns)

@@ -1,6 +1,6 @@
 -- `packing::five_of` meets its contract, case by case. Assumes nothing.
 use mathlib.Core.Path.{refl}
-use Rattle.linked_rule.specs.Ruling.{wrappedTold}
+use Rattle.linked_rule.specs.Ruling.{wrapped_told}
 use borrow.Author.Rules.{rules}
 use Rattle.linked_rule.proofs.packing.five_of.Statement.{statement}
 use Rattle.linked_rule.proofs.packing.five_of.Tie as tie
@@ -33,12 +33,12 @@ cast-t16 c = search rules
 
 -- src/packing.rt:15:1
 returns : tie.Need-returns
-unfolding wrappedTold
+unfolding wrapped_told
 returns c = rw c.before.told.given.1 refl
 
 -- src/packing.rt:15:1
 returns-2 : tie.Need-returns-2
-unfolding wrappedTold
+unfolding wrapped_told
 returns-2 c = rw c.before.told2.given.1 refl
 
 pub five-of-spec : {M : Type 1} → statement M

@@ -2,7 +2,7 @@
 use native.Mathlib.Omega.{arith}
 use mathlib.Core.Path.{refl, ap, ◌∙◌}
 use lib.ListN.{length}
-use Rattle.linked_rule.proofs.RulingLaws.{told-length}
+use Rattle.linked_rule.proofs.RulingLaws.{told_length}
 use borrow.Author.Rules.{rules}
 use Rattle.linked_rule.proofs.packing.put_told.Statement.{statement}
 use Rattle.linked_rule.proofs.packing.put_told.Tie as tie
@@ -21,7 +21,7 @@ slice-aggregate-put-numbers c = search rules
 
 -- src/packing.rt:51:5
 put-numbers-requires : tie.Need-put-numbers-requires
-put-numbers-requires c κs = omega (arith, ap length c.before.before.before.five-of.ensures, told-length c.before.before.before.before.before.args.told, c.before.before.before.before.before.requires)
+put-numbers-requires c κs = omega (arith, ap length c.before.before.before.five-of.ensures, told_length c.before.before.before.before.before.args.told, c.before.before.before.before.before.requires)
 
 -- src/packing.rt:45:1
 same_length : tie.Need-same-length

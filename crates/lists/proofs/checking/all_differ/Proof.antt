@@ -8,8 +8,8 @@ use lib.ListN.{length, get_or, drop, length-set}
 use lib.Seq.{drop-set-lt}
 use borrow.Author.Rules.{rules}
 use Rattle.lists.specs.Slots.{Table, Searchable, Apart}
-use Rattle.lists.proofs.ListsLaws.{clear_zero, clear-beyond}
-use Rattle.lists.proofs.SlotsLaws.{table_none, table_more, apart_more, apart_distinct, twice-distinct}
+use Rattle.lists.proofs.ListsLaws.{clear_zero, clear_beyond}
+use Rattle.lists.proofs.SlotsLaws.{table_none, table_more, apart_more, apart_distinct, twice_distinct}
 use Rattle.lists.proofs.checking.all_differ.Statement.{statement}
 use Rattle.lists.proofs.checking.all_differ.Tie as tie
 
@@ -41,7 +41,7 @@ beyond l =
     let t = l.before.before.before.before.before in
     let a = t.before.before.before.args in
     l.loop.invariant.3
-    ∙ (ap (drop a.room) l.before.before.before.clear.ensures ∙ clear-beyond t.slots.result a.room a.work.now t.slots.ensures.inside)
+    ∙ (ap (drop a.room) l.before.before.before.clear.ensures ∙ clear_beyond t.slots.result a.room a.work.now t.slots.ensures.inside)
 
 slots-requires : tie.Need-slots-requires invariant-loop decreases-loop
 slots-requires c κs = search rules
@@ -79,7 +79,7 @@ returns c =
     let l = c.before.before.before.before.before in
     let a = l.before.before.before.before.before.before.before.before.args in
     let f = c.before.before.seek.ensures.met c.if1.true in
-    record { answer = twice-distinct a.list.now f.0 l.loop.j f.1 (omega arith) f.2; beyond = beyond l }
+    record { answer = twice_distinct a.list.now f.0 l.loop.j f.1 (omega arith) f.2; beyond = beyond l }
 
 cast-work : tie.Need-overflow-cast-work invariant-loop decreases-loop
 cast-work c = search rules

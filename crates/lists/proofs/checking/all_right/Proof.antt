@@ -8,23 +8,23 @@ use lib.ListN.{length, get_or, take, drop, length-drop}
 use lib.Seq.{length-take-le}
 use borrow.Author.Count.{below_more}
 use borrow.Author.Tests.{not-true, not-false}
-use Rattle.lists.specs.Slots.{partRight}
-use Rattle.numbers.proofs.PartLaws.{part-inside}
-use Rattle.lists.proofs.ListsLaws.{all-false, all_true}
+use Rattle.lists.specs.Slots.{part_right}
+use Rattle.numbers.proofs.PartLaws.{part_inside}
+use Rattle.lists.proofs.ListsLaws.{all_false, all_true}
 use borrow.Author.Rules.{rules}
 use Rattle.lists.proofs.checking.all_right.Statement.{statement}
 use Rattle.lists.proofs.checking.all_right.Tie as tie
 
 abbrev invariant-loop : tie.invariant-loop
 invariant-loop m values room work₀ counts v₀ work v = (v ≤ 4) × (length work ≡ length work₀) × (drop (room) work ≡ drop (room) work₀)
-    × ((w : ℕ) → w < v → partRight m (get_or counts w 0) (take m (drop (w * m) values)) ≡ true)
+    × ((w : ℕ) → w < v → part_right m (get_or counts w 0) (take m (drop (w * m) values)) ≡ true)
 
 abbrev decreases-loop : tie.decreases-loop
 decreases-loop m values room work₀ counts v₀ work v = 4 - v
 
 -- the part of a variable is one of four
 inside : (c : tie.In-loop invariant-loop decreases-loop) → let l = c.before in let a = l.before.before.before.args in l.loop.v * a.m + a.m ≤ 4 * a.m
-inside c = part-inside c.before.loop.v c.before.before.before.before.args.m c.before.before.before.before.args.m (omega arith) (omega arith)
+inside c = part_inside c.before.loop.v c.before.before.before.before.args.m c.before.before.before.before.args.m (omega arith) (omega arith)
 
 loop-holds : tie.Need-loop-init invariant-loop decreases-loop
 loop-holds c = (omega arith, refl, refl, λ w h. absurd (omega arith))
@@ -77,7 +77,7 @@ returns c =
     let d = c.before.before.before.List-right.ensures in
     let z : l.loop.v * a.m + a.m - l.loop.v * a.m ≡ a.m = omega arith in
     record {
-      answer = all-false 4 (λ v. partRight a.m (get_or a.t2 v 0) (take a.m (drop (v * a.m) a.values.now))) l.loop.v (omega arith) (sym (rw z at d.answer) ∙ not-true _ c.if1.true);
+      answer = all_false 4 (λ v. part_right a.m (get_or a.t2 v 0) (take a.m (drop (v * a.m) a.values.now))) l.loop.v (omega arith) (sym (rw z at d.answer) ∙ not-true _ c.if1.true);
       beyond = d.beyond ∙ l.loop.invariant.2;
     }
 
@@ -108,7 +108,7 @@ returns-2 c =
     let s = l.before.before.before in
     let a = s.args in
     record {
-      answer = all_true 4 (λ v. partRight a.m (get_or a.t2 v 0) (take a.m (drop (v * a.m) a.values.now))) (λ v h. l.loop.invariant.3 v (omega arith));
+      answer = all_true 4 (λ v. part_right a.m (get_or a.t2 v 0) (take a.m (drop (v * a.m) a.values.now))) (λ v h. l.loop.invariant.3 v (omega arith));
       beyond = l.loop.invariant.2;
     }
 

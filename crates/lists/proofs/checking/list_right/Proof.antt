@@ -2,13 +2,13 @@
 use native.Mathlib.Omega.{arith}
 use mathlib.Core.Path.{refl, sym, ◌∙◌}
 use borrow.Author.Tests.{not-true, not-false}
-use Rattle.lists.proofs.ListsLaws.{part-over, part-rest, part-differ}
+use Rattle.lists.proofs.ListsLaws.{part_over, part_rest, part_differ}
 use borrow.Author.Rules.{rules}
 use Rattle.lists.proofs.checking.list_right.Statement.{statement}
 use Rattle.lists.proofs.checking.list_right.Tie as tie
 
 returns : tie.Need-returns
-returns c = let a = c.before.before.before.args in record { answer = part-over a.m a.count a.part.now c.if1.true; beyond = refl }
+returns c = let a = c.before.before.before.args in record { answer = part_over a.m a.count a.part.now c.if1.true; beyond = refl }
 
 mul-all-zero : tie.Need-overflow-mul-all-zero
 mul-all-zero c = search rules
@@ -27,7 +27,7 @@ returns-2 c =
     let s = c.before.before.before.before.before.before in
     let a = s.args in
     record {
-      answer = part-rest a.m a.count a.part.now c.before.before.before.if1.false s.requires.2 (sym c.before.all-zero.ensures ∙ not-true _ c.if2.true);
+      answer = part_rest a.m a.count a.part.now c.before.before.before.if1.false s.requires.2 (sym c.before.all_zero.ensures ∙ not-true _ c.if2.true);
       beyond = refl;
     }
 
@@ -52,7 +52,7 @@ returns-3 c =
     let a = s.args in
     let d = c.before.before.all-differ.ensures in
     record {
-      answer = d.answer ∙ part-differ a.m a.count a.part.now (omega arith) s.requires.2 (sym c.before.before.before.before.before.before.all-zero.ensures ∙ not-false _ c.before.before.before.before.before.if2.false);
+      answer = d.answer ∙ part_differ a.m a.count a.part.now (omega arith) s.requires.2 (sym c.before.before.before.before.before.before.all_zero.ensures ∙ not-false _ c.before.before.before.before.before.if2.false);
       beyond = d.beyond;
     }
 

@@ -1,8 +1,8 @@
 -- `lists_right` meets its contract. Assumes nothing.
 use native.Mathlib.Omega.{arith}
 use mathlib.Core.Path.{◌∙◌}
-use Rattle.numbers.proofs.StartLaws.{most-le}
-use Rattle.lists.proofs.ListsLaws.{lists-same}
+use Rattle.numbers.proofs.StartLaws.{most_le}
+use Rattle.lists.proofs.ListsLaws.{lists_same}
 use borrow.Author.Rules.{rules}
 use Rattle.lists.proofs.checking.lists_right.Statement.{statement}
 use Rattle.lists.proofs.checking.lists_right.Tie as tie
@@ -17,7 +17,7 @@ all-right-requires : tie.Need-all-right-requires
 all-right-requires c κs =
     let s = c.before.before.before.before in
     let m = c.before.most.ensures in
-    (s.requires.2, omega (arith, m, most-le s.args.k s.requires.0), rw m s.requires.1)
+    (s.requires.2, omega (arith, m, most_le s.args.k s.requires.0), rw m s.requires.1)
 
 same_length : tie.Need-same-length
 same_length c = search rules
@@ -27,7 +27,7 @@ returns c =
     let a = c.before.before.before.before.before.before.before.args in
     let d = c.before.before.all_right.ensures in
     let m = c.before.before.before.before.most in
-    record { answer = d.answer ∙ lists-same a.k m.result a.counts a.values.now m.ensures; beyond = d.beyond }
+    record { answer = d.answer ∙ lists_same a.k m.result a.counts a.values.now m.ensures; beyond = d.beyond }
 
 pub lists-right-spec : {M : Type 1} → statement M
 lists-right-spec = tie.close (tie.spec most-requires cast-m all-right-requires same_length returns)

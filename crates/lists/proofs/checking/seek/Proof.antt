@@ -2,7 +2,7 @@
 -- are still ahead. The measure is the distance to a free slot. Assumes nothing.
 use native.Mathlib.Omega.{arith}
 use borrow.Author.Rules.{rules}
-use Rattle.lists.proofs.SlotsLaws.{Searching, distance, vacancy, begin, go_on, closer, sought-one, sought-none}
+use Rattle.lists.proofs.SlotsLaws.{Searching, distance, vacancy, begin, go_on, closer, sought_one, sought_none}
 use Rattle.lists.proofs.checking.seek.Statement.{statement}
 use Rattle.lists.proofs.checking.seek.Tie as tie
 
@@ -46,7 +46,7 @@ returns : tie.Need-returns invariant-loop decreases-loop
 returns c =
     let l = c.before.before.before in
     let s = l.before.before.before.before.before.before in
-    sought-one _ _ _ _ s.requires _ _ l.loop.invariant c.before.before.loop-test.true c.if1.true
+    sought_one _ _ _ _ s.requires _ _ l.loop.invariant c.before.before.loop-test.true c.if1.true
 
 next-requires : tie.Need-next-requires invariant-loop decreases-loop
 next-requires c κs = search rules
@@ -77,7 +77,7 @@ returns-2 : tie.Need-returns-2 invariant-loop decreases-loop
 returns-2 c =
     let l = c.before in
     let s = l.before.before.before.before.before.before in
-    sought-none _ _ _ _ s.requires _ _ l.loop.invariant c.loop-test.false
+    sought_none _ _ _ _ s.requires _ _ l.loop.invariant c.loop-test.false
 
 pub seek-spec : {M : Type 1} → statement M
 seek-spec =

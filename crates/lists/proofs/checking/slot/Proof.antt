@@ -4,7 +4,7 @@ use Prim.Native.Nat.{◌*◌, ◌%◌}
 use mathlib.Core.Path.{refl}
 use native.Mathlib.Omega.{arith}
 use native.Mathlib.Nat.{mod-lt}
-use Rattle.lists.proofs.SlotsLaws.{turned, scaled, slot-low}
+use Rattle.lists.proofs.SlotsLaws.{turned, scaled, slot_low}
 use borrow.Author.Rules.{rules}
 use Rattle.lists.proofs.checking.slot.Statement.{statement}
 use Rattle.lists.proofs.checking.slot.Tie as tie
@@ -20,7 +20,7 @@ mul-result c = record { fits = scaled _ _ (mod-lt _ (omega arith)) c.requires.1 
 
 returns : tie.Need-returns
 unfolding slot_of mixed
-returns c = (refl, slot-low c.args.size c.args.y c.requires.0)
+returns c = (refl, slot_low c.args.size c.args.y c.requires.0)
 
 pub slot-spec : {M : Type 1} → statement M
 slot-spec = tie.close (tie.spec mul_low mul-mixed mul-result returns)

@@ -8,8 +8,8 @@ use lib.ListN.{get_or}
 use borrow.Author.Count.{below_more}
 use borrow.Author.Tests.{lt-ltb, le-ltb}
 use Rattle.meaning.specs.Tables
-use Rattle.numbers.proofs.StartLaws.{most-le}
-use Rattle.lists.proofs.WritingLaws.{first-is}
+use Rattle.numbers.proofs.StartLaws.{most_le}
+use Rattle.lists.proofs.WritingLaws.{first_is}
 use borrow.Author.Rules.{rules}
 use Rattle.lists.proofs.writing.shortest.Statement.{statement}
 use Rattle.lists.proofs.writing.shortest.Tie as tie
@@ -24,7 +24,7 @@ most-requires : tie.Need-most-requires invariant-loop decreases-loop
 most-requires c κs = search rules
 
 add-numbers : tie.Need-overflow-add-numbers invariant-loop decreases-loop
-add-numbers c = let s = c.before in omega (arith, c.most.ensures, most-le s.args.k s.requires)
+add-numbers c = let s = c.before in omega (arith, c.most.ensures, most_le s.args.k s.requires)
 
 loop-holds : tie.Need-loop-init invariant-loop decreases-loop
 loop-holds c = (omega arith, λ i h. absurd (omega arith))
@@ -42,7 +42,7 @@ returns : tie.Need-returns invariant-loop decreases-loop
 returns c =
     let a = c.before.before.before.before.args in
     let l = c.before.before.loop in
-    sym (first-is 4 (λ v. ltb (Tables.most a.k) (get_or a.t2 v 0)) l.v (omega arith) l.invariant.1 (λ h. lt-ltb (Tables.most a.k) (get_or a.t2 l.v 0) (omega (arith, c.if1.true, c.before.before.before.most.ensures))))
+    sym (first_is 4 (λ v. ltb (Tables.most a.k) (get_or a.t2 v 0)) l.v (omega arith) l.invariant.1 (λ h. lt-ltb (Tables.most a.k) (get_or a.t2 l.v 0) (omega (arith, c.if1.true, c.before.before.before.most.ensures))))
 
 add-v : tie.Need-overflow-add-v invariant-loop decreases-loop
 add-v c = search rules
@@ -60,7 +60,7 @@ returns-2 : tie.Need-returns-2 invariant-loop decreases-loop
 returns-2 c =
     let a = c.before.before.before.args in
     let l = c.before.loop in
-    sym (first-is 4 (λ v. ltb (Tables.most a.k) (get_or a.t2 v 0)) 4 (omega arith) (λ i h. l.invariant.1 i (omega arith)) (λ h. absurd (omega arith)))
+    sym (first_is 4 (λ v. ltb (Tables.most a.k) (get_or a.t2 v 0)) 4 (omega arith) (λ i h. l.invariant.1 i (omega arith)) (λ h. absurd (omega arith)))
 
 pub shortest-spec : {M : Type 1} → statement M
 shortest-spec =

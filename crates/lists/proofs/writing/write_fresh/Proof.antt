@@ -5,23 +5,23 @@ use Prim.Native.Nat.{ℕ, ◌*◌, ◌≤◌, ◌<◌, ◌-◌}
 use mathlib.Core.Path.{◌≡◌, refl, sym, ◌∙◌}
 use lib.ListN.{length, get_or, length-map}
 use Rattle.meaning.specs.declared.Value.{Value}
-use Rattle.meaning.specs.Tables.{list_of, layValues}
-use Rattle.numbers.specs.Asking.{bare, withCounts}
-use Rattle.numbers.proofs.StartLaws.{most-le, list_length}
-use Rattle.lists.proofs.WritingLaws.{firstFresh, fresh-none, fresh-more, fresh-all}
+use Rattle.meaning.specs.Tables.{list_of, lay_values}
+use Rattle.numbers.specs.Asking.{bare, with_counts}
+use Rattle.numbers.proofs.StartLaws.{most_le, list_length}
+use Rattle.lists.proofs.WritingLaws.{first_fresh, fresh_none, fresh_more, fresh_all}
 use borrow.Author.Rules.{rules}
 use Rattle.lists.proofs.writing.write_fresh.Statement.{statement}
 use Rattle.lists.proofs.writing.write_fresh.Tie as tie
 
 abbrev invariant-loop : tie.invariant-loop
 invariant-loop k values₀ before m after fresh v₀ values v = (v ≤ 4) × (length values ≡ length values₀)
-    × (values ≡ layValues k (firstFresh before after (bare fresh) (list_of k (withCounts before) values₀) (24 * v)))
+    × (values ≡ lay_values k (first_fresh before after (bare fresh) (list_of k (with_counts before) values₀) (24 * v)))
 
 abbrev decreases-loop : tie.decreases-loop
 decreases-loop k values₀ before m after fresh v₀ values v = 4 - v
 
 -- the lists before are as long as the counts say
-start : (s : tie.Start invariant-loop decreases-loop) (v : ℕ) → v < 4 → length (list_of s.args.k (withCounts s.args.t2) s.args.values.now v) ≡ get_or s.args.t2 v 0
+start : (s : tie.Start invariant-loop decreases-loop) (v : ℕ) → v < 4 → length (list_of s.args.k (with_counts s.args.t2) s.args.values.now v) ≡ get_or s.args.t2 v 0
 start s v h = list_length s.args.k s.args.t2 s.args.values.now v h s.requires.parts (omega (arith, s.requires.grown v h, s.requires.room v h))
 
 -- the array of fresh values
@@ -32,7 +32,7 @@ most-requires : tie.Need-most-requires invariant-loop decreases-loop
 most-requires c κs = c.before.requires.bits
 
 cast-m : tie.Need-overflow-cast-m invariant-loop decreases-loop
-cast-m c = let s = c.before.before in omega (arith, c.most.ensures, most-le s.args.k s.requires.bits)
+cast-m c = let s = c.before.before in omega (arith, c.most.ensures, most_le s.args.k s.requires.bits)
 
 loop-holds : tie.Need-loop-init invariant-loop decreases-loop
 loop-holds c =
@@ -40,7 +40,7 @@ loop-holds c =
     let a = s.args in (
       omega arith,
       refl,
-      sym (fresh-none a.k a.t2 a.asked.counts (bare a.asked.fresh) (list_of a.k (withCounts a.t2) a.values.now) (size s) (start s) s.requires.few s.requires.room s.requires.grown ∙ s.requires.laid),
+      sym (fresh_none a.k a.t2 a.asked.counts (bare a.asked.fresh) (list_of a.k (with_counts a.t2) a.values.now) (size s) (start s) s.requires.few s.requires.room s.requires.grown ∙ s.requires.laid),
     )
 
 mul-write-list : tie.Need-overflow-mul-write-list invariant-loop decreases-loop
@@ -61,7 +61,7 @@ write-list-requires c κs =
     let m = c.before.before.before.before.before.most.ensures in
     let l = c.before.before.loop in
     let v : l.v < 4 = omega (arith, c.before.loop-test.true) in
-    record { small = rw m (most-le s.args.k s.requires.bits); variable = v; parts = rw m (l.invariant.1 ∙ s.requires.parts); grown = s.requires.grown l.v v; few = s.requires.few l.v v; room = rw m (s.requires.room l.v v) }
+    record { small = rw m (most_le s.args.k s.requires.bits); variable = v; parts = rw m (l.invariant.1 ∙ s.requires.parts); grown = s.requires.grown l.v v; few = s.requires.few l.v v; room = rw m (s.requires.room l.v v) }
 
 add-v : tie.Need-overflow-add-v invariant-loop decreases-loop
 add-v c = search rules
@@ -79,7 +79,7 @@ loop-again c =
     let v : l.v < 4 = omega (arith, c.before.before.before.before.loop-test.true) in (
       omega arith,
       w.auto.1.1.1.1.0 ∙ l.invariant.1,
-      w.ensures ∙ rw m (fresh-more a.k a.t2 a.asked.counts (bare a.asked.fresh) (list_of a.k (withCounts a.t2) a.values.now) (size s) (start s) s.requires.few s.requires.room s.requires.grown l.v l.values v l.invariant.2),
+      w.ensures ∙ rw m (fresh_more a.k a.t2 a.asked.counts (bare a.asked.fresh) (list_of a.k (with_counts a.t2) a.values.now) (size s) (start s) s.requires.few s.requires.room s.requires.grown l.v l.values v l.invariant.2),
     )
 
 same_length : tie.Need-same-length invariant-loop decreases-loop
@@ -91,7 +91,7 @@ returns c =
     let a = s.args in
     let l = c.before.loop in
     let z : l.v ≡ 4 = omega (arith, c.loop-test.false) in
-    l.invariant.2 ∙ fresh-all a.k a.t2 a.asked.counts (bare a.asked.fresh) (list_of a.k (withCounts a.t2) a.values.now) (size s) (start s) s.requires.few s.requires.room s.requires.grown l.v z
+    l.invariant.2 ∙ fresh_all a.k a.t2 a.asked.counts (bare a.asked.fresh) (list_of a.k (with_counts a.t2) a.values.now) (size s) (start s) s.requires.few s.requires.room s.requires.grown l.v z
 
 pub write-fresh-spec : {M : Type 1} → statement M
 write-fresh-spec =

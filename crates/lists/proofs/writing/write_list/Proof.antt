@@ -5,8 +5,8 @@ use mathlib.Core.Path.{◌≡◌, refl, ◌∙◌}
 use lib.ListN.{length, length-set}
 use Rattle.lists.specs.Writing.{written}
 use Rattle.numbers.specs.Asking.{bare}
-use Rattle.numbers.proofs.PartLaws.{part-inside}
-use Rattle.lists.proofs.WritingLaws.{written_none, written-more}
+use Rattle.numbers.proofs.PartLaws.{part_inside}
+use Rattle.lists.proofs.WritingLaws.{written_none, written_more}
 use borrow.Author.Rules.{rules}
 use Rattle.lists.proofs.writing.write_list.Statement.{statement}
 use Rattle.lists.proofs.writing.write_list.Tie as tie
@@ -19,7 +19,7 @@ decreases-loop m b n values₀ v fresh at from many j₀ values j = n - b - j
 
 -- the list of v ends within the value slice
 inside : (s : tie.Start invariant-loop decreases-loop) → s.args.v * s.args.m + s.args.n ≤ 4 * s.args.m
-inside s = part-inside s.args.v s.args.m s.args.n s.requires.variable s.requires.room
+inside s = part_inside s.args.v s.args.m s.args.n s.requires.variable s.requires.room
 
 mul_at : tie.Need-overflow-mul-at invariant-loop decreases-loop
 mul_at c = let s = c in omega (arith, inside s, s.requires.small)
@@ -81,7 +81,7 @@ loop-again c =
     let l = c.before.before.loop in (
       omega (arith, c.before.loop-test.true),
       length-set l.values _ _ ∙ l.invariant.1,
-      written-more a.m a.b a.v l.j a.t4 a.values.now l.values l.invariant.2,
+      written_more a.m a.b a.v l.j a.t4 a.values.now l.values l.invariant.2,
     )
 
 same_length : tie.Need-same-length invariant-loop decreases-loop

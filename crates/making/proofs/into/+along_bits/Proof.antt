@@ -1,5 +1,5 @@
 -- `along_bits` meets its contract; the count falls. Assumes nothing.
-use Rattle.making.proofs.IntoLaws.{follow-leaf, follow-end, follow-even, follow-odd}
+use Rattle.making.proofs.IntoLaws.{follow_leaf, follow_end, follow_even, follow_odd}
 use native.Mathlib.Omega.{arith}
 use borrow.Author.Rules.{rules}
 use Prim.Native.Nat.{ℕ, ◌<◌}
@@ -27,10 +27,10 @@ module _ (t : ℕ) where
   calls = (sides-reads.Asked, sides-reads.Learnt, below t, own.Post)
 
   returns : lts.Need-returns calls (now-at t) own.Post
-  returns c = follow-leaf _ _ _ _ c.before.before.requires.1.1.0 c.if1.true
+  returns c = follow_leaf _ _ _ _ c.before.before.requires.1.1.0 c.if1.true
 
   returns-2 : lts.Need-returns-2 calls (now-at t) own.Post
-  returns-2 c = follow-end _ _ _ _ c.before.before.before.requires.1.1.0 c.if2.true
+  returns-2 c = follow_end _ _ _ _ c.before.before.before.requires.1.1.0 c.if2.true
 
   sides-requires : lts.Need-sides-requires calls (now-at t) own.Post
   sides-requires c κs = let s = c.before.before.before in (s.requires.1.0, s.requires.1.1.0)
@@ -51,7 +51,7 @@ module _ (t : ℕ) where
   returns-3 c =
       let past = c.before.before.before in
       let s = past.before.before.before in
-      follow-even _ _ _ _ s.requires.1.1.0 past.if2.false c.before.before.sides.ensures c.before.if3.true c.along-bits.ensures
+      follow_even _ _ _ _ s.requires.1.1.0 past.if2.false c.before.before.sides.ensures c.before.if3.true c.along-bits.ensures
 
   add-along-bits-2 : lts.Need-overflow-add-along-bits-2 calls (now-at t) own.Post
   add-along-bits-2 c = search rules
@@ -69,7 +69,7 @@ module _ (t : ℕ) where
   returns-4 c =
       let past = c.before.before.before in
       let s = past.before.before.before in
-      follow-odd _ _ _ _ s.requires.1.1.0 past.if2.false c.before.before.sides.ensures c.before.if3.false c.along-bits2.ensures
+      follow_odd _ _ _ _ s.requires.1.1.0 past.if2.false c.before.before.sides.ensures c.before.if3.false c.along-bits2.ensures
 
 pub +along-bits-spec : {M : Type 1} → statement M
 +along-bits-spec = close μ λ t. lts.spec (calls t) (now-at t) own.Post

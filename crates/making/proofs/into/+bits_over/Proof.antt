@@ -1,7 +1,7 @@
 -- `bits_over` meets its contract; the count falls. Assumes nothing.
-use Rattle.nodes.proofs.ReadLaws.{grown-ref, grown-count}
-use Rattle.making.proofs.NodesLaws.{shelved-same, shelved-then}
-use Rattle.making.proofs.IntoLaws.{bits-end, even-stuck, odd-stuck, bits-even, bits-odd}
+use Rattle.nodes.proofs.ReadLaws.{grown_ref, grown_count}
+use Rattle.making.proofs.NodesLaws.{shelved_same, shelved_then}
+use Rattle.making.proofs.IntoLaws.{bits_end, even_stuck, odd_stuck, bits_even, bits_odd}
 use native.Mathlib.Omega.{arith}
 use borrow.Author.Rules.{rules}
 use Prim.Native.Nat.{ℕ, ◌<◌}
@@ -32,7 +32,7 @@ module _ (t : ℕ) where
   returns : lts.Need-returns calls (now-at t) own.Post
   returns c =
       let s = c.before.before.before in
-      (bits-end s.requires.1.0.table _ _ _ _ _ s.requires.1.1.1 c.if1.true, shelved-same s.requires.1.0)
+      (bits_end s.requires.1.0.table _ _ _ _ _ s.requires.1.1.1 c.if1.true, shelved_same s.requires.1.0)
 
   sides-requires : lts.Need-sides-requires calls (now-at t) own.Post
   sides-requires c κs = let s = c.before.before.before.before in (s.requires.1.0.table, s.requires.1.1.0)
@@ -69,12 +69,12 @@ module _ (t : ℕ) where
       let at-sides = after.before.before.before.before in
       let past = at-sides.before.before in
       let s = past.before.before.before in
-      even-stuck s.requires.1.0.table _ _ _ _ past.if1.false at-sides.sides.ensures after.before.before.before.if2.true (rw c.enum_told.given.1 at after.bits-over.ensures)
+      even_stuck s.requires.1.0.table _ _ _ _ past.if1.false at-sides.sides.ensures after.before.before.before.if2.true (rw c.enum_told.given.1 at after.bits_over.ensures)
 
   make-requires : lts.Need-make-requires calls (now-at t) own.Post
   make-requires c κs =
-      let g = rw c.before.before.before.j.given.1 at c.before.before.before.before.before.before.before.before.before.bits-over.ensures in
-      (g.1.shelf, (grown-ref g.0, omega (arith, grown-count g.0, c.before.before.before.before.before.before.before.before.before.before.before.before.before.sides.ensures.high.below)))
+      let g = rw c.before.before.before.j.given.1 at c.before.before.before.before.before.before.before.before.before.bits_over.ensures in
+      (g.1.shelf, (grown_ref g.0, omega (arith, grown_count g.0, c.before.before.before.before.before.before.before.before.before.before.before.before.before.sides.ensures.high.below)))
 
   same-length-3 : lts.Need-same-length-3 calls (now-at t) own.Post
   same-length-3 c = search rules
@@ -89,9 +89,9 @@ module _ (t : ℕ) where
       let at-sides = after.before.before.before.before in
       let past = at-sides.before.before in
       let s = past.before.before.before in
-      let g = rw made.before.before.before.before.j.given.1 at after.bits-over.ensures in
-      shelved-then _ g.1.same made.make.new.1.0 _ made.make.new.0 _ _ made.make.result
-      (bits-even s.requires.1.0.table _ _ _ _ past.if1.false at-sides.sides.ensures _ made.make.new.0 made.make.result after.before.before.before.if2.true g.0 made.make.ensures)
+      let g = rw made.before.before.before.before.j.given.1 at after.bits_over.ensures in
+      shelved_then _ g.1.same made.make.new.1.0 _ made.make.new.0 _ _ made.make.result
+      (bits_even s.requires.1.0.table _ _ _ _ past.if1.false at-sides.sides.ensures _ made.make.new.0 made.make.result after.before.before.before.if2.true g.0 made.make.ensures)
 
   add-bits-over-2 : lts.Need-overflow-add-bits-over-2 calls (now-at t) own.Post
   add-bits-over-2 c = search rules
@@ -125,12 +125,12 @@ module _ (t : ℕ) where
       let at-sides = after.before.before.before.before in
       let past = at-sides.before.before in
       let s = past.before.before.before in
-      odd-stuck s.requires.1.0.table _ _ _ _ past.if1.false at-sides.sides.ensures after.before.before.before.if2.false (rw c.enum-told2.given.1 at after.bits-over2.ensures)
+      odd_stuck s.requires.1.0.table _ _ _ _ past.if1.false at-sides.sides.ensures after.before.before.before.if2.false (rw c.enum-told2.given.1 at after.bits-over2.ensures)
 
   make-requires-2 : lts.Need-make-requires-2 calls (now-at t) own.Post
   make-requires-2 c κs =
       let g = rw c.before.before.before.j2.given.1 at c.before.before.before.before.before.before.before.before.before.bits-over2.ensures in
-      (g.1.shelf, (omega (arith, grown-count g.0, c.before.before.before.before.before.before.before.before.before.before.before.before.before.sides.ensures.low.below), grown-ref g.0))
+      (g.1.shelf, (omega (arith, grown_count g.0, c.before.before.before.before.before.before.before.before.before.before.before.before.before.sides.ensures.low.below), grown_ref g.0))
 
   same-length-7 : lts.Need-same-length-7 calls (now-at t) own.Post
   same-length-7 c = search rules
@@ -146,8 +146,8 @@ module _ (t : ℕ) where
       let past = at-sides.before.before in
       let s = past.before.before.before in
       let g = rw made.before.before.before.before.j2.given.1 at after.bits-over2.ensures in
-      shelved-then _ g.1.same made.make2.new.1.0 _ made.make2.new.0 _ _ made.make2.result
-      (bits-odd s.requires.1.0.table _ _ _ _ past.if1.false at-sides.sides.ensures _ made.make2.new.0 made.make2.result after.before.before.before.if2.false g.0 made.make2.ensures)
+      shelved_then _ g.1.same made.make2.new.1.0 _ made.make2.new.0 _ _ made.make2.result
+      (bits_odd s.requires.1.0.table _ _ _ _ past.if1.false at-sides.sides.ensures _ made.make2.new.0 made.make2.result after.before.before.before.if2.false g.0 made.make2.ensures)
 
 pub +bits-over-spec : {M : Type 1} → statement M
 +bits-over-spec = close μ λ t. lts.spec (calls t) (now-at t) own.Post

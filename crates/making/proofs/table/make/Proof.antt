@@ -1,8 +1,8 @@
 -- `make` meets its contract. Assumes nothing.
 use native.Mathlib.Omega.{arith}
 use lib.ListN.{length-set}
-use Rattle.nodes.proofs.ReadLaws.{grown-ref}
-use Rattle.making.proofs.NodesLaws.{make-side, make-walk, make-found, make-stuck, make-new}
+use Rattle.nodes.proofs.ReadLaws.{grown_ref}
+use Rattle.making.proofs.NodesLaws.{make_side, make_walk, make_found, make_stuck, make_new}
 use borrow.Author.Rules.{rules}
 use Rattle.making.proofs.table.make.Statement.{statement}
 use Rattle.making.proofs.table.make.Tie as tie
@@ -10,7 +10,7 @@ use Rattle.making.proofs.table.make.Tie as tie
 returns : tie.Need-returns
 returns c =
     let s = c.before.before.before in
-    make-side s.requires.0 _ _ _ s.requires.1.0 s.requires.1.1 c.if1.true
+    make_side s.requires.0 _ _ _ s.requires.1.0 s.requires.1.1 c.if1.true
 
 mul-head : tie.Need-overflow-mul-head
 mul-head c = search rules
@@ -35,14 +35,14 @@ seek-requires c κs =
     let at_slot = c.before.before in
     let past = at_slot.before in
     let s = past.before.before.before in
-    make-walk s.requires.0 _ _ _ s.requires.1.0 s.requires.1.1 past.if1.false _ at_slot.slot.ensures.0 at_slot.slot.ensures.1
+    make_walk s.requires.0 _ _ _ s.requires.1.0 s.requires.1.1 past.if1.false _ at_slot.slot.ensures.0 at_slot.slot.ensures.1
 
 add-t21 : tie.Need-overflow-add-t21
 add-t21 c =
     let at_slot = c.before.before.before.before in
     let past = at_slot.before in
     let s = past.before.before.before in
-    omega (arith, grown-ref (make-found s.requires.0 _ _ _ s.requires.1.0 s.requires.1.1 past.if1.false _ at_slot.slot.ensures.0 at_slot.slot.ensures.1 c.before.seek.ensures c.if2.true).0, s.requires.0.table.fits, s.requires.0.table.small)
+    omega (arith, grown_ref (make_found s.requires.0 _ _ _ s.requires.1.0 s.requires.1.1 past.if1.false _ at_slot.slot.ensures.0 at_slot.slot.ensures.1 c.before.seek.ensures c.if2.true).0, s.requires.0.table.fits, s.requires.0.table.small)
 
 same_length : tie.Need-same-length
 same_length c = search rules
@@ -55,7 +55,7 @@ returns-2 c =
     let at_slot = c.before.before.before.before in
     let past = at_slot.before in
     let s = past.before.before.before in
-    make-found s.requires.0 _ _ _ s.requires.1.0 s.requires.1.1 past.if1.false _ at_slot.slot.ensures.0 at_slot.slot.ensures.1 c.before.seek.ensures c.if2.true
+    make_found s.requires.0 _ _ _ s.requires.1.0 s.requires.1.1 past.if1.false _ at_slot.slot.ensures.0 at_slot.slot.ensures.1 c.before.seek.ensures c.if2.true
 
 mul-i : tie.Need-overflow-mul-i
 mul-i c = search rules
@@ -75,7 +75,7 @@ returns-3 c =
     let at_slot = none.before.before.before.before in
     let past = at_slot.before in
     let s = past.before.before.before in
-    make-stuck s.requires.0 _ _ _ s.requires.1.0 s.requires.1.1 past.if1.false _ at_slot.slot.ensures.0 at_slot.slot.ensures.1 none.before.seek.ensures none.if2.false c.if3.true
+    make_stuck s.requires.0 _ _ _ s.requires.1.0 s.requires.1.1 past.if1.false _ at_slot.slot.ensures.0 at_slot.slot.ensures.1 none.before.seek.ensures none.if2.false c.if3.true
 
 mul-nodes : tie.Need-overflow-mul-nodes
 mul-nodes c = search rules
@@ -124,7 +124,7 @@ returns-4 c =
     let at_slot = none.before.before.before.before in
     let past = at_slot.before in
     let s = past.before.before.before in
-    rw joins.join.ensures (make-new s.requires.0 _ _ _ s.requires.1.0 s.requires.1.1 past.if1.false _ at_slot.slot.ensures.0 at_slot.slot.ensures.1 none.before.seek.ensures none.if2.false room.if3.false)
+    rw joins.join.ensures (make_new s.requires.0 _ _ _ s.requires.1.0 s.requires.1.1 past.if1.false _ at_slot.slot.ensures.0 at_slot.slot.ensures.1 none.before.seek.ensures none.if2.false room.if3.false)
 
 pub make_spec : {M : Type 1} → statement M
 make_spec =

@@ -2,9 +2,9 @@
 use mathlib.Core.Path.{refl, sym, ◌∙◌}
 use borrow.Author.Rules.{rules}
 use borrow.Author.Tests.{not-true, not-false}
-use Rattle.meaning.specs.Outcome.{judgeStart}
-use Rattle.monitor.specs.Decisions.{decisionOf}
-use Rattle.monitor.proofs.StartLaws.{k-small, joined}
+use Rattle.meaning.specs.Outcome.{judge_start}
+use Rattle.monitor.specs.Decisions.{decision_of}
+use Rattle.monitor.proofs.StartLaws.{k_small, joined}
 use Rattle.monitor.proofs.decide.judge.Statement.{statement}
 use Rattle.monitor.proofs.decide.judge.Tie as tie
 
@@ -12,14 +12,14 @@ k-right-requires : tie.Need-k-right-requires
 k-right-requires c κs = search rules
 
 returns : tie.Need-returns
-unfolding decisionOf judgeStart
-returns c = rw (sym c.before.k-right.ensures ∙ not-true _ c.if1.true) refl
+unfolding decision_of judge_start
+returns c = rw (sym c.before.k_is_right.ensures ∙ not-true _ c.if1.true) refl
 
 of-rule-requires : tie.Need-of-rule-requires
 of-rule-requires c κs = search rules
 
 lengths-right-requires : tie.Need-lengths-right-requires
-lengths-right-requires c κs = k-small _ (sym c.before.before.k-right.ensures ∙ not-false _ c.before.if1.false)
+lengths-right-requires c κs = k_small _ (sym c.before.before.k_is_right.ensures ∙ not-false _ c.before.if1.false)
 
 of-lengths-requires : tie.Need-of-lengths-requires
 of-lengths-requires c κs = search rules
@@ -30,7 +30,7 @@ first-requires c κs = search rules
 returns-2 : tie.Need-returns-2
 returns-2 c =
     let r = c.before.before.before in
-    rw (c.first.ensures, c.before.of-lengths.ensures, r.of-rule.ensures, c.before.before.lengths-right.ensures, sym r.before.before.k-right.ensures ∙ not-false _ r.before.if1.false) (joined _ _)
+    rw (c.first.ensures, c.before.of-lengths.ensures, r.of-rule.ensures, c.before.before.lengths_right.ensures, sym r.before.before.k_is_right.ensures ∙ not-false _ r.before.if1.false) (joined _ _)
 
 pub judge-spec : {M : Type 1} → statement M
 judge-spec =

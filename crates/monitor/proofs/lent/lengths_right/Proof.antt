@@ -1,25 +1,25 @@
 -- `monitor::lent::lengths_right` meets its contract: each return by the tests that led there. Assumes nothing.
 use native.Mathlib.Omega.{arith}
 use borrow.Author.Rules.{rules}
-use Rattle.numbers.proofs.StartLaws.{most-le}
-use Rattle.monitor.proofs.LentLaws.{parts-left, no_room, much-room, room}
+use Rattle.numbers.proofs.StartLaws.{most_le}
+use Rattle.monitor.proofs.LentLaws.{parts_left, no_room, much_room, room}
 use Rattle.monitor.proofs.lent.lengths_right.Statement.{statement}
 use Rattle.monitor.proofs.lent.lengths_right.Tie as tie
 
 returns : tie.Need-returns
-returns c = parts-left _ _ _ c.if1.true
+returns c = parts_left _ _ _ c.if1.true
 
 returns-2 : tie.Need-returns-2
 returns-2 c = no_room _ _ _ c.before.if1.false c.if2.true
 
 returns-3 : tie.Need-returns-3
-returns-3 c = much-room _ _ _ c.before.before.if1.false c.if3.true
+returns-3 c = much_room _ _ _ c.before.before.if1.false c.if3.true
 
 most-requires : tie.Need-most-requires
 most-requires c κs = search rules
 
 mul-result : tie.Need-overflow-mul-result
-mul-result c = omega (arith, c.most.ensures, most-le _ c.before.before.before.before.before.before.requires)
+mul-result c = omega (arith, c.most.ensures, most_le _ c.before.before.before.before.before.before.requires)
 
 cast-result : tie.Need-overflow-cast-result
 cast-result c = search rules

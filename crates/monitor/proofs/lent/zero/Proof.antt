@@ -2,7 +2,7 @@
 use Prim.Native.Nat.{◌-◌, ◌≤◌}
 use native.Mathlib.Omega.{arith}
 use lib.ListN.{length}
-use Rattle.monitor.proofs.LentLaws.{Cleared, clear-start, clear-more, clear-all}
+use Rattle.monitor.proofs.LentLaws.{Cleared, clear_start, clear_more, clear_all}
 use Rattle.monitor.proofs.lent.zero.Statement.{statement}
 use Rattle.monitor.proofs.lent.zero.Tie as tie
 
@@ -13,7 +13,7 @@ abbrev decreases-loop : tie.decreases-loop
 decreases-loop xs₀ i₀ xs i = length xs₀ - i
 
 loop-holds : tie.Need-loop-init invariant-loop decreases-loop
-loop-holds c = (omega arith, clear-start _)
+loop-holds c = (omega arith, clear_start _)
 
 mul-xs : tie.Need-overflow-mul-xs invariant-loop decreases-loop
 mul-xs c = omega arith
@@ -28,13 +28,13 @@ loop-less : tie.Need-loop-smaller invariant-loop decreases-loop
 loop-less c = omega arith
 
 loop-again : tie.Need-loop-preserved invariant-loop decreases-loop
-loop-again c = (omega arith, clear-more _ _ _ (omega arith) c.before.loop.invariant.1)
+loop-again c = (omega arith, clear_more _ _ _ (omega arith) c.before.loop.invariant.1)
 
 same_length : tie.Need-same-length invariant-loop decreases-loop
 same_length c = c.before.loop.invariant.1.size
 
 returns : tie.Need-returns invariant-loop decreases-loop
-returns c = clear-all _ _ _ c.loop-test.false c.before.loop.invariant.1
+returns c = clear_all _ _ _ c.loop-test.false c.before.loop.invariant.1
 
 pub zero-spec : {M : Type 1} → statement M
 zero-spec =

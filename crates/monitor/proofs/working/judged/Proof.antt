@@ -3,10 +3,10 @@ use mathlib.Core.Path.{refl, sym, ◌∙◌}
 use lib.ListN.{length-map}
 use borrow.Author.Rules.{rules}
 use borrow.Author.Tests.{not-true, not-false}
-use Rattle.monitor.proofs.StartLaws.{k-small}
-use Rattle.monitor.proofs.SaidLaws.{formed-turn, formed-looks}
-use Rattle.monitor.proofs.WorkedLaws.{askable, asking, refuses-5, refuses-6}
-use Rattle.monitor.proofs.NumberedLaws.{formed-numbers}
+use Rattle.monitor.proofs.StartLaws.{k_small}
+use Rattle.monitor.proofs.SaidLaws.{formed_turn, formed_looks}
+use Rattle.monitor.proofs.WorkedLaws.{askable, asking, refuses_5, refuses_6}
+use Rattle.monitor.proofs.NumberedLaws.{formed_numbers}
 use Rattle.monitor.proofs.working.judged.Statement.{statement}
 use Rattle.monitor.proofs.working.judged.Tie as tie
 
@@ -28,9 +28,9 @@ returns c =
     let test = refused.before.before.before.before.before in
     let first = test.before in
     let s = first.before.before.before.before.before in (
-      refuses-5 _ _ _ _ s.requires (sym first.agrees.ensures ∙ not-true _ test.if1.true) _ _ _ _
-          (formed-turn _ _ _ _ _ _ _ refused.refused-formed.ensures.0) refused.refused-formed.ensures.1 refl refl,
-      (formed-looks _ _ _ _ _ _ _ _ refused.refused-formed.ensures.0, formed-numbers _ _ _ _ _ _ _ _ refused.refused-formed.ensures.0),
+      refuses_5 _ _ _ _ s.requires (sym first.agrees.ensures ∙ not-true _ test.if1.true) _ _ _ _
+          (formed_turn _ _ _ _ _ _ _ refused.refused-formed.ensures.0) refused.refused-formed.ensures.1 refl refl,
+      (formed_looks _ _ _ _ _ _ _ _ refused.refused-formed.ensures.0, formed_numbers _ _ _ _ _ _ _ _ refused.refused-formed.ensures.0),
     )
 
 ask-requires : tie.Need-ask-requires
@@ -41,7 +41,7 @@ ask-requires c κs =
     askable _ _ _ _ s.requires (sym first.agrees.ensures ∙ not-false _ test.if1.false)
 
 shortest-requires : tie.Need-shortest-requires
-shortest-requires c κs = k-small _ c.before.before.before.before.before.before.before.before.before.before.requires.k-right
+shortest-requires c κs = k_small _ c.before.before.before.before.before.before.before.before.before.before.requires.k_is_right
 
 refused-formed-requires-2 : tie.Need-refused-formed-requires-2
 refused-formed-requires-2 c κs = search rules
@@ -63,9 +63,9 @@ returns-2 c =
     let test = ask.before.before.before in
     let first = test.before in
     let s = first.before.before.before.before.before in (
-      refuses-6 _ _ _ _ s.requires _ ask.ask.ensures (sym first.agrees.ensures ∙ not-false _ test.if1.false) _ short.before.shortest.ensures short.if2.true _ _ _ _
-          (formed-turn _ _ _ _ _ _ _ refused.refused-formed2.ensures.0) refused.refused-formed2.ensures.1 refl refl,
-      (formed-looks _ _ _ _ _ _ _ _ refused.refused-formed2.ensures.0, formed-numbers _ _ _ _ _ _ _ _ refused.refused-formed2.ensures.0),
+      refuses_6 _ _ _ _ s.requires _ ask.ask.ensures (sym first.agrees.ensures ∙ not-false _ test.if1.false) _ short.before.shortest.ensures short.if2.true _ _ _ _
+          (formed_turn _ _ _ _ _ _ _ refused.refused-formed2.ensures.0) refused.refused-formed2.ensures.1 refl refl,
+      (formed_looks _ _ _ _ _ _ _ _ refused.refused-formed2.ensures.0, formed_numbers _ _ _ _ _ _ _ _ refused.refused-formed2.ensures.0),
     )
 
 work-on-requires : tie.Need-work-on-requires

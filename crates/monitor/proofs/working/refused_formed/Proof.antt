@@ -2,7 +2,7 @@
 use mathlib.Core.Path.{ap, sym, ◌∙◌}
 use borrow.Author.Rules.{rules}
 use Rattle.diagram.specs.declared.Formed.{Formed}
-use Rattle.monitor.specs.Events.{formedSaid}
+use Rattle.monitor.specs.Events.{formed_said}
 use Rattle.monitor.proofs.working.refused_formed.Statement.{statement}
 use Rattle.monitor.proofs.working.refused_formed.Tie as tie
 
@@ -31,31 +31,31 @@ same_length : tie.Need-same-length
 same_length c = search rules
 
 returns : tie.Need-returns
-unfolding formedSaid
+unfolding formed_said
 returns c =
     let f = c.before.before.before.before.before in
     let s = f.before.before.before.before in
-    (c.refused.ensures ∙ sym (ap (λ (y : Formed). formedSaid y s.args.figures s.args.number s.args.place) (sym f.well-formed-2.ensures.result ∙ c.before.enum_told.given.1)), f.well-formed-2.ensures.work)
+    (c.refused.ensures ∙ sym (ap (λ (y : Formed). formed_said y s.args.figures s.args.number s.args.place) (sym f.well-formed-2.ensures.result ∙ c.before.enum_told.given.1)), f.well-formed-2.ensures.work)
 
 same-length-2 : tie.Need-same-length-2
 same-length-2 c = search rules
 
 returns-2 : tie.Need-returns-2
-unfolding formedSaid
+unfolding formed_said
 returns-2 c =
     let f = c.before.before.before.before.before in
     let s = f.before.before.before.before in
-    (c.refused2.ensures ∙ sym (ap (λ (y : Formed). formedSaid y s.args.figures s.args.number s.args.place) (sym f.well-formed-2.ensures.result ∙ c.before.enum-told2.given.1)), f.well-formed-2.ensures.work)
+    (c.refused2.ensures ∙ sym (ap (λ (y : Formed). formed_said y s.args.figures s.args.number s.args.place) (sym f.well-formed-2.ensures.result ∙ c.before.enum-told2.given.1)), f.well-formed-2.ensures.work)
 
 same-length-3 : tie.Need-same-length-3
 same-length-3 c = search rules
 
 returns-3 : tie.Need-returns-3
-unfolding formedSaid
+unfolding formed_said
 returns-3 c =
     let f = c.before.before.before.before.before in
     let s = f.before.before.before.before in
-    (c.refused3.ensures ∙ sym (ap (λ (y : Formed). formedSaid y s.args.figures s.args.number s.args.place) (sym f.well-formed-2.ensures.result ∙ c.before.enum-told3.given.1)), f.well-formed-2.ensures.work)
+    (c.refused3.ensures ∙ sym (ap (λ (y : Formed). formed_said y s.args.figures s.args.number s.args.place) (sym f.well-formed-2.ensures.result ∙ c.before.enum-told3.given.1)), f.well-formed-2.ensures.work)
 
 pub refused-formed-spec : {M : Type 1} → statement M
 refused-formed-spec =

@@ -1,7 +1,7 @@
 -- `monitor::working::taken` meets its contract: it is what is said. Assumes nothing.
 use mathlib.Core.Path.{refl}
 use borrow.Author.Rules.{rules}
-use Rattle.monitor.specs.Said.{takenSaid}
+use Rattle.monitor.specs.Said.{taken_said}
 use Rattle.monitor.proofs.working.taken.Statement.{statement}
 use Rattle.monitor.proofs.working.taken.Tie as tie
 
@@ -18,7 +18,7 @@ element-copy-out-yes : tie.Need-element-copy-out-yes
 element-copy-out-yes c = search rules
 
 returns : tie.Need-returns
-unfolding takenSaid
+unfolding taken_said
 returns c = refl
 
 pub taken-spec : {M : Type 1} → statement M

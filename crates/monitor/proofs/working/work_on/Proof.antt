@@ -2,14 +2,14 @@
 use mathlib.Core.Path.{◌≡◌, refl, sym, ◌∙◌}
 use lib.ListN.{length, length-map}
 use borrow.Author.Rules.{rules}
-use Rattle.monitor.proofs.SaidLaws.{kept-turn, taken-turn, kept-looks, taken-looks}
-use Rattle.monitor.proofs.WorkedLaws.{few-facts, rows_few, writes, takes, refuses-full, refuses-bad, never-unfit, looks}
-use Rattle.monitor.proofs.NumberedLaws.{kept-numbers, grown, taken-numbers}
+use Rattle.monitor.proofs.SaidLaws.{kept_turn, taken_turn, kept_looks, taken_looks}
+use Rattle.monitor.proofs.WorkedLaws.{few_facts, rows_few, writes, takes, refuses_full, refuses_bad, never_unfit, looks}
+use Rattle.monitor.proofs.NumberedLaws.{kept_numbers, grown, taken_numbers}
 use Rattle.monitor.proofs.working.work_on.Statement.{statement}
 use Rattle.monitor.proofs.working.work_on.Tie as tie
 
 step-requires : tie.Need-step-requires
-step-requires c κs = let s = c.before.before.before.before.before.before.before.before.before.before in (s.requires.listed.rule-right, few-facts _ _ s.requires.count-right, sym (length-map s.args.asked.given _) ∙ s.well-formed.1.1.1.1.1.1.1.1.1.0.1.1.1.1.0.1.0.1, s.requires.listed.refs, s.requires.listed.sizes)
+step-requires c κs = let s = c.before.before.before.before.before.before.before.before.before.before in (s.requires.listed.rule_right, few_facts _ _ s.requires.count_is_right, sym (length-map s.args.asked.given _) ∙ s.well-formed.1.1.1.1.1.1.1.1.1.0.1.1.1.1.0.1.0.1, s.requires.listed.refs, s.requires.listed.sizes)
 
 enum-known-told : tie.Need-enum-known-told
 enum-known-told c = search rules
@@ -62,8 +62,8 @@ returns c =
     let did = step.step.ensures in
     let four : length s.args.asked.counts ≡ 4 = sym (length-map s.args.asked.counts _) ∙ s.well-formed.1.1.1.1.1.1.1.1.1.0.1.1.0.1.0.1 in (
       takes _ _ _ _ _ s.requires _ _ _ _ _ did.0 _ _ told.told.given.1 four _ _
-          (taken-turn _ _ _ _ _ _ _ _ _ _ _ _ _ c.taken.ensures) c.before.before.before.before.before.before.write-fresh.ensures,
-      (taken-looks _ _ _ _ _ _ _ _ _ _ _ _ c.taken.ensures (looks _ _ _ _ _ s.requires _ _ _ _ _ did.0 _ _ told.told.given.1 _ _ did.1), taken-numbers _ _ _ _ _ s.requires _ _ _ _ _ _ _ _ _ c.taken.ensures c.before.before.newly.ensures),
+          (taken_turn _ _ _ _ _ _ _ _ _ _ _ _ _ c.taken.ensures) c.before.before.before.before.before.before.write-fresh.ensures,
+      (taken_looks _ _ _ _ _ _ _ _ _ _ _ _ c.taken.ensures (looks _ _ _ _ _ s.requires _ _ _ _ _ did.0 _ _ told.told.given.1 _ _ did.1), taken_numbers _ _ _ _ _ s.requires _ _ _ _ _ _ _ _ _ c.taken.ensures c.before.before.newly.ensures),
     )
 
 same-length-4 : tie.Need-same-length-4
@@ -76,8 +76,8 @@ returns-2 : tie.Need-returns-2
 returns-2 c =
     let step = c.before.before.before.before.before.before.before in
     let did = step.step.ensures in (
-      refuses-full _ _ _ _ _ step.before.before.before.before.before.before.before.before.before.before.before.requires _ _ _ _ _ did.0 _ _ c.before.enum_told.given.1 (kept-turn _ _ _ _ _ _ _ _ c.refused.ensures) refl,
-      (kept-looks _ _ _ _ _ _ _ c.refused.ensures, kept-numbers _ _ _ _ _ _ _ c.refused.ensures),
+      refuses_full _ _ _ _ _ step.before.before.before.before.before.before.before.before.before.before.before.requires _ _ _ _ _ did.0 _ _ c.before.enum_told.given.1 (kept_turn _ _ _ _ _ _ _ _ c.refused.ensures) refl,
+      (kept_looks _ _ _ _ _ _ _ c.refused.ensures, kept_numbers _ _ _ _ _ _ _ c.refused.ensures),
     )
 
 same-length-6 : tie.Need-same-length-6
@@ -90,8 +90,8 @@ returns-3 : tie.Need-returns-3
 returns-3 c =
     let step = c.before.before.before.before.before.before.before in
     let did = step.step.ensures in (
-      refuses-bad _ _ _ _ _ step.before.before.before.before.before.before.before.before.before.before.before.requires _ _ _ _ _ did.0 _ _ c.before.enum-told2.given.1 (kept-turn _ _ _ _ _ _ _ _ c.refused2.ensures) refl,
-      (kept-looks _ _ _ _ _ _ _ c.refused2.ensures, kept-numbers _ _ _ _ _ _ _ c.refused2.ensures),
+      refuses_bad _ _ _ _ _ step.before.before.before.before.before.before.before.before.before.before.before.requires _ _ _ _ _ did.0 _ _ c.before.enum-told2.given.1 (kept_turn _ _ _ _ _ _ _ _ c.refused2.ensures) refl,
+      (kept_looks _ _ _ _ _ _ _ c.refused2.ensures, kept_numbers _ _ _ _ _ _ _ c.refused2.ensures),
     )
 
 same-length-8 : tie.Need-same-length-8
@@ -104,7 +104,7 @@ returns-4 : tie.Need-returns-4
 returns-4 c =
     let step = c.before.before.before.before.before.before.before in
     let did = step.step.ensures in
-    never-unfit _ _ _ _ _ step.before.before.before.before.before.before.before.before.before.before.before.requires _ _ _ _ _ did.0 c.before.enum-told3.given.1
+    never_unfit _ _ _ _ _ step.before.before.before.before.before.before.before.before.before.before.before.requires _ _ _ _ _ did.0 c.before.enum-told3.given.1
 
 pub work-on-spec : {M : Type 1} → statement M
 work-on-spec =

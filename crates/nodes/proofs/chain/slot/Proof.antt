@@ -4,7 +4,7 @@ use mathlib.Core.Path.{refl}
 use native.Mathlib.Omega.{arith}
 use borrow.Author.Rules.{rules}
 use Rattle.nodes.specs.Chains.{spread}
-use Rattle.nodes.proofs.ChainLaws.{share-fits, share-below}
+use Rattle.nodes.proofs.ChainLaws.{share_fits, share_below}
 use Rattle.nodes.proofs.chain.slot.Statement.{statement}
 use Rattle.nodes.proofs.chain.slot.Tie as tie
 
@@ -29,11 +29,11 @@ mixed c = c.args.a * 625341585 + c.args.b * 668265263 + c.args.c * 374761393
 
 mul-result : tie.Need-overflow-mul-result
 unfolding mixed
-mul-result c = omega (arith, share-fits (mixed c) c.args.size c.requires.1)
+mul-result c = omega (arith, share_fits (mixed c) c.args.size c.requires.1)
 
 returns : tie.Need-returns
 unfolding spread mixed
-returns c = (share-below (mixed c) 4294967296 c.args.size (omega arith) c.requires.0, refl)
+returns c = (share_below (mixed c) 4294967296 c.args.size (omega arith) c.requires.0, refl)
 
 pub slot-spec : {M : Type 1} → statement M
 slot-spec =

@@ -3,12 +3,12 @@ use Prim.Native.Nat.{ℕ, ◌-◌, ◌≤◌, ◌<◌}
 use mathlib.Core.Path.{◌≡◌, sym, ◌∙◌}
 use native.Mathlib.Omega.{arith}
 use lib.ListN.{length, get_or, length-map}
-use Rattle.meaning.specs.Rows.{ruleOf}
+use Rattle.meaning.specs.Rows.{rule_of}
 use Rattle.numbers.specs.Asking.{Parted, part_of}
-use Rattle.numbers.proofs.PartLaws.{part-size}
-use Rattle.numbers.proofs.StartLaws.{most-le}
-use Rattle.numbers.proofs.FactsLaws.{Going, going-none, going-steady, going_next}
-use Rattle.numbers.proofs.AskedLaws.{eight, three, facts-inside, fact-is, asks-all}
+use Rattle.numbers.proofs.PartLaws.{part_size}
+use Rattle.numbers.proofs.StartLaws.{most_le}
+use Rattle.numbers.proofs.FactsLaws.{Going, going_none, going_steady, going_next}
+use Rattle.numbers.proofs.AskedLaws.{eight, three, facts_inside, fact_is, asks_all}
 use borrow.Author.Rules.{rules}
 use Rattle.numbers.proofs.asking.ask.Statement.{statement}
 use Rattle.numbers.proofs.asking.ask.Tie as tie
@@ -28,15 +28,15 @@ facts s = sym (length-map s.args.t5.facts _) ∙ s.well-formed.1.1.1.1.0.1.1.1.0
 
 -- every count is small
 counts-small : (s : tie.Start invariant-loop decreases-loop) (v : ℕ) → v < 4 → get_or s.args.before v 0 ≤ 1023
-counts-small s v h = omega (arith, s.requires.counts v h, most-le s.args.k s.requires.bits)
+counts-small s v h = omega (arith, s.requires.counts v h, most_le s.args.k s.requires.bits)
 
 -- the parts of the value slice
 parted : (c : tie.After-most invariant-loop decreases-loop) → let s = c.before.before.before in Parted c.most.result s.args.before s.args.values.now
 parted c =
     let s = c.before.before.before in
     record {
-      small = rw c.most.ensures (most-le s.args.k s.requires.bits);
-      counts-fit = λ v h. rw c.most.ensures (s.requires.counts v h);
+      small = rw c.most.ensures (most_le s.args.k s.requires.bits);
+      counts_fit = λ v h. rw c.most.ensures (s.requires.counts v h);
       whole = rw c.most.ensures s.requires.parts;
     }
 
@@ -46,7 +46,7 @@ most-requires c κs = c.before.before.requires.bits
 cast-m : tie.Need-overflow-cast-m invariant-loop decreases-loop
 cast-m c =
     let s = c.before.before.before in
-    omega (arith, c.most.ensures, most-le s.args.k s.requires.bits)
+    omega (arith, c.most.ensures, most_le s.args.k s.requires.bits)
 
 cast-n : tie.Need-overflow-cast-n invariant-loop decreases-loop
 cast-n c = search rules
@@ -56,7 +56,7 @@ loop-holds c =
     let s = c.before.before.before in
     let a = s.args in (
       omega arith,
-      going-none a.before (part_of c.most.result a.before a.values.now) a.rows.now a.t5 (four s) (part-size c.most.result a.before a.values.now (parted c)),
+      going_none a.before (part_of c.most.result a.before a.values.now) a.rows.now a.t5 (four s) (part_size c.most.result a.before a.values.now (parted c)),
     )
 
 mul-fact : tie.Need-overflow-mul-fact invariant-loop decreases-loop
@@ -65,7 +65,7 @@ mul-fact c = search rules
 element-copy-out-fact : tie.Need-element-copy-out-fact invariant-loop decreases-loop
 element-copy-out-fact c =
     let s = c.before.before.before.before.before in
-    omega (arith, c.loop-test.true, eight s.args.t5 (ruleOf s.args.rows.now) s.requires.agreed)
+    omega (arith, c.loop-test.true, eight s.args.t5 (rule_of s.args.rows.now) s.requires.agreed)
 
 slice-aggregate-ask-fact : tie.Need-slice-aggregate-ask-fact invariant-loop decreases-loop
 slice-aggregate-ask-fact c = search rules
@@ -76,17 +76,17 @@ ask-fact-requires c κs =
     let a = s.args in
     let l = c.before.before.before.before.loop in
     let h : l.f < a.t5.count = omega (arith, c.before.before.before.loop-test.true) in
-    let n = eight a.t5 (ruleOf a.rows.now) s.requires.agreed in (
-      going-steady a.before (part_of c.before.before.before.before.before.most.result a.before a.values.now) a.rows.now a.t5 l.f l.t.counts l.fresh l.t.given l.invariant.1 (omega arith) (counts-small s),
+    let n = eight a.t5 (rule_of a.rows.now) s.requires.agreed in (
+      going_steady a.before (part_of c.before.before.before.before.before.most.result a.before a.values.now) a.rows.now a.t5 l.f l.t.counts l.fresh l.t.given l.invariant.1 (omega arith) (counts-small s),
       parted c.before.before.before.before.before,
       s.requires.checked,
-      three a.t5 l.f h (omega (arith, facts s)) (ruleOf a.rows.now) _ s.requires.agreed,
+      three a.t5 l.f h (omega (arith, facts s)) (rule_of a.rows.now) _ s.requires.agreed,
     )
 
 tell-requires : tie.Need-tell-requires invariant-loop decreases-loop
 tell-requires c κs =
     let s = c.before.before.before.before.before.before.before.before.before.before in
-    omega (arith, c.before.before.before.before.before.loop-test.true, eight s.args.t5 (ruleOf s.args.rows.now) s.requires.agreed)
+    omega (arith, c.before.before.before.before.before.loop-test.true, eight s.args.t5 (rule_of s.args.rows.now) s.requires.agreed)
 
 add-f : tie.Need-overflow-add-f invariant-loop decreases-loop
 add-f c = search rules
@@ -100,10 +100,10 @@ loop-again c =
     let a = s.args in
     let l = c.before.before.before.before.before.before.before.loop in
     let h : l.f < a.t5.count = omega (arith, c.before.before.before.before.before.before.loop-test.true) in
-    let n = eight a.t5 (ruleOf a.rows.now) s.requires.agreed in
+    let n = eight a.t5 (rule_of a.rows.now) s.requires.agreed in
     let all : a.t5.count ≤ length a.t5.facts = omega (arith, facts s) in (
       omega arith,
-      rw c.tell.ensures.0 (going_next a.before (part_of c.before.before.before.before.before.before.before.before.most.result a.before a.values.now) a.rows.now a.t5 l.f l.t.counts l.fresh l.t.given l.invariant.1 (omega arith) (facts-inside a.t5 l.f h all) _ (fact-is a.t5 l.f h all _) _ _ _ _ c.before.before.ask-fact.ensures c.tell.ensures.1),
+      rw c.tell.ensures.0 (going_next a.before (part_of c.before.before.before.before.before.before.before.before.most.result a.before a.values.now) a.rows.now a.t5 l.f l.t.counts l.fresh l.t.given l.invariant.1 (omega arith) (facts_inside a.t5 l.f h all) _ (fact_is a.t5 l.f h all _) _ _ _ _ c.before.before.ask-fact.ensures c.tell.ensures.1),
     )
 
 slice-aggregate-as-values : tie.Need-slice-aggregate-as-values invariant-loop decreases-loop
@@ -117,7 +117,7 @@ returns c =
     let s = c.before.before.before.before.before.before.before.before.before in
     let a = s.args in
     let l = c.before.before.before.before.before.loop in
-    asks-all a.k c.before.before.before.before.before.before.most.result a.before a.values.now a.rows.now a.t5 _ l.fresh l.f s.requires c.before.before.before.before.before.before.most.ensures (four s) (omega (arith, c.before.before.before.before.loop-test.false)) c.as_values.ensures l.invariant.1
+    asks_all a.k c.before.before.before.before.before.before.most.result a.before a.values.now a.rows.now a.t5 _ l.fresh l.f s.requires c.before.before.before.before.before.before.most.ensures (four s) (omega (arith, c.before.before.before.before.loop-test.false)) c.as_values.ensures l.invariant.1
 
 pub ask-spec : {M : Type 1} → statement M
 ask-spec =

@@ -3,7 +3,7 @@ use native.Mathlib.Omega.{arith}
 use lib.ListN.{get_or}
 use Rattle.meaning.specs.Outcome.{fact_of}
 use Rattle.numbers.specs.Asking.{sheet, part_of}
-use Rattle.numbers.proofs.WalkLaws.{one-constant, one-variable}
+use Rattle.numbers.proofs.WalkLaws.{one_constant, one_variable}
 use borrow.Author.Rules.{rules}
 use Rattle.numbers.proofs.asking.ask_argument.Statement.{statement}
 use Rattle.numbers.proofs.asking.ask_argument.Tie as tie
@@ -30,7 +30,7 @@ returns : tie.Need-returns
 returns c =
     let s = c.before.before.before.before.before in
     let a = s.args in
-    one-constant a.before (part_of a.m a.before a.values.now) (fact_of a.fact).values a.rows.now a.i a.j (get_or (fact_of a.fact).values a.j 0) (sheet a.a.counts a.fresh.now a.a.numbers) s.requires.0 c.if1.true
+    one_constant a.before (part_of a.m a.before a.values.now) (fact_of a.fact).values a.rows.now a.i a.j (get_or (fact_of a.fact).values a.j 0) (sheet a.a.counts a.fresh.now a.a.numbers) s.requires.0 c.if1.true
 
 mul-v : tie.Need-overflow-mul-v
 mul-v c = search rules
@@ -67,7 +67,7 @@ returns-2 : tie.Need-returns-2
 returns-2 c =
     let s = c.before.before.before.before.before.before.before.before.before.before in
     let a = s.args in
-    one-variable a.before (part_of a.m a.before a.values.now) (fact_of a.fact).values a.rows.now a.i a.j (get_or (fact_of a.fact).values a.j 0) (sheet a.a.counts a.fresh.now a.a.numbers) _ c.before.before.before.before.before.if1.false c.before.before.note.ensures
+    one_variable a.before (part_of a.m a.before a.values.now) (fact_of a.fact).values a.rows.now a.i a.j (get_or (fact_of a.fact).values a.j 0) (sheet a.a.counts a.fresh.now a.a.numbers) _ c.before.before.before.before.before.if1.false c.before.before.note.ensures
 
 pub ask-argument-spec : {M : Type 1} → statement M
 ask-argument-spec =

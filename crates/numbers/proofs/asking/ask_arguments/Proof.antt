@@ -4,18 +4,18 @@ use native.Mathlib.Omega.{arith}
 use Prim.Native.Nat.{◌≤◌, ◌-◌}
 use mathlib.Core.Path.{sym, ◌∙◌}
 use lib.ListN.{take}
-use Rattle.meaning.specs.Numbering.{askArguments}
+use Rattle.meaning.specs.Numbering.{ask_arguments}
 use Rattle.meaning.specs.Outcome.{fact_of}
-use Rattle.numbers.specs.Matching.{argumentsOf}
+use Rattle.numbers.specs.Matching.{arguments_of}
 use Rattle.numbers.specs.Asking.{sheet, Carried, AtPlaces, part_of}
-use Rattle.numbers.proofs.WalkLaws.{arguments-none, arguments-more, arguments-all}
+use Rattle.numbers.proofs.WalkLaws.{arguments_none, arguments_more, arguments_all}
 use borrow.Author.Rules.{rules}
 use Rattle.numbers.proofs.asking.ask_arguments.Statement.{statement}
 use Rattle.numbers.proofs.asking.ask_arguments.Tie as tie
 
 abbrev invariant-loop : tie.invariant-loop
 invariant-loop m before fresh₀ values rows i fact n a₀ j₀ fresh a j = (j ≤ fact.count)
-    × Carried before (part_of m before values) (fact_of fact).values (λ M. askArguments M (take j (argumentsOf rows i fact.count)) (take j (fact_of fact).values)) (AtPlaces rows i j)
+    × Carried before (part_of m before values) (fact_of fact).values (λ M. ask_arguments M (take j (arguments_of rows i fact.count)) (take j (fact_of fact).values)) (AtPlaces rows i j)
     (sheet a₀.counts fresh₀ a₀.numbers) (sheet a.counts fresh a.numbers)
 
 abbrev decreases-loop : tie.decreases-loop
@@ -29,7 +29,7 @@ loop-holds c =
     let s = c.before.before.before.before in
     let a = s.args in (
       omega arith,
-      arguments-none a.before (part_of a.m a.before a.values.now) (fact_of a.fact).values a.rows.now a.i (argumentsOf a.rows.now a.i a.fact.count) (sheet a.asked.counts a.fresh.now a.asked.numbers) s.requires.0,
+      arguments_none a.before (part_of a.m a.before a.values.now) (fact_of a.fact).values a.rows.now a.i (arguments_of a.rows.now a.i a.fact.count) (sheet a.asked.counts a.fresh.now a.asked.numbers) s.requires.0,
     )
 
 ask-argument-requires : tie.Need-ask-argument-requires invariant-loop decreases-loop
@@ -49,7 +49,7 @@ loop-again c =
     let a = s.args in
     let l = c.before.before.before.before.before.loop in (
       omega arith,
-      arguments-more a.before (part_of a.m a.before a.values.now) a.rows.now a.i a.fact s.requires.2.readable l.j _ _ _ (omega arith) l.invariant.1 c.before.before.ask-argument.ensures,
+      arguments_more a.before (part_of a.m a.before a.values.now) a.rows.now a.i a.fact s.requires.2.readable l.j _ _ _ (omega arith) l.invariant.1 c.before.before.ask-argument.ensures,
     )
 
 same_length : tie.Need-same-length invariant-loop decreases-loop
@@ -63,7 +63,7 @@ returns c =
     let s = c.before.before.before.before.before.before in
     let a = s.args in
     let l = c.before.loop in
-    arguments-all a.before (part_of a.m a.before a.values.now) a.rows.now a.i a.fact s.requires.2.readable l.j _ _ (omega arith) l.invariant.1
+    arguments_all a.before (part_of a.m a.before a.values.now) a.rows.now a.i a.fact s.requires.2.readable l.j _ _ (omega arith) l.invariant.1
 
 pub ask-arguments-spec : {M : Type 1} → statement M
 ask-arguments-spec =

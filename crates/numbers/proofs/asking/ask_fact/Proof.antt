@@ -5,19 +5,19 @@ use mathlib.Core.Path.{◌≡◌, sym, ◌∙◌}
 use mathlib.Core.Bool.{true}
 use native.Mathlib.Omega.{arith}
 use lib.ListN.{length}
-use Rattle.meaning.specs.Rows.{row_at, rowCount, ruleOf}
+use Rattle.meaning.specs.Rows.{row_at, count_of_rows, rule_of}
 use Rattle.meaning.specs.Outcome.{fact_of}
-use Rattle.numbers.specs.Matching.{matchesRow, Sized}
-use Rattle.numbers.specs.Asking.{sheet, nothingGiven, part_of}
+use Rattle.numbers.specs.Matching.{matches_row, Sized}
+use Rattle.numbers.specs.Asking.{sheet, nothing_given, part_of}
 use Rattle.numbers.proofs.MatchingLaws.{sized_of}
-use Rattle.numbers.proofs.WalkLaws.{Rows, rows_none, rows-to, rows_next, asking-of}
-use Rattle.numbers.proofs.StartLaws.{row-right}
+use Rattle.numbers.proofs.WalkLaws.{Rows, rows_none, rows_to, rows_next, asking_of}
+use Rattle.numbers.proofs.StartLaws.{row_right_law}
 use borrow.Author.Rules.{rules}
 use Rattle.numbers.proofs.asking.ask_fact.Statement.{statement}
 use Rattle.numbers.proofs.asking.ask_fact.Tie as tie
 
 abbrev invariant-loop : tie.invariant-loop
-invariant-loop m before fresh₀ values rows fact n a₀ i₀ fresh a i = (i ≤ length rows / 9) × (i < length rows / 9 → matchesRow (fact_of fact) (row_at rows i) ≡ true)
+invariant-loop m before fresh₀ values rows fact n a₀ i₀ fresh a i = (i ≤ length rows / 9) × (i < length rows / 9 → matches_row (fact_of fact) (row_at rows i) ≡ true)
     × Rows before (part_of m before values) rows fact i (sheet a₀.counts fresh₀ a₀.numbers) (sheet a.counts fresh a.numbers)
 
 abbrev decreases-loop : tie.decreases-loop
@@ -35,10 +35,10 @@ loop-holds c =
     let s = c.before.before.before.before in
     let a = s.args in
     let n = c.next-match.ensures in
-    let z = sheet a.counts a.fresh.now nothingGiven in (
+    let z = sheet a.counts a.fresh.now nothing_given in (
       n.within (omega arith),
       n.matches,
-      rows-to a.before (part_of a.m a.before a.values.now) a.rows.now a.fact 0 c.next-match.result z z n (rows_none a.before (part_of a.m a.before a.values.now) a.rows.now a.fact z s.requires.0),
+      rows_to a.before (part_of a.m a.before a.values.now) a.rows.now a.fact 0 c.next-match.result z z n (rows_none a.before (part_of a.m a.before a.values.now) a.rows.now a.fact z s.requires.0),
     )
 
 ask-arguments-requires : tie.Need-ask-arguments-requires invariant-loop decreases-loop
@@ -49,7 +49,7 @@ ask-arguments-requires c κs =
     let inside : l.i < length a.rows.now / 9 = omega arith in (
       l.invariant.2.steady,
       s.requires.1,
-      asking-of a.rows.now l.i a.fact (record { inside = inside; sized = sized s }) (row-right a.rows.now l.i s.requires.2 inside) (l.invariant.1 inside),
+      asking_of a.rows.now l.i a.fact (record { inside = inside; sized = sized s }) (row_right_law a.rows.now l.i s.requires.2 inside) (l.invariant.1 inside),
     )
 
 add-next-match : tie.Need-overflow-add-next-match invariant-loop decreases-loop
@@ -72,7 +72,7 @@ loop-again c =
     let inside : l.i < length a.rows.now / 9 = omega arith in (
       n.within (omega arith),
       n.matches,
-      rows_next a.before (part_of a.m a.before a.values.now) a.rows.now a.fact l.i c.next-match2.result _ _ _ (sized s) (row-right a.rows.now l.i s.requires.2 inside) (l.invariant.1 inside) n l.invariant.2 c.before.before.before.ask-arguments.ensures,
+      rows_next a.before (part_of a.m a.before a.values.now) a.rows.now a.fact l.i c.next-match2.result _ _ _ (sized s) (row_right_law a.rows.now l.i s.requires.2 inside) (l.invariant.1 inside) n l.invariant.2 c.before.before.before.ask-arguments.ensures,
     )
 
 same_length : tie.Need-same-length invariant-loop decreases-loop
@@ -81,7 +81,7 @@ same_length c =
     c.before.loop.invariant.2.steady.places ∙ sym s.requires.0.places
 
 returns : tie.Need-returns invariant-loop decreases-loop
-unfolding rowCount ruleOf
+unfolding count_of_rows rule_of
 returns c =
     let s = c.before.before.before.before.before.before in
     let a = s.args in

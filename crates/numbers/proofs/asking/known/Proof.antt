@@ -2,7 +2,7 @@
 use mathlib.Core.Path.{◌∙◌}
 use native.Mathlib.Omega.{arith}
 use lib.ListN.{length-take}
-use Rattle.numbers.proofs.PartLaws.{known-old, known-none, new-low, known-new}
+use Rattle.numbers.proofs.PartLaws.{known_old, known_none, new_low, known_new}
 use Rattle.numbers.proofs.LookLaws.{told_is}
 use borrow.Author.Rules.{rules}
 use Rattle.numbers.proofs.asking.known.Statement.{statement}
@@ -11,7 +11,7 @@ use Rattle.numbers.proofs.asking.known.Tie as tie
 look-part-requires : tie.Need-look-part-requires
 look-part-requires c κs =
     let s = c.before.before in
-    (s.requires.1.small, s.requires.1.whole, s.requires.2, s.requires.1.counts-fit s.args.v s.requires.2)
+    (s.requires.1.small, s.requires.1.whole, s.requires.2, s.requires.1.counts_fit s.args.v s.requires.2)
 
 number-told-requires : tie.Need-number-told-requires
 number-told-requires c κs = search rules
@@ -20,7 +20,7 @@ returns : tie.Need-returns
 returns c =
     let s = c.before.before.before.before.before.before in
     let a = s.args in
-    known-old a.m a.t2 a.values.now a.t3 a.fresh.now a.v a.y.0 c.before.before.number-told.result.0 s.requires.1 s.requires.2 (told_is _ _ _ _ _ c.before.before.before.look-part.ensures c.before.before.number-told.ensures) c.if1.true
+    known_old a.m a.t2 a.values.now a.t3 a.fresh.now a.v a.y.0 c.before.before.number-told.result.0 s.requires.1 s.requires.2 (told_is _ _ _ _ _ c.before.before.before.look-part.ensures c.before.before.number-told.ensures) c.if1.true
 
 mul-from : tie.Need-overflow-mul-from
 mul-from c = search rules
@@ -72,7 +72,7 @@ returns-2 : tie.Need-returns-2
 returns-2 c =
     let s = c.before.before.before.before.before.before.before.before.before.before.before in
     let a = s.args in
-    c.if2.true ∙ known-none a.m a.t2 a.values.now a.t3 a.fresh.now a.v a.y.0 c.before.before.before.before.before.before.before.number-told.result.0 s.requires.1 s.requires.2 (told_is _ _ _ _ _ c.before.before.before.before.before.before.before.before.look-part.ensures c.before.before.before.before.before.before.before.number-told.ensures) c.before.before.before.before.before.if1.false s.requires.4 c.before.before.number-told2.result.0 (told_is _ _ _ _ _ c.before.before.before.look_in.ensures c.before.before.number-told2.ensures) c.if2.true
+    c.if2.true ∙ known_none a.m a.t2 a.values.now a.t3 a.fresh.now a.v a.y.0 c.before.before.before.before.before.before.before.number-told.result.0 s.requires.1 s.requires.2 (told_is _ _ _ _ _ c.before.before.before.before.before.before.before.before.look-part.ensures c.before.before.before.before.before.before.before.number-told.ensures) c.before.before.before.before.before.if1.false s.requires.4 c.before.before.number-told2.result.0 (told_is _ _ _ _ _ c.before.before.before.look_in.ensures c.before.before.number-told2.ensures) c.if2.true
 
 mul-t17 : tie.Need-overflow-mul-t17
 mul-t17 c = search rules
@@ -84,14 +84,14 @@ add-t24 : tie.Need-overflow-add-t24
 add-t24 c =
     let s = c.before.before.before.before.before.before.before.before.before.before.before.before in
     let a = s.args in
-    let n = new-low a.m a.t2 a.values.now a.t3 a.fresh.now a.v a.y.0 c.before.before.before.before.before.before.before.before.number-told.result.0 s.requires.1 s.requires.2 (told_is _ _ _ _ _ c.before.before.before.before.before.before.before.before.before.look-part.ensures c.before.before.before.before.before.before.before.before.number-told.ensures) c.before.before.before.before.before.before.if1.false s.requires.4 c.before.before.before.number-told2.result.0 (told_is _ _ _ _ _ c.before.before.before.before.look_in.ensures c.before.before.before.number-told2.ensures) c.before.if2.false in
-    omega (arith, n, s.requires.1.counts-fit a.v s.requires.2, s.requires.1.small)
+    let n = new_low a.m a.t2 a.values.now a.t3 a.fresh.now a.v a.y.0 c.before.before.before.before.before.before.before.before.number-told.result.0 s.requires.1 s.requires.2 (told_is _ _ _ _ _ c.before.before.before.before.before.before.before.before.before.look-part.ensures c.before.before.before.before.before.before.before.before.number-told.ensures) c.before.before.before.before.before.before.if1.false s.requires.4 c.before.before.before.number-told2.result.0 (told_is _ _ _ _ _ c.before.before.before.before.look_in.ensures c.before.before.before.number-told2.ensures) c.before.if2.false in
+    omega (arith, n, s.requires.1.counts_fit a.v s.requires.2, s.requires.1.small)
 
 returns-3 : tie.Need-returns-3
 returns-3 c =
     let s = c.before.before.before.before.before.before.before.before.before.before.before.before in
     let a = s.args in
-    known-new a.m a.t2 a.values.now a.t3 a.fresh.now a.v a.y.0 c.before.before.before.before.before.before.before.before.number-told.result.0 s.requires.1 s.requires.2 (told_is _ _ _ _ _ c.before.before.before.before.before.before.before.before.before.look-part.ensures c.before.before.before.before.before.before.before.before.number-told.ensures) c.before.before.before.before.before.before.if1.false s.requires.4 c.before.before.before.number-told2.result.0 (told_is _ _ _ _ _ c.before.before.before.before.look_in.ensures c.before.before.before.number-told2.ensures) c.before.if2.false
+    known_new a.m a.t2 a.values.now a.t3 a.fresh.now a.v a.y.0 c.before.before.before.before.before.before.before.before.number-told.result.0 s.requires.1 s.requires.2 (told_is _ _ _ _ _ c.before.before.before.before.before.before.before.before.before.look-part.ensures c.before.before.before.before.before.before.before.before.number-told.ensures) c.before.before.before.before.before.before.if1.false s.requires.4 c.before.before.before.number-told2.result.0 (told_is _ _ _ _ _ c.before.before.before.before.look_in.ensures c.before.before.before.number-told2.ensures) c.before.if2.false
 
 pub known-spec : {M : Type 1} → statement M
 known-spec =

@@ -5,16 +5,16 @@ use mathlib.Core.Path.{◌≡◌, ap, sym, ◌∙◌}
 use mathlib.Core.Bool.{false}
 use mathlib.Core.Logic.{⊎_elim}
 use lib.ListN.{length}
-use Rattle.trees.proofs.Tests.{lt-or-ge}
+use Rattle.trees.proofs.Tests.{lt_or_ge}
 use Rattle.meaning.specs.Rows.{row_at}
 use Rattle.meaning.specs.Outcome.{fact_of}
-use Rattle.numbers.specs.Matching.{matchesRow}
+use Rattle.numbers.specs.Matching.{matches_row}
 use borrow.Author.Rules.{rules}
 use Rattle.numbers.proofs.asking.next_match.Statement.{statement}
 use Rattle.numbers.proofs.asking.next_match.Tie as tie
 
 abbrev invariant-loop : tie.invariant-loop
-invariant-loop rows from fact n i₀ i = (from ≤ i) × (from ≤ length rows / 9 → i ≤ length rows / 9) × ((j : ℕ) → from ≤ j → j < i → matchesRow (fact_of fact) (row_at rows j) ≡ false)
+invariant-loop rows from fact n i₀ i = (from ≤ i) × (from ≤ length rows / 9 → i ≤ length rows / 9) × ((j : ℕ) → from ≤ j → j < i → matches_row (fact_of fact) (row_at rows j) ≡ false)
 
 abbrev decreases-loop : tie.decreases-loop
 decreases-loop rows from fact n i₀ i = length rows / 9 - i
@@ -35,7 +35,7 @@ returns c =
       later = l.invariant.0;
       within = l.invariant.1;
       skipped = l.invariant.2;
-      matches = λ h. sym (c.before.matches.ensures ∙ ap (matchesRow (fact_of c.before.before.before.before.before.before.args.fact)) c.before.before.row-at.ensures.says) ∙ c.if1.true;
+      matches = λ h. sym (c.before.matches.ensures ∙ ap (matches_row (fact_of c.before.before.before.before.before.before.args.fact)) c.before.before.row_at_law.ensures.says) ∙ c.if1.true;
     }
 
 add-i : tie.Need-overflow-add-i invariant-loop decreases-loop
@@ -51,8 +51,8 @@ loop-again c =
       λ h. omega arith,
       λ j h k. ⊎_elim
           (λ p. l.invariant.2 j h p)
-          (λ p. let z : j ≡ l.i = omega arith in rw z (sym (c.before.matches.ensures ∙ ap (matchesRow (fact_of c.before.before.before.before.before.before.args.fact)) c.before.before.row-at.ensures.says) ∙ c.if1.false))
-          (lt-or-ge j l.i),
+          (λ p. let z : j ≡ l.i = omega arith in rw z (sym (c.before.matches.ensures ∙ ap (matches_row (fact_of c.before.before.before.before.before.before.args.fact)) c.before.before.row_at_law.ensures.says) ∙ c.if1.false))
+          (lt_or_ge j l.i),
     )
 
 returns-2 : tie.Need-returns-2 invariant-loop decreases-loop

@@ -5,7 +5,7 @@ use native.Mathlib.Omega.{arith}
 use lib.ListN.{get_or}
 use Rattle.meaning.specs.Outcome.{fact_of}
 use Rattle.numbers.specs.Asking.{part_of}
-use Rattle.numbers.proofs.SheetLaws.{noted-old, noted-known, new-inside, noted-new}
+use Rattle.numbers.proofs.SheetLaws.{noted_old, noted_known, new_inside, noted_new}
 use borrow.Author.Rules.{rules}
 use Rattle.numbers.proofs.asking.note.Statement.{statement}
 use Rattle.numbers.proofs.asking.note.Tie as tie
@@ -19,7 +19,7 @@ fits : (c : tie.Else2) → let a = c.before.before.before.before.before.before.b
 fits c =
     let s = c.before.before.before.before.before.before.before.before.before.before.before.before in
     let a = s.args in
-    new-inside a.t2 (part_of a.m a.t2 a.values.now) (fact_of a.fact).values a.a.counts a.fresh.now a.a.numbers a.v a.j s.requires.0 s.requires.3 (place s) c.before.before.before.before.value-at.result.0 c.before.before.before.before.before.if1.false c.before.before.before.before.value-at.ensures (sym c.before.before.known.ensures ∙ c.if2.false)
+    new_inside a.t2 (part_of a.m a.t2 a.values.now) (fact_of a.fact).values a.a.counts a.fresh.now a.a.numbers a.v a.j s.requires.0 s.requires.3 (place s) c.before.before.before.before.value-at.result.0 c.before.before.before.before.before.if1.false c.before.before.before.before.value-at.ensures (sym c.before.before.known.ensures ∙ c.if2.false)
 
 mul_at : tie.Need-overflow-mul-at
 mul_at c = search rules
@@ -37,7 +37,7 @@ returns : tie.Need-returns
 returns c =
     let s = c.before.before.before.before.before.before.before in
     let a = s.args in
-    noted-old a.t2 (part_of a.m a.t2 a.values.now) (fact_of a.fact).values a.a.counts a.fresh.now a.a.numbers a.v a.j s.requires.0 s.requires.3 (place s) c.if1.true
+    noted_old a.t2 (part_of a.m a.t2 a.values.now) (fact_of a.fact).values a.a.counts a.fresh.now a.a.numbers a.v a.j s.requires.0 s.requires.3 (place s) c.if1.true
 
 value-at-requires : tie.Need-value-at-requires
 value-at-requires c κs =
@@ -62,7 +62,7 @@ returns-2 : tie.Need-returns-2
 returns-2 c =
     let s = c.before.before.before.before.before.before.before.before.before.before.before.before in
     let a = s.args in
-    noted-known a.t2 (part_of a.m a.t2 a.values.now) (fact_of a.fact).values a.a.counts a.fresh.now a.a.numbers a.v a.j s.requires.0 s.requires.3 (place s) c.before.before.before.before.value-at.result.0 c.before.before.before.before.before.if1.false c.before.before.before.before.value-at.ensures c.before.before.known.result c.if2.true c.before.before.known.ensures
+    noted_known a.t2 (part_of a.m a.t2 a.values.now) (fact_of a.fact).values a.a.counts a.fresh.now a.a.numbers a.v a.j s.requires.0 s.requires.3 (place s) c.before.before.before.before.value-at.result.0 c.before.before.before.before.before.if1.false c.before.before.before.before.value-at.ensures c.before.before.known.result c.if2.true c.before.before.known.ensures
 
 mul-n : tie.Need-overflow-mul-n
 mul-n c = search rules
@@ -120,7 +120,7 @@ returns-3 : tie.Need-returns-3
 returns-3 c =
     let s = c.before.before.before.before.before.before.before.before.before.before.before.before in
     let a = s.args in
-    noted-new a.t2 (part_of a.m a.t2 a.values.now) (fact_of a.fact).values a.a.counts a.fresh.now a.a.numbers a.v a.j s.requires.0 s.requires.3 (place s) c.before.before.before.before.value-at.result.0 c.before.before.before.before.before.if1.false c.before.before.before.before.value-at.ensures (sym c.before.before.known.ensures ∙ c.if2.false)
+    noted_new a.t2 (part_of a.m a.t2 a.values.now) (fact_of a.fact).values a.a.counts a.fresh.now a.a.numbers a.v a.j s.requires.0 s.requires.3 (place s) c.before.before.before.before.value-at.result.0 c.before.before.before.before.before.if1.false c.before.before.before.before.value-at.ensures (sym c.before.before.known.ensures ∙ c.if2.false)
 
 pub note-spec : {M : Type 1} → statement M
 note-spec =

@@ -4,7 +4,7 @@ use Prim.Native.Nat.{ℕ, ◌≤◌, ◌<◌, ◌-◌}
 use mathlib.Core.Path.{◌≡◌, sym}
 use borrow.Author.Count.{below_more}
 use lib.ListN.{length, get_or}
-use Rattle.numbers.proofs.LookLaws.{looked-first, looked-left, looked-none}
+use Rattle.numbers.proofs.LookLaws.{looked_first, looked_left, looked_none}
 use borrow.Author.Rules.{rules}
 use Rattle.numbers.proofs.looking.look_in.Statement.{statement}
 use Rattle.numbers.proofs.looking.look_in.Tie as tie
@@ -31,7 +31,7 @@ returns : tie.Need-returns invariant-loop decreases-loop
 returns c =
     let s = c.before.before.before.before.before.args in
     let l = c.before.before.before.before.loop in
-    sym (looked-first s.m s.list.now s.y.0 l.i (search rules) c.if1.true l.invariant.1)
+    sym (looked_first s.m s.list.now s.y.0 l.i (search rules) c.if1.true l.invariant.1)
 
 add-i : tie.Need-overflow-add-i invariant-loop decreases-loop
 add-i c = search rules
@@ -46,13 +46,13 @@ returns-2 : tie.Need-returns-2 invariant-loop decreases-loop
 returns-2 c =
     let s = c.before.before.before.args in
     let l = c.before.before.loop in
-    sym (looked-left s.m s.list.now s.y.0 (λ k h. l.invariant.1 k (omega arith)) c.if2.true)
+    sym (looked_left s.m s.list.now s.y.0 (λ k h. l.invariant.1 k (omega arith)) c.if2.true)
 
 returns-3 : tie.Need-returns-3 invariant-loop decreases-loop
 returns-3 c =
     let s = c.before.before.before.args in
     let l = c.before.before.loop in
-    sym (looked-none s.m s.list.now s.y.0 (λ k h. l.invariant.1 k (omega arith)) c.if2.false)
+    sym (looked_none s.m s.list.now s.y.0 (λ k h. l.invariant.1 k (omega arith)) c.if2.false)
 
 pub look-in-spec : {M : Type 1} → statement M
 look-in-spec =

@@ -4,8 +4,8 @@ use mathlib.Core.Path.{ap, ◌∙◌}
 use mathlib.Core.List.{List}
 use native.Mathlib.Omega.{arith}
 use lib.ListN.{get_or, length-take}
-use Rattle.numbers.specs.Looking.{lookedUp}
-use Rattle.numbers.proofs.PartLaws.{part-inside}
+use Rattle.numbers.specs.Looking.{looked_up}
+use Rattle.numbers.proofs.PartLaws.{part_inside}
 use Rattle.numbers.proofs.LookLaws.{piece}
 use borrow.Author.Rules.{rules}
 use Rattle.numbers.proofs.looking.look_part.Statement.{statement}
@@ -13,7 +13,7 @@ use Rattle.numbers.proofs.looking.look_part.Tie as tie
 
 -- the part of v ends within the value slice
 within : (s : tie.Start) → s.args.v * s.args.m + get_or s.args.t2 s.args.v 0 ≤ 4 * s.args.m
-within s = part-inside s.args.v s.args.m (get_or s.args.t2 s.args.v 0) s.requires.2 s.requires.3
+within s = part_inside s.args.v s.args.m (get_or s.args.t2 s.args.v 0) s.requires.2 s.requires.3
 
 mul_at : tie.Need-overflow-mul-at
 mul_at c = let s = c.before in omega (arith, within s, s.requires.0)
@@ -50,7 +50,7 @@ look-in-requires c κs =
 returns : tie.Need-returns
 returns c =
     let a = c.before.before.before.args in
-    c.look_in.ensures ∙ ap (λ (xs : List ℕ). lookedUp a.m xs a.y.0) (piece a.m a.t2 a.values.now a.v)
+    c.look_in.ensures ∙ ap (λ (xs : List ℕ). looked_up a.m xs a.y.0) (piece a.m a.t2 a.values.now a.v)
 
 pub look-part-spec : {M : Type 1} → statement M
 look-part-spec =

@@ -3,7 +3,7 @@ use mathlib.Core.Path.{sym, ◌∙◌}
 use native.Mathlib.Omega.{arith}
 use borrow.Author.Rules.{rules}
 use borrow.Author.Tests.{not-true, not-false}
-use Rattle.numbers.proofs.LookLaws.{few_bits, inside, looks-in, misfit}
+use Rattle.numbers.proofs.LookLaws.{few_bits, inside, looks_in, misfit}
 use Rattle.numbers.proofs.looking.look_up.Statement.{statement}
 use Rattle.numbers.proofs.looking.look_up.Tie as tie
 
@@ -28,7 +28,7 @@ returns-2 : tie.Need-returns-2
 returns-2 c =
     let m = c.before in
     let e = m.before in
-    rw m.most.ensures at c.look-part.ensures ∙ looks-in _ _ _ _ (sym e.before.readable.ensures ∙ not-false _ e.if1.false) _
+    rw m.most.ensures at c.look-part.ensures ∙ looks_in _ _ _ _ (sym e.before.readable.ensures ∙ not-false _ e.if1.false) _
 
 pub look-up-spec : {M : Type 1} → statement M
 look-up-spec = tie.close (tie.spec readable-requires returns most-requires cast-m look-part-requires returns-2)

@@ -1,5 +1,5 @@
 -- `frames::notted` meets its contract. Assumes nothing.
-use Rattle.rowing.proofs.FrameLaws.{notted-turns}
+use Rattle.rowing.proofs.FrameLaws.{notted_turns}
 use native.Mathlib.Omega.{arith}
 use borrow.Author.Rules.{rules}
 use Rattle.rowing.proofs.frames.notted.Statement.{statement}
@@ -18,7 +18,7 @@ same_length : tie.Need-same-length
 same_length c = search rules
 
 returns : tie.Need-returns
-returns c = notted-turns _ _ _ _ _ _ _ _ _ _ _ _ _ _ c.before.before.before.before.before.before.before.before.before.before.negate.ensures c.before.before.before.before.before.before.joined.ensures c.before.before.negate2.ensures
+returns c = notted_turns _ _ _ _ _ _ _ _ _ _ _ _ _ _ c.before.before.before.before.before.before.before.before.before.before.negate.ensures c.before.before.before.before.before.before.joined.ensures c.before.before.negate2.ensures
 
 pub notted-spec : {M : Type 1} → statement M
 notted-spec =

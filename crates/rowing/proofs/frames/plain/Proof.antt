@@ -1,5 +1,5 @@
 -- `frames::plain` meets its contract. Assumes nothing.
-use Rattle.rowing.specs.Framing.{plainNine}
+use Rattle.rowing.specs.Framing.{plain_nine}
 use borrow.Author.Rules.{rules}
 use Rattle.rowing.proofs.frames.plain.Statement.{statement}
 use Rattle.rowing.proofs.frames.plain.Tie as tie
@@ -14,7 +14,7 @@ same_length : tie.Need-same-length
 same_length c = search rules
 
 returns : tie.Need-returns
-unfolding plainNine
+unfolding plain_nine
 returns c = c.before.before.make.ensures
 
 pub plain-spec : {M : Type 1} → statement M

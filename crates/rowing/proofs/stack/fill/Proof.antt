@@ -2,7 +2,7 @@
 use Prim.Native.Nat.{◌-◌}
 use native.Mathlib.Omega.{arith}
 use borrow.Author.Rules.{rules}
-use Rattle.rowing.proofs.StackLaws.{Filling, fill_begins, fill-over, fill_stops, fill_more}
+use Rattle.rowing.proofs.StackLaws.{Filling, fill_begins, fill_over, fill_stops, fill_more}
 use Rattle.rowing.proofs.stack.fill.Statement.{statement}
 use Rattle.rowing.proofs.stack.fill.Tie as tie
 
@@ -49,7 +49,7 @@ same-length-2 : tie.Need-same-length-2 invariant-loop decreases-loop
 same-length-2 c = c.before.loop.invariant.sized
 
 returns-2 : tie.Need-returns-2 invariant-loop decreases-loop
-returns-2 c = fill-over _ _ _ _ _ _ _ _ _ _ c.before.loop.invariant c.loop-test.false
+returns-2 c = fill_over _ _ _ _ _ _ _ _ _ _ c.before.loop.invariant c.loop-test.false
 
 pub fill_spec : {M : Type 1} → statement M
 fill_spec =

@@ -1,5 +1,5 @@
 -- `stack::finish` meets its contract. Assumes nothing.
-use Rattle.rowing.proofs.ShutLaws.{finish-all}
+use Rattle.rowing.proofs.ShutLaws.{finish_all}
 use borrow.Author.Rules.{rules}
 use Rattle.rowing.proofs.stack.finish.Statement.{statement}
 use Rattle.rowing.proofs.stack.finish.Tie as tie
@@ -11,7 +11,7 @@ same_length : tie.Need-same-length
 same_length c = search rules
 
 returns : tie.Need-returns
-returns c = finish-all _ _ _ _ _ _ _ _ _ c.before.before.fill.ensures
+returns c = finish_all _ _ _ _ _ _ _ _ _ c.before.before.fill.ensures
 
 pub finish_spec : {M : Type 1} → statement M
 finish_spec = tie.close (tie.spec fill-requires same_length returns)

@@ -1,7 +1,7 @@
 -- `stack::push` meets its contract. Assumes nothing.
 use native.Mathlib.Omega.{arith}
 use lib.ListN.{length-set}
-use Rattle.rowing.proofs.StackLaws.{push-made}
+use Rattle.rowing.proofs.StackLaws.{push_made}
 use borrow.Author.Rules.{rules}
 use Rattle.rowing.proofs.stack.push.Statement.{statement}
 use Rattle.rowing.proofs.stack.push.Tie as tie
@@ -43,7 +43,7 @@ same-length-2 : tie.Need-same-length-2
 same-length-2 c = search rules
 
 returns : tie.Need-returns
-returns c = push-made _ _ _ _ _ _ _ _ _ _ _ _ _ c.before.before.before.before.before.before.before.before.before.before.before.before.requires.1.1 c.before.before.before.before.before.before.before.fill.ensures c.before.before.before.early.ensures c.before.before.before.before.before.before.before.before.before.before.before.before.requires.0.2
+returns c = push_made _ _ _ _ _ _ _ _ _ _ _ _ _ c.before.before.before.before.before.before.before.before.before.before.before.before.requires.1.1 c.before.before.before.before.before.before.before.fill.ensures c.before.before.before.early.ensures c.before.before.before.before.before.before.before.before.before.before.before.before.requires.0.2
 
 pub push_spec : {M : Type 1} → statement M
 push_spec =

@@ -1,5 +1,5 @@
 -- `stack::wait` meets its contract. Assumes nothing.
-use Rattle.rowing.proofs.StackLaws.{wait-more}
+use Rattle.rowing.proofs.StackLaws.{wait_more}
 use borrow.Author.Rules.{rules}
 use Rattle.rowing.proofs.stack.wait.Statement.{statement}
 use Rattle.rowing.proofs.stack.wait.Tie as tie
@@ -26,7 +26,7 @@ same_length : tie.Need-same-length
 same_length c = search rules
 
 returns : tie.Need-returns
-returns c = wait-more _ _ _ _ c.requires.0 c.requires.2
+returns c = wait_more _ _ _ _ c.requires.0 c.requires.2
 
 pub wait_spec : {M : Type 1} → statement M
 wait_spec =

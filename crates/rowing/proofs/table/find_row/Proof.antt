@@ -4,7 +4,7 @@ use native.Mathlib.Omega.{arith}
 use mathlib.Core.Path.{sym, ◌∙◌}
 use lib.ListN.{length}
 use borrow.Author.Rules.{rules}
-use Rattle.rowing.proofs.ChunkLaws.{Finding, find-begins, find-here, find-more, find_none}
+use Rattle.rowing.proofs.ChunkLaws.{Finding, find_begins, find_here, find_more, find_none}
 use Rattle.rowing.proofs.table.find_row.Statement.{statement}
 use Rattle.rowing.proofs.table.find_row.Tie as tie
 
@@ -15,7 +15,7 @@ abbrev decreases-loop : tie.decreases-loop
 decreases-loop rows n nine i₀ i = n - i
 
 loop-holds : tie.Need-loop-init invariant-loop decreases-loop
-loop-holds c = find-begins _ _ _
+loop-holds c = find_begins _ _ _
 
 mul-a : tie.Need-overflow-mul-a invariant-loop decreases-loop
 mul-a c = omega (arith, c.before.before.before.before.requires.0)
@@ -39,7 +39,7 @@ same-numbers-requires : tie.Need-same-numbers-requires invariant-loop decreases-
 same-numbers-requires c κs = search rules
 
 returns : tie.Need-returns invariant-loop decreases-loop
-returns c = (find-here _ _ _ _ c.before.before.before.before.loop.invariant (omega arith) (sym c.before.same-numbers.ensures ∙ c.if1.true), omega arith)
+returns c = (find_here _ _ _ _ c.before.before.before.before.loop.invariant (omega arith) (sym c.before.same_numbers_law.ensures ∙ c.if1.true), omega arith)
 
 add-i : tie.Need-overflow-add-i invariant-loop decreases-loop
 add-i c = omega (arith, c.before.before.before.before.before.before.before.requires.0)
@@ -48,7 +48,7 @@ loop-less : tie.Need-loop-smaller invariant-loop decreases-loop
 loop-less c = omega arith
 
 loop-again : tie.Need-loop-preserved invariant-loop decreases-loop
-loop-again c = find-more _ _ _ _ c.before.before.before.before.loop.invariant (omega arith) (sym c.before.same-numbers.ensures ∙ c.if1.false)
+loop-again c = find_more _ _ _ _ c.before.before.before.before.loop.invariant (omega arith) (sym c.before.same_numbers_law.ensures ∙ c.if1.false)
 
 returns-2 : tie.Need-returns-2 invariant-loop decreases-loop
 returns-2 c = (find_none _ _ _ _ c.before.loop.invariant c.loop-test.false, omega arith)

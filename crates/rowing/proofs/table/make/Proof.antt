@@ -4,7 +4,7 @@ use native.Mathlib.Omega.{arith}
 use mathlib.Core.Path.{refl, sym, ap, ◌∙◌}
 use lib.Seq.{take_all}
 use borrow.Author.Rules.{rules}
-use Rattle.rowing.proofs.ChunkLaws.{write-ends, not_full, makes-over, makes-old, makes-full, makes-new, Written, write-begins, write-more}
+use Rattle.rowing.proofs.ChunkLaws.{write_ends, not_full, makes_over, makes_old, makes_full, makes_new, Written, write_begins, write_more}
 use Rattle.rowing.proofs.table.make.Statement.{statement}
 use Rattle.rowing.proofs.table.make.Tie as tie
 
@@ -15,7 +15,7 @@ abbrev decreases-loop : tie.decreases-loop
 decreases-loop rows₀ n nine i j₀ rows j = 9 - j
 
 returns : tie.Need-returns invariant-loop decreases-loop
-returns c = makes-over _ _ _ c.before.before.before.requires.2 c.if1.true
+returns c = makes_over _ _ _ c.before.before.before.requires.2 c.if1.true
 
 find-row-requires : tie.Need-find-row-requires invariant-loop decreases-loop
 find-row-requires c κs = (omega arith, c.before.before.before.before.requires.0)
@@ -27,16 +27,16 @@ same_length : tie.Need-same-length invariant-loop decreases-loop
 same_length c = search rules
 
 returns-2 : tie.Need-returns-2 invariant-loop decreases-loop
-returns-2 c = makes-old _ _ _ _ c.before.find-row.ensures.0 (omega arith) c.if2.true
+returns-2 c = makes_old _ _ _ _ c.before.find-row.ensures.0 (omega arith) c.if2.true
 
 same-length-2 : tie.Need-same-length-2 invariant-loop decreases-loop
 same-length-2 c = search rules
 
 returns-3 : tie.Need-returns-3 invariant-loop decreases-loop
-returns-3 c = makes-full _ _ _ _ c.before.before.find-row.ensures.0 c.if3.true c.before.if2.false
+returns-3 c = makes_full _ _ _ _ c.before.before.find-row.ensures.0 c.if3.true c.before.if2.false
 
 loop-holds : tie.Need-loop-init invariant-loop decreases-loop
-loop-holds c = write-begins _ _ _
+loop-holds c = write_begins _ _ _
 
 mul-rows : tie.Need-overflow-mul-rows invariant-loop decreases-loop
 mul-rows c = omega arith
@@ -63,7 +63,7 @@ loop-less : tie.Need-loop-smaller invariant-loop decreases-loop
 loop-less c = omega arith
 
 loop-again : tie.Need-loop-preserved invariant-loop decreases-loop
-loop-again c = write-more _ _ _ _ _ c.before.before.loop.invariant (omega arith) c.before.before.before.before.before.before.before.before.before.before.requires.1 (omega (arith, c.before.before.before.before.before.before.before.before.before.before.requires.0, c.before.before.before.before.before.before.before.before.before.before.requires.1, c.before.before.before.before.before.before.before.before.before.before.requires.2, not_full _ (omega arith) c.before.before.before.if3.false))
+loop-again c = write_more _ _ _ _ _ c.before.before.loop.invariant (omega arith) c.before.before.before.before.before.before.before.before.before.before.requires.1 (omega (arith, c.before.before.before.before.before.before.before.before.before.before.requires.0, c.before.before.before.before.before.before.before.before.before.before.requires.1, c.before.before.before.before.before.before.before.before.before.before.requires.2, not_full _ (omega arith) c.before.before.before.if3.false))
 
 add-t18 : tie.Need-overflow-add-t18 invariant-loop decreases-loop
 add-t18 c = omega arith
@@ -75,7 +75,7 @@ same-length-3 : tie.Need-same-length-3 invariant-loop decreases-loop
 same-length-3 c = c.before.loop.invariant.sized
 
 returns-4 : tie.Need-returns-4 invariant-loop decreases-loop
-returns-4 c = makes-new _ _ _ _ c.before.before.before.before.find-row.ensures.0 _ (omega arith) c.before.before.if3.false c.before.before.before.if2.false c.before.loop.invariant.sized c.before.loop.invariant.before (write-ends _ _ _ _ _ c.before.loop.invariant c.loop-test.false c.before.before.before.before.before.before.before.before.before.requires.1)
+returns-4 c = makes_new _ _ _ _ c.before.before.before.before.find-row.ensures.0 _ (omega arith) c.before.before.if3.false c.before.before.before.if2.false c.before.loop.invariant.sized c.before.loop.invariant.before (write_ends _ _ _ _ _ c.before.loop.invariant c.loop-test.false c.before.before.before.before.before.before.before.before.before.requires.1)
 
 pub make_spec : {M : Type 1} → statement M
 make_spec =

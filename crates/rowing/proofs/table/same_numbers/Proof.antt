@@ -4,7 +4,7 @@ use native.Mathlib.Omega.{arith}
 use mathlib.Core.Path.{refl, sym}
 use lib.ListN.{length}
 use borrow.Author.Rules.{rules}
-use Rattle.rowing.proofs.SameLaws.{Left, same-lengths, left-more, left_other, left-all}
+use Rattle.rowing.proofs.SameLaws.{Left, same_lengths, left_more, left_other, left_all}
 use Rattle.rowing.proofs.table.same_numbers.Statement.{statement}
 use Rattle.rowing.proofs.table.same_numbers.Tie as tie
 
@@ -15,7 +15,7 @@ abbrev decreases-loop : tie.decreases-loop
 decreases-loop a b i₀ i = length a - i
 
 returns : tie.Need-returns invariant-loop decreases-loop
-returns c = sym (same-lengths c.before.args.a.now c.before.args.b.now c.if1.true)
+returns c = sym (same_lengths c.before.args.a.now c.before.args.b.now c.if1.true)
 
 loop-holds : tie.Need-loop-init invariant-loop decreases-loop
 loop-holds c = record { lengths = omega arith; inside = omega arith; rest = refl }
@@ -42,10 +42,10 @@ loop-less : tie.Need-loop-smaller invariant-loop decreases-loop
 loop-less c = omega arith
 
 loop-again : tie.Need-loop-preserved invariant-loop decreases-loop
-loop-again c = left-more _ _ _ c.before.before.before.before.loop.invariant (omega arith) c.if2.false
+loop-again c = left_more _ _ _ c.before.before.before.before.loop.invariant (omega arith) c.if2.false
 
 returns-3 : tie.Need-returns-3 invariant-loop decreases-loop
-returns-3 c = left-all _ _ _ c.before.loop.invariant c.loop-test.false
+returns-3 c = left_all _ _ _ c.before.loop.invariant c.loop-test.false
 
 pub same-numbers-spec : {M : Type 1} → statement M
 same-numbers-spec =

@@ -4,8 +4,8 @@ use mathlib.Core.Path.{sym}
 use native.Mathlib.Omega.{arith}
 use lib.ListN.{length, get_or-eq_default}
 use borrow.Author.Rules.{rules}
-use Rattle.rule.specs.Masks.{mask_of, digit, hasBit}
-use Rattle.rule.proofs.MasksLaws.{mask-has}
+use Rattle.rule.specs.Masks.{mask_of, digit, has_bit}
+use Rattle.rule.proofs.MasksLaws.{mask_has}
 use Rattle.rule.proofs.masks.at.Statement.{statement}
 use Rattle.rule.proofs.masks.at.Tie as tie
 
@@ -16,10 +16,10 @@ element-copy-out-result : tie.Need-element-copy-out-result
 element-copy-out-result c = search rules
 
 returns : tie.Need-returns
-returns c = sym (mask-has _)
+returns c = sym (mask_has _)
 
 returns-2 : tie.Need-returns-2
-unfolding mask_of digit hasBit
+unfolding mask_of digit has_bit
 returns-2 c =
     let h : length c.before.args.free.now ≤ c.before.args.p = omega arith in
     rw (get_or-eq_default c.before.args.free.now 0 h)

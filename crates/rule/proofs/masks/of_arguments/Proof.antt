@@ -1,15 +1,15 @@
 -- `rule::masks::of_arguments` meets its contract: the masks of the arguments that the count takes, joined. Assumes nothing.
 use native.Mathlib.Omega.{arith}
 use borrow.Author.Rules.{rules}
-use Rattle.meaning.specs.Qtl.{freeArguments}
+use Rattle.meaning.specs.Qtl.{free_arguments}
 use Rattle.rule.specs.Masks.{mask_of, digit}
-use Rattle.rule.specs.Decoded.{argumentOf}
-use Rattle.rule.proofs.MasksLaws.{join_is, two-free, three-free, take-three}
+use Rattle.rule.specs.Decoded.{argument_of}
+use Rattle.rule.proofs.MasksLaws.{join_is, two_free, three_free, take_three}
 use Rattle.rule.proofs.masks.of_arguments.Statement.{statement}
 use Rattle.rule.proofs.masks.of_arguments.Tie as tie
 
 returns : tie.Need-returns
-unfolding freeArguments mask_of digit
+unfolding free_arguments mask_of digit
 returns c = rw c.if1.true
 
 of-argument-requires : tie.Need-of-argument-requires
@@ -28,7 +28,7 @@ join-requires : tie.Need-join-requires
 join-requires c κs = search rules
 
 returns-3 : tie.Need-returns-3
-returns-3 c = rw c.if3.true (two-free _ _ (join_is _ _ c.before.before.before.of-argument2.ensures c.before.before.of-argument3.ensures c.before.join.ensures))
+returns-3 c = rw c.if3.true (two_free _ _ (join_is _ _ c.before.before.before.of-argument2.ensures c.before.before.of-argument3.ensures c.before.join.ensures))
 
 of-argument-requires-4 : tie.Need-of-argument-requires-4
 of-argument-requires-4 c κs = search rules
@@ -39,9 +39,9 @@ join-requires-2 c κs = search rules
 returns-4 : tie.Need-returns-4
 returns-4 c =
     let s = c.before.before.before.before.before.before.before.before.args in
-    rw (take-three (argumentOf s.a) (argumentOf s.b) (argumentOf s.c) s.q (omega arith))
-    (three-free _ _ _ (join_is _ _
-    (two-free _ _ (join_is _ _ c.before.before.before.before.before.of-argument2.ensures c.before.before.before.before.of-argument3.ensures c.before.before.before.join.ensures))
+    rw (take_three (argument_of s.a) (argument_of s.b) (argument_of s.c) s.q (omega arith))
+    (three_free _ _ _ (join_is _ _
+    (two_free _ _ (join_is _ _ c.before.before.before.before.before.of-argument2.ensures c.before.before.before.before.of-argument3.ensures c.before.before.before.join.ensures))
     c.before.of-argument4.ensures c.join2.ensures))
 
 pub of-arguments-spec : {M : Type 1} → statement M

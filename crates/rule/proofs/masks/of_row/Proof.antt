@@ -1,7 +1,7 @@
 -- `rule::masks::of_row` meets its contract: each kind of row by the law of its mask. Assumes nothing.
 use mathlib.Core.Path.{refl}
 use borrow.Author.Rules.{rules}
-use Rattle.rule.specs.Masks.{mask_of, digit, freeOfRow}
+use Rattle.rule.specs.Masks.{mask_of, digit, free_of_row}
 use Rattle.rule.specs.Decoded.{row_of}
 use Rattle.rule.proofs.MasksLaws.{row_is, join_is, without_is}
 use Rattle.rule.proofs.masks.of_row.Statement.{statement}
@@ -62,31 +62,31 @@ without-requires : tie.Need-without-requires
 without-requires c κs = search rules
 
 returns : tie.Need-returns
-unfolding row_of freeOfRow mask_of digit
+unfolding row_of free_of_row mask_of digit
 returns c = row_is _ c.enum_told.given.1 (refl)
 
 returns-2 : tie.Need-returns-2
-unfolding row_of freeOfRow
-returns-2 c = row_is _ c.before.before.row.given.1 c.of-arguments.ensures
+unfolding row_of free_of_row
+returns-2 c = row_is _ c.before.before.row.given.1 c.of_arguments.ensures
 
 returns-3 : tie.Need-returns-3
-unfolding row_of freeOfRow
+unfolding row_of free_of_row
 returns-3 c = row_is _ c.before.before.before.before.row2.given.1 (join_is _ _ c.before.before.at.ensures c.before.at2.ensures c.join.ensures)
 
 returns-4 : tie.Need-returns-4
-unfolding row_of freeOfRow
+unfolding row_of free_of_row
 returns-4 c = row_is _ c.before.before.row3.given.1 c.at3.ensures
 
 returns-5 : tie.Need-returns-5
-unfolding row_of freeOfRow
+unfolding row_of free_of_row
 returns-5 c = row_is _ c.before.before.before.before.row4.given.1 (join_is _ _ c.before.before.at4.ensures c.before.at5.ensures c.join2.ensures)
 
 returns-6 : tie.Need-returns-6
-unfolding row_of freeOfRow
+unfolding row_of free_of_row
 returns-6 c = row_is _ c.before.before.row5.given.1 c.at6.ensures
 
 returns-7 : tie.Need-returns-7
-unfolding row_of freeOfRow
+unfolding row_of free_of_row
 returns-7 c = row_is _ c.before.before.before.row6.given.1 (without_is _ _ c.before.at7.ensures c.without.ensures)
 
 pub of-row-spec : {M : Type 1} → statement M

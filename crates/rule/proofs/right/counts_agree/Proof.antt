@@ -7,13 +7,13 @@ use mathlib.Core.Logic.{⊎_elim}
 use native.Mathlib.Nat.{eq-or-lt_of_le}
 use native.Mathlib.Omega.{arith}
 use borrow.Author.Rules.{rules}
-use Rattle.rule.specs.Checking.{atomOf}
-use Rattle.rule.proofs.RightLaws.{no-atom, first-atom, nearest-atom}
+use Rattle.rule.specs.Checking.{atom_of}
+use Rattle.rule.proofs.RightLaws.{no_atom, first_atom, nearest_atom}
 use Rattle.rule.proofs.right.counts_agree.Statement.{statement}
 use Rattle.rule.proofs.right.counts_agree.Tie as tie
 
 abbrev invariant-loop : tie.invariant-loop
-invariant-loop rows i p j₀ j = (j ≤ i) × ((k : ℕ) → j ≤ k → k < i → atomOf rows k p ≡ false)
+invariant-loop rows i p j₀ j = (j ≤ i) × ((k : ℕ) → j ≤ k → k < i → atom_of rows k p ≡ false)
 
 abbrev decreases-loop : tie.decreases-loop
 decreases-loop rows i p j₀ j = j
@@ -22,7 +22,7 @@ field-of-requires : tie.Need-field-of-requires invariant-loop decreases-loop
 field-of-requires c κs = search rules
 
 returns : tie.Need-returns invariant-loop decreases-loop
-returns c = no-atom _ _ c.before.field_of.ensures c.if1.true
+returns c = no_atom _ _ c.before.field_of.ensures c.if1.true
 
 field-of-requires-2 : tie.Need-field-of-requires-2 invariant-loop decreases-loop
 field-of-requires-2 c κs = search rules
@@ -46,7 +46,7 @@ returns-2 : tie.Need-returns-2 invariant-loop decreases-loop
 returns-2 c =
     let l = c.before.before.before.before.before in
     let s = l.before.before.before.before.before in
-    nearest-atom _ _ _ _ (sym l.before.before.before.field_of.ensures ∙ l.before.before.if1.false) l.before.field-of2.ensures (omega arith) (λ k h q. l.loop.invariant.1 k (omega arith) q)
+    nearest_atom _ _ _ _ (sym l.before.before.before.field_of.ensures ∙ l.before.before.if1.false) l.before.field-of2.ensures (omega arith) (λ k h q. l.loop.invariant.1 k (omega arith) q)
     (sym c.before.before.before.is-atom-of.ensures ∙ c.before.before.if2.true) (s.requires.1 _ (omega arith)) c.before.field-of3.ensures c.field-of4.ensures
 
 loop-less : tie.Need-loop-smaller invariant-loop decreases-loop
@@ -63,7 +63,7 @@ loop-again c =
     )
 
 returns-3 : tie.Need-returns-3 invariant-loop decreases-loop
-returns-3 c = first-atom _ _ _ _ c.before.before.field-of2.ensures c.before.loop.invariant.1 (omega arith)
+returns-3 c = first_atom _ _ _ _ c.before.before.field-of2.ensures c.before.loop.invariant.1 (omega arith)
 
 pub counts-agree-spec : {M : Type 1} → statement M
 counts-agree-spec =

@@ -2,7 +2,7 @@
 use mathlib.Core.Path.{refl, sym, ◌∙◌}
 use borrow.Author.Tests.{not-true, not-false}
 use borrow.Author.Rules.{rules}
-use Rattle.rule.proofs.RightLaws.{pair_read, pairs-are}
+use Rattle.rule.proofs.RightLaws.{pair_read, pairs_are}
 use Rattle.rule.proofs.right.pairs_right.Statement.{statement}
 use Rattle.rule.proofs.right.pairs_right.Tie as tie
 
@@ -17,7 +17,7 @@ pair-right-requires c κs = search rules
 
 returns : tie.Need-returns
 returns c =
-    sym (pairs-are _ _ _ (pair_read _ _ 0 _ refl c.before.before.before.field_of.ensures c.before.before.field-of2.ensures c.before.pair-right.ensures) refl refl
+    sym (pairs_are _ _ _ (pair_read _ _ 0 _ refl c.before.before.before.field_of.ensures c.before.before.field-of2.ensures c.before.pair-right.ensures) refl refl
     ∙ rw (not-true c.before.pair-right.result c.if1.true))
 
 field-of-requires-3 : tie.Need-field-of-requires-3
@@ -31,7 +31,7 @@ pair-right-requires-2 c κs = search rules
 
 returns-2 : tie.Need-returns-2
 returns-2 c =
-    sym (pairs-are _ _ _ (pair_read _ _ 0 _ refl c.before.before.before.before.before.before.before.field_of.ensures c.before.before.before.before.before.before.field-of2.ensures c.before.before.before.before.before.pair-right.ensures) (pair_read _ _ 1 _ refl c.before.before.before.field-of3.ensures c.before.before.field-of4.ensures c.before.pair-right2.ensures) refl
+    sym (pairs_are _ _ _ (pair_read _ _ 0 _ refl c.before.before.before.before.before.before.before.field_of.ensures c.before.before.before.before.before.before.field-of2.ensures c.before.before.before.before.before.pair-right.ensures) (pair_read _ _ 1 _ refl c.before.before.before.field-of3.ensures c.before.before.field-of4.ensures c.before.pair-right2.ensures) refl
     ∙ rw (not-false c.before.before.before.before.before.pair-right.result c.before.before.before.before.if1.false, not-true c.before.pair-right2.result c.if2.true))
 
 field-of-requires-5 : tie.Need-field-of-requires-5
@@ -45,7 +45,7 @@ pair-right-requires-3 c κs = search rules
 
 returns-3 : tie.Need-returns-3
 returns-3 c =
-    sym (pairs-are _ _ _ (pair_read _ _ 0 _ refl c.before.before.before.before.before.before.before.before.before.before.field_of.ensures c.before.before.before.before.before.before.before.before.before.field-of2.ensures c.before.before.before.before.before.before.before.before.pair-right.ensures) (pair_read _ _ 1 _ refl c.before.before.before.before.before.before.field-of3.ensures c.before.before.before.before.before.field-of4.ensures c.before.before.before.before.pair-right2.ensures) (pair_read _ _ 2 _ refl c.before.before.field-of5.ensures c.before.field-of6.ensures c.pair-right3.ensures)
+    sym (pairs_are _ _ _ (pair_read _ _ 0 _ refl c.before.before.before.before.before.before.before.before.before.before.field_of.ensures c.before.before.before.before.before.before.before.before.before.field-of2.ensures c.before.before.before.before.before.before.before.before.pair-right.ensures) (pair_read _ _ 1 _ refl c.before.before.before.before.before.before.field-of3.ensures c.before.before.before.before.before.field-of4.ensures c.before.before.before.before.pair-right2.ensures) (pair_read _ _ 2 _ refl c.before.before.field-of5.ensures c.before.field-of6.ensures c.pair-right3.ensures)
     ∙ rw (not-false c.before.before.before.before.before.before.before.before.pair-right.result c.before.before.before.before.before.before.before.if1.false, not-false c.before.before.before.before.pair-right2.result c.before.before.before.if2.false))
 
 pub pairs-right-spec : {M : Type 1} → statement M

@@ -3,7 +3,7 @@ use mathlib.Core.Path.{refl, sym, ◌∙◌}
 use native.Mathlib.Omega.{arith}
 use borrow.Author.Tests.{not-true, not-false}
 use borrow.Author.Rules.{rules}
-use Rattle.rule.proofs.RightLaws.{field-read, row_low, row-high, row-parts}
+use Rattle.rule.proofs.RightLaws.{field_read, row_low, row_high, row_parts}
 use Rattle.rule.proofs.right.row_right.Statement.{statement}
 use Rattle.rule.proofs.right.row_right.Tie as tie
 
@@ -14,7 +14,7 @@ returns : tie.Need-returns
 returns c = row_low _ _ c.before.field_of.ensures c.if1.true
 
 returns-2 : tie.Need-returns-2
-returns-2 c = row-high _ _ c.before.before.field_of.ensures c.if2.true
+returns-2 c = row_high _ _ c.before.before.field_of.ensures c.if2.true
 
 field-of-requires-2 : tie.Need-field-of-requires-2
 field-of-requires-2 c κs = search rules
@@ -30,8 +30,8 @@ field-right-requires c κs = search rules
 
 returns-3 : tie.Need-returns-3
 returns-3 c =
-    sym (row-parts _ _ c.before.before.before.before.before.before.before.field_of.ensures c.before.before.field-of3.ensures c.before.before.before.before.field-of2.ensures (omega arith) (omega arith)
-    (field-read _ _ _ 0 (omega arith) c.before.before.before.use-of.ensures c.before.field-right.ensures)
+    sym (row_parts _ _ c.before.before.before.before.before.before.before.field_of.ensures c.before.before.field-of3.ensures c.before.before.before.before.field-of2.ensures (omega arith) (omega arith)
+    (field_read _ _ _ 0 (omega arith) c.before.before.before.use-of.ensures c.before.field-right.ensures)
     refl
     ∙ rw (not-true c.before.field-right.result c.if3.true))
 
@@ -43,9 +43,9 @@ field-right-requires-2 c κs = search rules
 
 returns-4 : tie.Need-returns-4
 returns-4 c =
-    sym (row-parts _ _ c.before.before.before.before.before.before.before.before.before.before.field_of.ensures c.before.before.before.before.before.field-of3.ensures c.before.before.before.before.before.before.before.field-of2.ensures (omega arith) (omega arith)
-    (field-read _ _ _ 0 (omega arith) c.before.before.before.before.before.before.use-of.ensures c.before.before.before.before.field-right.ensures)
-    (field-read _ _ _ 1 (omega arith) c.before.before.use-of2.ensures c.before.field-right2.ensures)
+    sym (row_parts _ _ c.before.before.before.before.before.before.before.before.before.before.field_of.ensures c.before.before.before.before.before.field-of3.ensures c.before.before.before.before.before.before.before.field-of2.ensures (omega arith) (omega arith)
+    (field_read _ _ _ 0 (omega arith) c.before.before.before.before.before.before.use-of.ensures c.before.before.before.before.field-right.ensures)
+    (field_read _ _ _ 1 (omega arith) c.before.before.use-of2.ensures c.before.field-right2.ensures)
     ∙ rw (not-false c.before.before.before.before.field-right.result c.before.before.before.if3.false, not-true c.before.field-right2.result c.if4.true))
 
 pairs-used-requires : tie.Need-pairs-used-requires
@@ -56,10 +56,10 @@ pairs-right-requires c κs = search rules
 
 returns-5 : tie.Need-returns-5
 returns-5 c =
-    sym (row-parts _ _ c.before.before.before.before.before.before.before.before.before.before.before.before.field_of.ensures c.before.before.before.before.before.before.before.field-of3.ensures c.before.before.before.before.before.before.before.before.before.field-of2.ensures (omega arith) (omega arith)
-    (field-read _ _ _ 0 (omega arith) c.before.before.before.before.before.before.before.before.use-of.ensures c.before.before.before.before.before.before.field-right.ensures)
-    (field-read _ _ _ 1 (omega arith) c.before.before.before.before.use-of2.ensures c.before.before.before.field-right2.ensures)
-    ∙ rw (not-false c.before.before.before.before.before.before.field-right.result c.before.before.before.before.before.if3.false, not-false c.before.before.before.field-right2.result c.before.before.if4.false, ← c.before.pairs-used.ensures, c.pairs-right.ensures))
+    sym (row_parts _ _ c.before.before.before.before.before.before.before.before.before.before.before.before.field_of.ensures c.before.before.before.before.before.before.before.field-of3.ensures c.before.before.before.before.before.before.before.before.before.field-of2.ensures (omega arith) (omega arith)
+    (field_read _ _ _ 0 (omega arith) c.before.before.before.before.before.before.before.before.use-of.ensures c.before.before.before.before.before.before.field-right.ensures)
+    (field_read _ _ _ 1 (omega arith) c.before.before.before.before.use-of2.ensures c.before.before.before.field-right2.ensures)
+    ∙ rw (not-false c.before.before.before.before.before.before.field-right.result c.before.before.before.before.before.if3.false, not-false c.before.before.before.field-right2.result c.before.before.if4.false, ← c.before.pairs_used.ensures, c.pairs_right.ensures))
 
 pub row-right-spec : {M : Type 1} → statement M
 row-right-spec =

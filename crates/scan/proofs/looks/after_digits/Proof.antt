@@ -1,7 +1,7 @@
 -- `looks::after_digits` meets its contract. Assumes nothing.
 use native.Mathlib.Omega.{arith}
 use mathlib.Core.Path.{sym, ◌∙◌}
-use Rattle.scan.proofs.StepLaws.{digits_more, digits-stop, digits-end}
+use Rattle.scan.proofs.StepLaws.{digits_more, digits_stop, digits_end}
 use borrow.Author.Rules.{rules}
 use Rattle.scan.proofs.looks.after_digits.Statement.{statement}
 use Rattle.scan.proofs.looks.after_digits.Tie as tie
@@ -21,7 +21,7 @@ returns : tie.Need-returns
 returns c = digits_more _ _ _ _ _ _ c.before.before.before.before.before.before.requires.0.0 c.before.before.before.before.before.before.requires.0.1 c.before.before.before.before.before.before.requires.1 (sym c.before.before.before.is-word-byte.ensures ∙ c.before.before.if1.true) (sym c.before.class_of.ensures ∙ c.if2.true)
 
 returns-2 : tie.Need-returns-2
-returns-2 c = digits-stop _ _ _ _ _ _ c.before.before.before.before.before.before.requires.0.0 c.before.before.before.before.before.before.requires.0.1 c.before.before.before.before.before.before.requires.1 (sym c.before.before.before.is-word-byte.ensures ∙ c.before.before.if1.true) (λ z. c.if2.false (c.before.class_of.ensures ∙ z))
+returns-2 c = digits_stop _ _ _ _ _ _ c.before.before.before.before.before.before.requires.0.0 c.before.before.before.before.before.before.requires.0.1 c.before.before.before.before.before.before.requires.1 (sym c.before.before.before.is-word-byte.ensures ∙ c.before.before.if1.true) (λ z. c.if2.false (c.before.class_of.ensures ∙ z))
 
 give-requires : tie.Need-give-requires
 give-requires c κs = search rules
@@ -30,7 +30,7 @@ begin-requires : tie.Need-begin-requires
 begin-requires c κs = (c.before.before.before.before.before.requires.0.0, c.give.ensures.low, omega (arith, c.give.ensures.near, c.before.before.before.before.before.requires.0.1.shallow))
 
 returns-3 : tie.Need-returns-3
-returns-3 c = digits-end _ _ _ _ _ _ c.before.before.before.before.before.before.requires.0.0 c.before.before.before.before.before.before.requires.0.1 _ _ _ _ _ _ c.before.before.before.before.before.before.requires.1 (sym c.before.before.before.is-word-byte.ensures ∙ c.before.before.if1.false) c.before.give.ensures c.begin.ensures
+returns-3 c = digits_end _ _ _ _ _ _ c.before.before.before.before.before.before.requires.0.0 c.before.before.before.before.before.before.requires.0.1 _ _ _ _ _ _ c.before.before.before.before.before.before.requires.1 (sym c.before.before.before.is-word-byte.ensures ∙ c.before.before.if1.false) c.before.give.ensures c.begin.ensures
 
 pub after-digits-spec : {M : Type 1} → statement M
 after-digits-spec =

@@ -2,7 +2,7 @@
 use native.Mathlib.Omega.{arith}
 use mathlib.Core.Path.{sym, ◌∙◌}
 use Rattle.spelling.proofs.KindLaws.{code_lt}
-use Rattle.scan.proofs.StepLaws.{letters-more, letters-stop, letters-end}
+use Rattle.scan.proofs.StepLaws.{letters_more, letters_stop, letters_end}
 use borrow.Author.Rules.{rules}
 use Rattle.scan.proofs.looks.after_letters.Statement.{statement}
 use Rattle.scan.proofs.looks.after_letters.Tie as tie
@@ -19,10 +19,10 @@ grows-requires : tie.Need-grows-requires
 grows-requires c κs = search rules
 
 returns : tie.Need-returns
-returns c = letters-more _ _ _ _ _ _ c.before.before.before.before.before.before.requires.0.0 c.before.before.before.before.before.before.requires.0.1 _ c.before.before.before.before.before.before.requires.1 (sym c.before.before.before.is-word-byte.ensures ∙ c.before.before.if1.true) c.before.grows.ensures c.if2.true
+returns c = letters_more _ _ _ _ _ _ c.before.before.before.before.before.before.requires.0.0 c.before.before.before.before.before.before.requires.0.1 _ c.before.before.before.before.before.before.requires.1 (sym c.before.before.before.is-word-byte.ensures ∙ c.before.before.if1.true) c.before.grows.ensures c.if2.true
 
 returns-2 : tie.Need-returns-2
-returns-2 c = letters-stop _ _ _ _ _ _ c.before.before.before.before.before.before.requires.0.0 c.before.before.before.before.before.before.requires.0.1 _ c.before.before.before.before.before.before.requires.1 (sym c.before.before.before.is-word-byte.ensures ∙ c.before.before.if1.true) c.before.grows.ensures c.if2.false
+returns-2 c = letters_stop _ _ _ _ _ _ c.before.before.before.before.before.before.requires.0.0 c.before.before.before.before.before.before.requires.0.1 _ c.before.before.before.before.before.before.requires.1 (sym c.before.before.before.is-word-byte.ensures ∙ c.before.before.if1.true) c.before.grows.ensures c.if2.false
 
 sub-word-of : tie.Need-overflow-sub-word-of
 sub-word-of c = search rules
@@ -43,7 +43,7 @@ begin-requires : tie.Need-begin-requires
 begin-requires c κs = (c.before.before.before.before.before.before.before.requires.0.0, c.give.ensures.low, omega (arith, c.give.ensures.near, c.before.before.before.before.before.before.before.requires.0.1.shallow))
 
 returns-3 : tie.Need-returns-3
-returns-3 c = letters-end _ _ _ _ _ _ c.before.before.before.before.before.before.before.before.requires.0.0 c.before.before.before.before.before.before.before.before.requires.0.1 _ _ _ _ _ _ _ c.before.before.before.before.before.before.before.before.requires.1 (sym c.before.before.before.before.before.is-word-byte.ensures ∙ c.before.before.before.before.if1.false) c.before.before.word_of.ensures c.before.give.ensures c.begin.ensures
+returns-3 c = letters_end _ _ _ _ _ _ c.before.before.before.before.before.before.before.before.requires.0.0 c.before.before.before.before.before.before.before.before.requires.0.1 _ _ _ _ _ _ _ c.before.before.before.before.before.before.before.before.requires.1 (sym c.before.before.before.before.before.is-word-byte.ensures ∙ c.before.before.before.before.if1.false) c.before.before.word_of.ensures c.before.give.ensures c.begin.ensures
 
 pub after-letters-spec : {M : Type 1} → statement M
 after-letters-spec =

@@ -1,6 +1,6 @@
 -- `looks::step` meets its contract. Assumes nothing.
 use native.Mathlib.Omega.{arith}
-use Rattle.scan.proofs.StepLaws.{gap-steps, arrow-steps, arrow-stops}
+use Rattle.scan.proofs.StepLaws.{gap_steps, arrow_steps, arrow_stops}
 use borrow.Author.Rules.{rules}
 use Rattle.scan.proofs.looks.step.Statement.{statement}
 use Rattle.scan.proofs.looks.step.Tie as tie
@@ -9,7 +9,7 @@ begin-requires : tie.Need-begin-requires
 begin-requires c κs = search rules
 
 returns : tie.Need-returns
-returns c = gap-steps _ _ _ _ _ _ c.before.before.before.requires.0 c.before.before.before.requires.1 _ _ _ _ c.before.if1.true c.begin.ensures
+returns c = gap_steps _ _ _ _ _ _ c.before.before.before.requires.0 c.before.before.before.requires.1 _ _ _ _ c.before.if1.true c.begin.ensures
 
 after-letters-requires : tie.Need-after-letters-requires
 after-letters-requires c κs = search rules
@@ -30,10 +30,10 @@ give-requires : tie.Need-give-requires
 give-requires c κs = search rules
 
 returns-4 : tie.Need-returns-4
-returns-4 c = arrow-steps _ _ _ _ _ _ c.before.before.before.before.before.before.before.requires.0 c.before.before.before.before.before.before.before.requires.1 _ _ c.before.before.before.before.before.if1.false c.before.before.before.before.if2.false c.before.before.before.if3.false c.before.if4.true c.give.ensures
+returns-4 c = arrow_steps _ _ _ _ _ _ c.before.before.before.before.before.before.before.requires.0 c.before.before.before.before.before.before.before.requires.1 _ _ c.before.before.before.before.before.if1.false c.before.before.before.before.if2.false c.before.before.before.if3.false c.before.if4.true c.give.ensures
 
 returns-5 : tie.Need-returns-5
-returns-5 c = arrow-stops _ _ _ _ _ _ c.before.before.before.before.before.before.requires.0 c.before.before.before.before.before.before.requires.1 c.before.before.before.before.if1.false c.before.before.before.if2.false c.before.before.if3.false c.if4.false
+returns-5 c = arrow_stops _ _ _ _ _ _ c.before.before.before.before.before.before.requires.0 c.before.before.before.before.before.before.requires.1 c.before.before.before.before.if1.false c.before.before.before.if2.false c.before.before.if3.false c.if4.false
 
 pub step_spec : {M : Type 1} → statement M
 step_spec =

@@ -1,6 +1,6 @@
 -- `modes::kind_of` meets its contract. Assumes nothing.
 use Rattle.spelling.specs.Codes.{kinds}
-use Rattle.spelling.proofs.TableLaws.{kind-lt}
+use Rattle.spelling.proofs.TableLaws.{kind_lt}
 use mathlib.Core.Path.{refl}
 use borrow.Author.Rules.{rules}
 use Rattle.spelling.proofs.modes.kind_of.Statement.{statement}
@@ -14,7 +14,7 @@ array-read-result c = search rules
 
 returns : tie.Need-returns
 unfolding kinds
-returns c = (refl, unfold kinds in kind-lt c.args.word c.requires)
+returns c = (refl, unfold kinds in kind_lt c.args.word c.requires)
 
 pub kind-of-spec : {M : Type 1} → statement M
 kind-of-spec = tie.close (tie.spec mul-result array-read-result returns)

@@ -1,8 +1,8 @@
 -- `modes::next_mode` meets its contract. Assumes nothing.
 use Prim.Native.Nat.{◌+◌, ◌*◌}
 use native.Mathlib.Omega.{arith}
-use Rattle.spelling.specs.Codes.{kinds, nexts, nextMode}
-use Rattle.spelling.proofs.TableLaws.{mode-lt}
+use Rattle.spelling.specs.Codes.{kinds, nexts, next_mode}
+use Rattle.spelling.proofs.TableLaws.{mode_lt}
 use mathlib.Core.Path.{refl}
 use borrow.Author.Rules.{rules}
 use Rattle.spelling.proofs.modes.next_mode.Statement.{statement}
@@ -21,8 +21,8 @@ array-read-result : tie.Need-array-read-result
 array-read-result c = search rules
 
 returns : tie.Need-returns
-unfolding nexts nextMode
-returns c = (rw (← c.kind-of.ensures.0), mode-lt (c.before.args.mode * 10 + c.kind-of.result) (omega arith))
+unfolding nexts next_mode
+returns c = (rw (← c.kind_of.ensures.0), mode_lt (c.before.args.mode * 10 + c.kind_of.result) (omega arith))
 
 pub next-mode-spec : {M : Type 1} → statement M
 next-mode-spec = tie.close (tie.spec mul-i kind-of-requires add-i array-read-result returns)

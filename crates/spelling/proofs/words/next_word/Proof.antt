@@ -1,6 +1,6 @@
 -- `words::next_word` meets its contract, by the class of the first byte. Assumes nothing.
 use native.Mathlib.Omega.{arith}
-use Rattle.spelling.proofs.NextLaws.{none_left, arrow-next, sign-next, number-next, letters-next}
+use Rattle.spelling.proofs.NextLaws.{none_left, arrow_next, sign_next, number_next, letters_next}
 use borrow.Author.Rules.{rules}
 use Rattle.spelling.proofs.words.next_word.Statement.{statement}
 use Rattle.spelling.proofs.words.next_word.Tie as tie
@@ -21,19 +21,19 @@ add-t12 : tie.Need-overflow-add-t12
 add-t12 c = search rules
 
 returns-2 : tie.Need-returns-2
-returns-2 c = arrow-next _ _ _ c.before.before.before.before.before.spaces-end.ensures (omega (arith, c.before.before.before.before.before.spaces-end.ensures)) _ c.before.before.class_of.ensures c.if3.true
+returns-2 c = arrow_next _ _ _ c.before.before.before.before.before.spaces-end.ensures (omega (arith, c.before.before.before.before.before.spaces-end.ensures)) _ c.before.before.class_of.ensures c.if3.true
 
 add-t13 : tie.Need-overflow-add-t13
 add-t13 c = search rules
 
 returns-3 : tie.Need-returns-3
-returns-3 c = sign-next _ _ _ c.before.before.before.before.before.spaces-end.ensures (omega (arith, c.before.before.before.before.before.spaces-end.ensures)) _ c.before.before.class_of.ensures c.before.if2.true c.if3.false
+returns-3 c = sign_next _ _ _ c.before.before.before.before.before.spaces-end.ensures (omega (arith, c.before.before.before.before.before.spaces-end.ensures)) _ c.before.before.class_of.ensures c.before.if2.true c.if3.false
 
 word-end-requires : tie.Need-word-end-requires
 word-end-requires c κs = search rules
 
 returns-4 : tie.Need-returns-4
-returns-4 c = number-next _ _ _ c.before.before.before.before.before.before.spaces-end.ensures (omega (arith, c.before.before.before.before.before.before.spaces-end.ensures)) _ c.before.before.before.class_of.ensures c.if4.true _ c.before.word-end.ensures
+returns-4 c = number_next _ _ _ c.before.before.before.before.before.before.spaces-end.ensures (omega (arith, c.before.before.before.before.before.before.spaces-end.ensures)) _ c.before.before.before.class_of.ensures c.if4.true _ c.before.word-end.ensures
 
 sub-word-of : tie.Need-overflow-sub-word-of
 sub-word-of c = search rules
@@ -48,7 +48,7 @@ word-of-requires : tie.Need-word-of-requires
 word-of-requires c κs = search rules
 
 returns-5 : tie.Need-returns-5
-returns-5 c = letters-next _ _ _ c.before.before.before.before.before.before.before.before.spaces-end.ensures (omega (arith, c.before.before.before.before.before.before.before.before.spaces-end.ensures)) _ c.before.before.before.before.before.class_of.ensures c.before.before.before.before.if2.false c.before.before.if4.false _ _ c.before.before.before.word-end.ensures c.word_of.ensures
+returns-5 c = letters_next _ _ _ c.before.before.before.before.before.before.before.before.spaces-end.ensures (omega (arith, c.before.before.before.before.before.before.before.before.spaces-end.ensures)) _ c.before.before.before.before.before.class_of.ensures c.before.before.before.before.if2.false c.before.before.if4.false _ _ c.before.before.before.word-end.ensures c.word_of.ensures
 
 pub next-word-spec : {M : Type 1} → statement M
 next-word-spec =

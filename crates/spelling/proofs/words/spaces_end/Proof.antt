@@ -3,7 +3,7 @@ use Prim.Native.Nat.{◌-◌}
 use native.Mathlib.Omega.{arith}
 use lib.ListN.{length}
 use borrow.Author.Rules.{rules}
-use Rattle.spelling.proofs.FirstLaws.{Skipped, skip-none, skip-more, skip-stops, skip-ends}
+use Rattle.spelling.proofs.FirstLaws.{Skipped, skip_none, skip_more, skip_stops, skip_ends}
 use Rattle.spelling.proofs.words.spaces_end.Statement.{statement}
 use Rattle.spelling.proofs.words.spaces_end.Tie as tie
 
@@ -14,13 +14,13 @@ abbrev decreases-loop : tie.decreases-loop
 decreases-loop text at i₀ i = length text - i
 
 loop-holds : tie.Need-loop-init invariant-loop decreases-loop
-loop-holds c = skip-none _ _ c.requires
+loop-holds c = skip_none _ _ c.requires
 
 shared-slice-read-if1 : tie.Need-shared-slice-read-if1 invariant-loop decreases-loop
 shared-slice-read-if1 c = search rules
 
 returns : tie.Need-returns invariant-loop decreases-loop
-returns c = skip-stops _ _ _ c.before.before.before.loop.invariant c.if1.true
+returns c = skip_stops _ _ _ c.before.before.before.loop.invariant c.if1.true
 
 add-i : tie.Need-overflow-add-i invariant-loop decreases-loop
 add-i c = omega arith
@@ -29,10 +29,10 @@ loop-less : tie.Need-loop-smaller invariant-loop decreases-loop
 loop-less c = omega arith
 
 loop-again : tie.Need-loop-preserved invariant-loop decreases-loop
-loop-again c = skip-more _ _ _ c.before.before.before.loop.invariant (omega arith) c.if1.false
+loop-again c = skip_more _ _ _ c.before.before.before.loop.invariant (omega arith) c.if1.false
 
 returns-2 : tie.Need-returns-2 invariant-loop decreases-loop
-returns-2 c = skip-ends _ _ _ c.before.loop.invariant (omega arith)
+returns-2 c = skip_ends _ _ _ c.before.loop.invariant (omega arith)
 
 pub spaces-end-spec : {M : Type 1} → statement M
 spaces-end-spec =

@@ -4,7 +4,7 @@ use native.Mathlib.Omega.{arith}
 use mathlib.Core.Logic.{⊎_elim}
 use lib.ListN.{length}
 use borrow.Author.Rules.{rules}
-use Rattle.spelling.proofs.RunLaws.{Valued, valued-none, valued-more, valued-all}
+use Rattle.spelling.proofs.RunLaws.{Valued, valued_none, valued_more, valued_all}
 use Rattle.spelling.proofs.words.value_of.Statement.{statement}
 use Rattle.spelling.proofs.words.value_of.Tie as tie
 
@@ -15,7 +15,7 @@ abbrev decreases-loop : tie.decreases-loop
 decreases-loop digits value₀ i₀ value i = length digits - i
 
 loop-holds : tie.Need-loop-init invariant-loop decreases-loop
-loop-holds c = valued-none _
+loop-holds c = valued_none _
 
 mul-value : tie.Need-overflow-mul-value invariant-loop decreases-loop
 mul-value c = omega arith
@@ -36,10 +36,10 @@ loop-less : tie.Need-loop-smaller invariant-loop decreases-loop
 loop-less c = omega arith
 
 loop-again : tie.Need-loop-preserved invariant-loop decreases-loop
-loop-again c = valued-more _ _ _ _ c.before.before.before.before.loop.invariant (omega arith) (⊎_elim (λ w. omega (arith, c.before.digit.ensures)) (λ w. omega (arith, c.before.digit.ensures)) c.if1.branch)
+loop-again c = valued_more _ _ _ _ c.before.before.before.before.loop.invariant (omega arith) (⊎_elim (λ w. omega (arith, c.before.digit.ensures)) (λ w. omega (arith, c.before.digit.ensures)) c.if1.branch)
 
 returns : tie.Need-returns invariant-loop decreases-loop
-returns c = valued-all _ _ _ c.before.loop.invariant (omega arith)
+returns c = valued_all _ _ _ c.before.loop.invariant (omega arith)
 
 pub value-of-spec : {M : Type 1} → statement M
 value-of-spec =

@@ -5,7 +5,7 @@ use mathlib.Core.Path.{sym, ◌∙◌}
 use lib.ListN.{length}
 use borrow.Author.Rules.{rules}
 use borrow.Author.Tests.{not-true, not-false}
-use Rattle.spelling.proofs.RunLaws.{Run, run_none, run_more, run-stops, run_ends}
+use Rattle.spelling.proofs.RunLaws.{Run, run_none, run_more, run_stops, run_ends}
 use Rattle.spelling.proofs.words.word_end.Statement.{statement}
 use Rattle.spelling.proofs.words.word_end.Tie as tie
 
@@ -25,7 +25,7 @@ is-word-byte-requires : tie.Need-is-word-byte-requires invariant-loop decreases-
 is-word-byte-requires c κs = search rules
 
 returns : tie.Need-returns invariant-loop decreases-loop
-returns c = run-stops _ _ _ c.before.before.before.before.loop.invariant (omega arith) (sym c.before.is-word-byte.ensures ∙ not-true _ c.if1.true)
+returns c = run_stops _ _ _ c.before.before.before.before.loop.invariant (omega arith) (sym c.before.is-word-byte.ensures ∙ not-true _ c.if1.true)
 
 add-i : tie.Need-overflow-add-i invariant-loop decreases-loop
 add-i c = omega arith

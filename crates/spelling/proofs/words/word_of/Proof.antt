@@ -1,6 +1,6 @@
 -- `words::word_of` meets its contract, reserved word by reserved word. Assumes nothing.
 use mathlib.Core.Path.{sym, ◌∙◌}
-use Rattle.spelling.proofs.PickLaws.{word-1, word-2, word-3, word-4, word-5, word-6, word-7, word-8}
+use Rattle.spelling.proofs.PickLaws.{word_1, word_2, word_3, word_4, word_5, word_6, word_7, word_8}
 use borrow.Author.Rules.{rules}
 use Rattle.spelling.proofs.words.word_of.Statement.{statement}
 use Rattle.spelling.proofs.words.word_of.Tie as tie
@@ -12,7 +12,7 @@ same-bytes-requires : tie.Need-same-bytes-requires
 same-bytes-requires c κs = search rules
 
 returns : tie.Need-returns
-returns c = word-1 _
+returns c = word_1 _
     (sym c.before.same_bytes.ensures ∙ c.if1.true)
 
 slice-aggregate-same-bytes-2 : tie.Need-slice-aggregate-same-bytes-2
@@ -22,7 +22,7 @@ same-bytes-requires-2 : tie.Need-same-bytes-requires-2
 same-bytes-requires-2 c κs = search rules
 
 returns-2 : tie.Need-returns-2
-returns-2 c = word-2 _
+returns-2 c = word_2 _
     (sym c.before.before.before.before.same_bytes.ensures ∙ c.before.before.before.if1.false)
     (sym c.before.same-bytes2.ensures ∙ c.if2.true)
 
@@ -33,7 +33,7 @@ same-bytes-requires-3 : tie.Need-same-bytes-requires-3
 same-bytes-requires-3 c κs = search rules
 
 returns-3 : tie.Need-returns-3
-returns-3 c = word-3 _
+returns-3 c = word_3 _
     (sym c.before.before.before.before.before.before.before.same_bytes.ensures ∙ c.before.before.before.before.before.before.if1.false)
     (sym c.before.before.before.before.same-bytes2.ensures ∙ c.before.before.before.if2.false)
     (sym c.before.same-bytes3.ensures ∙ c.if3.true)
@@ -45,7 +45,7 @@ same-bytes-requires-4 : tie.Need-same-bytes-requires-4
 same-bytes-requires-4 c κs = search rules
 
 returns-4 : tie.Need-returns-4
-returns-4 c = word-4 _
+returns-4 c = word_4 _
     (sym c.before.before.before.before.before.before.before.before.before.before.same_bytes.ensures ∙ c.before.before.before.before.before.before.before.before.before.if1.false)
     (sym c.before.before.before.before.before.before.before.same-bytes2.ensures ∙ c.before.before.before.before.before.before.if2.false)
     (sym c.before.before.before.before.same-bytes3.ensures ∙ c.before.before.before.if3.false)
@@ -58,7 +58,7 @@ same-bytes-requires-5 : tie.Need-same-bytes-requires-5
 same-bytes-requires-5 c κs = search rules
 
 returns-5 : tie.Need-returns-5
-returns-5 c = word-5 _
+returns-5 c = word_5 _
     (sym c.before.before.before.before.before.before.before.before.before.before.before.before.before.same_bytes.ensures ∙ c.before.before.before.before.before.before.before.before.before.before.before.before.if1.false)
     (sym c.before.before.before.before.before.before.before.before.before.before.same-bytes2.ensures ∙ c.before.before.before.before.before.before.before.before.before.if2.false)
     (sym c.before.before.before.before.before.before.before.same-bytes3.ensures ∙ c.before.before.before.before.before.before.if3.false)
@@ -72,7 +72,7 @@ same-bytes-requires-6 : tie.Need-same-bytes-requires-6
 same-bytes-requires-6 c κs = search rules
 
 returns-6 : tie.Need-returns-6
-returns-6 c = word-6 _
+returns-6 c = word_6 _
     (sym c.before.before.before.before.before.before.before.before.before.before.before.before.before.before.before.before.same_bytes.ensures ∙ c.before.before.before.before.before.before.before.before.before.before.before.before.before.before.before.if1.false)
     (sym c.before.before.before.before.before.before.before.before.before.before.before.before.before.same-bytes2.ensures ∙ c.before.before.before.before.before.before.before.before.before.before.before.before.if2.false)
     (sym c.before.before.before.before.before.before.before.before.before.before.same-bytes3.ensures ∙ c.before.before.before.before.before.before.before.before.before.if3.false)
@@ -87,7 +87,7 @@ same-bytes-requires-7 : tie.Need-same-bytes-requires-7
 same-bytes-requires-7 c κs = search rules
 
 returns-7 : tie.Need-returns-7
-returns-7 c = word-7 _
+returns-7 c = word_7 _
     (sym c.before.before.before.before.before.before.before.before.before.before.before.before.before.before.before.before.before.before.before.same_bytes.ensures ∙ c.before.before.before.before.before.before.before.before.before.before.before.before.before.before.before.before.before.before.if1.false)
     (sym c.before.before.before.before.before.before.before.before.before.before.before.before.before.before.before.before.same-bytes2.ensures ∙ c.before.before.before.before.before.before.before.before.before.before.before.before.before.before.before.if2.false)
     (sym c.before.before.before.before.before.before.before.before.before.before.before.before.before.same-bytes3.ensures ∙ c.before.before.before.before.before.before.before.before.before.before.before.before.if3.false)
@@ -97,7 +97,7 @@ returns-7 c = word-7 _
     (sym c.before.same-bytes7.ensures ∙ c.if7.true)
 
 returns-8 : tie.Need-returns-8
-returns-8 c = word-8 _
+returns-8 c = word_8 _
     (sym c.before.before.before.before.before.before.before.before.before.before.before.before.before.before.before.before.before.before.before.same_bytes.ensures ∙ c.before.before.before.before.before.before.before.before.before.before.before.before.before.before.before.before.before.before.if1.false)
     (sym c.before.before.before.before.before.before.before.before.before.before.before.before.before.before.before.before.same-bytes2.ensures ∙ c.before.before.before.before.before.before.before.before.before.before.before.before.before.before.before.if2.false)
     (sym c.before.before.before.before.before.before.before.before.before.before.before.before.before.same-bytes3.ensures ∙ c.before.before.before.before.before.before.before.before.before.before.before.before.if3.false)

@@ -3,8 +3,8 @@ use mathlib.Core.Path.{sym, ◌∙◌}
 use native.Mathlib.Omega.{arith}
 use borrow.Author.Rules.{rules}
 use Rattle.rule.specs.Decoded.{row_of}
-use Rattle.diagram.proofs.RowLaws.{row-facts}
-use Rattle.stepping.proofs.AtomLaws.{asked-atom, asked-other}
+use Rattle.diagram.proofs.RowLaws.{row_facts}
+use Rattle.stepping.proofs.AtomLaws.{asked_atom, asked_other}
 use Rattle.stepping.proofs.rows.one_row.Statement.{statement}
 use Rattle.stepping.proofs.rows.one_row.Tie as tie
 
@@ -33,8 +33,8 @@ returns : tie.Need-returns
 returns c =
     let s = c.before.before.before.before.before.before.before.before.before.before.before.before in
     let done = c.before.before.before.before.before.atom in
-    let e = asked-atom (row_of s.args.read) s.args.event s.args.given.now (sym c.before.before.before.before.before.before.before.before.before.is-atom.ensures ∙ c.before.before.before.before.before.before.before.before.if1.true) in
-    rw (e, c.uncounted.ensures) (row-facts s.args.k s.args.olds.now s.args.news.now s.args.i s.requires.0.2 done.new.0 done.new.1.0 _ done.result done.ensures)
+    let e = asked_atom (row_of s.args.read) s.args.event s.args.given.now (sym c.before.before.before.before.before.before.before.before.before.is-atom.ensures ∙ c.before.before.before.before.before.before.before.before.if1.true) in
+    rw (e, c.uncounted.ensures) (row_facts s.args.k s.args.olds.now s.args.news.now s.args.i s.requires.0.2 done.new.0 done.new.1.0 _ done.result done.ensures)
 
 same-length-3 : tie.Need-same-length-3
 same-length-3 c = search rules
@@ -45,7 +45,7 @@ same-length-4 c = search rules
 returns-2 : tie.Need-returns-2
 returns-2 c =
     let s = c.before.before.before.before.before.before.before.before.before.before.before.before in
-    let e = asked-other (row_of s.args.read) s.args.event s.args.given.now (sym c.before.before.before.before.before.before.before.before.before.is-atom.ensures ∙ c.before.before.before.before.before.before.before.before.if1.false) in
+    let e = asked_other (row_of s.args.read) s.args.event s.args.given.now (sym c.before.before.before.before.before.before.before.before.before.is-atom.ensures ∙ c.before.before.before.before.before.before.before.before.if1.false) in
     rw (e, ← c.before.before.before.before.before.before.before.instruction.ensures) c.before.before.before.before.row.ensures
 
 pub one-row-spec : {M : Type 1} → statement M

@@ -5,12 +5,12 @@ use native.Mathlib.Omega.{arith}
 use lib.ListN.{length}
 use borrow.Author.Rules.{rules}
 use borrow.Rule.Slice.PartMut.{put_mid}
-use Rattle.meaning.specs.Rows.{rowCount}
+use Rattle.meaning.specs.Rows.{count_of_rows}
 use Rattle.instructions.specs.Planned.{planned}
-use Rattle.stepping.proofs.FitLaws.{few-rows}
-use Rattle.stepping.proofs.ClearLaws.{cleared-is, rest_more, rest-two}
-use Rattle.stepping.proofs.LendLaws.{desk-ready, fresh-ready, lent_back}
-use Rattle.stepping.proofs.OutcomeLaws.{full-leaves, sweep-ready, sizes-ready, done-leaves, done-visits}
+use Rattle.stepping.proofs.FitLaws.{few_rows}
+use Rattle.stepping.proofs.ClearLaws.{cleared_is, rest_more, rest_two}
+use Rattle.stepping.proofs.LendLaws.{desk_ready, fresh_ready, lent_back}
+use Rattle.stepping.proofs.OutcomeLaws.{full_leaves, sweep_ready, sizes_ready, done_leaves, done_visits}
 use Rattle.stepping.proofs.rows.worked.Statement.{statement}
 use Rattle.stepping.proofs.rows.worked.Tie as tie
 
@@ -51,7 +51,7 @@ work-rows-requires c κs =
     let r = s.requires.1.1.0 in
     let few = c.before.before.before.before.before.before.before.before.slots-for.ensures in
     let z = c.before.before.before.before.before.before.zero.ensures in
-    ((f.most, s.requires.0.0, s.requires.0.1, s.requires.0.2, desk-ready f r s.requires.1.1.1 _ few.0 few.1 z), ((r.leads, refl), (r.none, fresh-ready f r _ z)))
+    ((f.most, s.requires.0.0, s.requires.0.1, s.requires.0.2, desk_ready f r s.requires.1.1.1 _ few.0 few.1 z), ((r.leads, refl), (r.none, fresh_ready f r _ z)))
 
 mul-zero-4 : tie.Need-overflow-mul-zero-4
 mul-zero-4 c = search rules
@@ -89,29 +89,29 @@ returns c =
     let f = s.requires.1.0 in
     let back = lent_back s.args.nodes.now f _ c.before.before.before.before.before.before.before.before.before.before.before.before.before.before.before.before.before.before.before.before.before.before.before.slots-for.ensures.1 c.before.before.before.before.before.before.before.before.before.before.before.before.before.before.before.before.before.before.before.before.before.zero.ensures rows.new.1.0 rows.auto.1.0 in
     rw c.refused.ensures (
-      full-leaves s.args.k (rowCount s.args.rows.now) (planned s.args.rows.now s.args.event s.args.given.now) s.args.refs.now s.args.kept s.args.nodes.now s.args.work.now f s.args.sizes.now s.requires.1.1.0 (rw c.before.before.before.before.before.before.before.before.before.if1.true at rows.ensures) c.before.before.before.before.before.before.before.zero2.ensures
-          (cleared-is (length s.args.nodes.now / 3) s.args.work.now f.room (rest_more back.0 (omega arith)) back.1 c.before.before.before.zero3.ensures),
+      full_leaves s.args.k (count_of_rows s.args.rows.now) (planned s.args.rows.now s.args.event s.args.given.now) s.args.refs.now s.args.kept s.args.nodes.now s.args.work.now f s.args.sizes.now s.requires.1.1.0 (rw c.before.before.before.before.before.before.before.before.before.if1.true at rows.ensures) c.before.before.before.before.before.before.before.zero2.ensures
+          (cleared_is (length s.args.nodes.now / 3) s.args.work.now f.room (rest_more back.0 (omega arith)) back.1 c.before.before.before.zero3.ensures),
       (refl, refl),
     )
 
 cast-count : tie.Need-overflow-cast-count
-cast-count c = omega (arith, few-rows _ c.before.before.before.before.before.before.before.before.before.before.before.before.before.before.before.before.before.before.requires.0.0)
+cast-count c = omega (arith, few_rows _ c.before.before.before.before.before.before.before.before.before.before.before.before.before.before.before.before.before.before.requires.0.0)
 
 mul-renew : tie.Need-overflow-mul-renew
 mul-renew c = search rules
 
 renew-requires : tie.Need-renew-requires
-unfolding rowCount
+unfolding count_of_rows
 renew-requires c κs =
     let rows = c.before.before.before.before.before.before.before.before.before.work-rows in
     let s = c.before.before.before.before.before.before.before.before.before.before.before.before.before.before.before.before.before.before.before.before.before.before in
     let f = s.requires.1.0 in
     let back = lent_back s.args.nodes.now f _ c.before.before.before.before.before.before.before.before.before.before.before.before.before.before.before.before.before.before.slots-for.ensures.1 c.before.before.before.before.before.before.before.before.before.before.before.before.before.before.before.before.zero.ensures rows.new.1.0 rows.auto.1.0 in
-    let t = sweep-ready s.args.k (rowCount s.args.rows.now) (planned s.args.rows.now s.args.event s.args.given.now) s.args.refs.now s.args.kept s.args.nodes.now s.args.work.now f (rw c.before.before.before.before.if1.false at rows.ensures) (put_mid 0 (15 * (length s.args.nodes.now / 3) - 0) c.before.before.before.before.before.before.before.before.before.before.before.before.before.before.before.before.zero.new.0 rows.new.1.0) back.1 s.requires.1.1.0 in
+    let t = sweep_ready s.args.k (count_of_rows s.args.rows.now) (planned s.args.rows.now s.args.event s.args.given.now) s.args.refs.now s.args.kept s.args.nodes.now s.args.work.now f (rw c.before.before.before.before.if1.false at rows.ensures) (put_mid 0 (15 * (length s.args.nodes.now / 3) - 0) c.before.before.before.before.before.before.before.before.before.before.before.before.before.before.before.before.zero.new.0 rows.new.1.0) back.1 s.requires.1.1.0 in
     (t.0, (t.1, (t.2, t.3)))
 
 sizes-requires : tie.Need-sizes-requires
-unfolding rowCount
+unfolding count_of_rows
 sizes-requires c κs =
     let swept = c.before.before.before.before.before.before.before.before.renew in
     let rows = c.before.before.before.before.before.before.before.before.before.before.before.before.before.before.before.before.before.before.work-rows in
@@ -119,8 +119,8 @@ sizes-requires c κs =
     let f = s.requires.1.0 in
     let back = lent_back s.args.nodes.now f _ c.before.before.before.before.before.before.before.before.before.before.before.before.before.before.before.before.before.before.before.before.before.before.before.before.before.before.before.slots-for.ensures.1 c.before.before.before.before.before.before.before.before.before.before.before.before.before.before.before.before.before.before.before.before.before.before.before.before.before.zero.ensures rows.new.1.0 rows.auto.1.0 in
     let t = rw c.before.before.before.before.before.before.before.before.before.before.before.before.before.if1.false at rows.ensures in
-    let asked = sizes-ready s.args.k (rowCount s.args.rows.now) (planned s.args.rows.now s.args.event s.args.given.now) s.args.refs.now s.args.kept s.args.nodes.now s.args.work.now f t swept.ensures swept.auto.0 (swept.auto.1.1.0 ∙ back.1) in
-    (asked.0, (asked.1, omega (arith, s.requires.0.3, t.new-lead.wide)))
+    let asked = sizes_ready s.args.k (count_of_rows s.args.rows.now) (planned s.args.rows.now s.args.event s.args.given.now) s.args.refs.now s.args.kept s.args.nodes.now s.args.work.now f t swept.ensures swept.auto.0 (swept.auto.1.1.0 ∙ back.1) in
+    (asked.0, (asked.1, omega (arith, s.requires.0.3, t.new_lead.wide)))
 
 mul-zero-6 : tie.Need-overflow-mul-zero-6
 mul-zero-6 c = omega (arith, c.before.before.before.before.before.before.before.before.before.before.before.before.before.before.before.before.before.before.before.before.before.before.before.before.before.before.before.before.before.before.before.before.before.before.before.requires.1.0.small)
@@ -148,7 +148,7 @@ same-length-4 c =
     c.before.before.zero4.auto.0 ∙ c.before.before.before.before.before.before.sizes.auto.1.1.1.1.0 ∙ c.before.before.before.before.before.before.before.before.before.before.before.before.before.before.before.renew.auto.1.1.0 ∙ back.1
 
 returns-2 : tie.Need-returns-2
-unfolding rowCount
+unfolding count_of_rows
 returns-2 c =
     let swept = c.before.before.before.before.before.before.before.before.before.before.before.before.before.before.before.renew in
     let found = c.before.before.before.before.before.before.sizes in
@@ -157,11 +157,11 @@ returns-2 c =
     let f = s.requires.1.0 in
     let back = lent_back s.args.nodes.now f _ c.before.before.before.before.before.before.before.before.before.before.before.before.before.before.before.before.before.before.before.before.before.before.before.before.before.before.before.before.before.before.before.before.before.before.slots-for.ensures.1 c.before.before.before.before.before.before.before.before.before.before.before.before.before.before.before.before.before.before.before.before.before.before.before.before.before.before.before.before.before.before.before.before.zero.ensures rows.new.1.0 rows.auto.1.0 in
     let t = rw c.before.before.before.before.before.before.before.before.before.before.before.before.before.before.before.before.before.before.before.before.if1.false at rows.ensures in
-    let ready = sweep-ready s.args.k (rowCount s.args.rows.now) (planned s.args.rows.now s.args.event s.args.given.now) s.args.refs.now s.args.kept s.args.nodes.now s.args.work.now f t (put_mid 0 (15 * (length s.args.nodes.now / 3) - 0) c.before.before.before.before.before.before.before.before.before.before.before.before.before.before.before.before.before.before.before.before.before.before.before.before.before.before.before.before.before.before.before.before.zero.new.0 rows.new.1.0) back.1 s.requires.1.1.0 in
-    let asked = sizes-ready s.args.k (rowCount s.args.rows.now) (planned s.args.rows.now s.args.event s.args.given.now) s.args.refs.now s.args.kept s.args.nodes.now s.args.work.now f t swept.ensures swept.auto.0 (swept.auto.1.1.0 ∙ back.1) in (
-      done-leaves s.args.k (rowCount s.args.rows.now) (planned s.args.rows.now s.args.event s.args.given.now) s.args.refs.now s.args.kept s.args.nodes.now s.args.work.now f t s.args.sizes.now swept.ensures found.ensures.0
-          (cleared-is (length s.args.nodes.now / 3) s.args.work.now f.room (rest-two (16 * (length s.args.nodes.now / 3) + 1024) (rest-two (15 * (length s.args.nodes.now / 3)) back.0 swept.ensures.rest (omega arith) (omega arith)) found.ensures.1 (omega arith) (omega (arith, asked.1))) (found.auto.1.1.1.1.0 ∙ swept.auto.1.1.0 ∙ back.1) c.before.before.zero4.ensures),
-      done-visits s.args.k (rowCount s.args.rows.now) (planned s.args.rows.now s.args.event s.args.given.now) s.args.refs.now s.args.kept s.args.nodes.now s.args.work.now f t ready.3 swept.ensures,
+    let ready = sweep_ready s.args.k (count_of_rows s.args.rows.now) (planned s.args.rows.now s.args.event s.args.given.now) s.args.refs.now s.args.kept s.args.nodes.now s.args.work.now f t (put_mid 0 (15 * (length s.args.nodes.now / 3) - 0) c.before.before.before.before.before.before.before.before.before.before.before.before.before.before.before.before.before.before.before.before.before.before.before.before.before.before.before.before.before.before.before.before.zero.new.0 rows.new.1.0) back.1 s.requires.1.1.0 in
+    let asked = sizes_ready s.args.k (count_of_rows s.args.rows.now) (planned s.args.rows.now s.args.event s.args.given.now) s.args.refs.now s.args.kept s.args.nodes.now s.args.work.now f t swept.ensures swept.auto.0 (swept.auto.1.1.0 ∙ back.1) in (
+      done_leaves s.args.k (count_of_rows s.args.rows.now) (planned s.args.rows.now s.args.event s.args.given.now) s.args.refs.now s.args.kept s.args.nodes.now s.args.work.now f t s.args.sizes.now swept.ensures found.ensures.0
+          (cleared_is (length s.args.nodes.now / 3) s.args.work.now f.room (rest_two (16 * (length s.args.nodes.now / 3) + 1024) (rest_two (15 * (length s.args.nodes.now / 3)) back.0 swept.ensures.rest (omega arith) (omega arith)) found.ensures.1 (omega arith) (omega (arith, asked.1))) (found.auto.1.1.1.1.0 ∙ swept.auto.1.1.0 ∙ back.1) c.before.before.zero4.ensures),
+      done_visits s.args.k (count_of_rows s.args.rows.now) (planned s.args.rows.now s.args.event s.args.given.now) s.args.refs.now s.args.kept s.args.nodes.now s.args.work.now f t ready.3 swept.ensures,
     )
 
 pub worked-spec : {M : Type 1} → statement M

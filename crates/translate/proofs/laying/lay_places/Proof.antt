@@ -3,7 +3,7 @@ use Prim.Native.Nat.{◌-◌}
 use native.Mathlib.Omega.{arith}
 use lib.ListN.{length}
 use borrow.Author.Rules.{rules}
-use Rattle.translate.proofs.LayingLaws.{Laying, lay-begins, lay-sized, lay-more, lay-ends}
+use Rattle.translate.proofs.LayingLaws.{Laying, lay_begins, lay_sized, lay_more, lay_ends}
 use Rattle.translate.proofs.laying.lay_places.Statement.{statement}
 use Rattle.translate.proofs.laying.lay_places.Tie as tie
 use Rattle.translate.proofs.laying.lay_places.Reads as reads
@@ -18,7 +18,7 @@ decreases-loop from to₀ i₀ to i = length to₀ - i
 
 -- src/laying.rt:45:5
 loop-holds : tie.Need-loop-init invariant-loop decreases-loop
-loop-holds c = lay-begins _ _
+loop-holds c = lay_begins _ _
 
 -- src/laying.rt:46:17
 place-number-requires : tie.Need-place-number-requires invariant-loop decreases-loop
@@ -38,19 +38,19 @@ add-i c = omega (arith, c.before.loop-test.true)
 
 -- src/laying.rt:45:5
 loop-less : tie.Need-loop-smaller invariant-loop decreases-loop
-loop-less c = omega (arith, c.before.loop-test.true, lay-sized _ _ _ _ c.before.before.before.before.before.requires c.before.before.loop.invariant)
+loop-less c = omega (arith, c.before.loop-test.true, lay_sized _ _ _ _ c.before.before.before.before.before.requires c.before.before.loop.invariant)
 
 -- src/laying.rt:45:5
 loop-again : tie.Need-loop-preserved invariant-loop decreases-loop
-loop-again c = lay-more _ _ _ _ c.before.before.before.before.before.requires c.before.before.loop.invariant _ c.place-number.ensures (omega (arith, c.before.loop-test.true, lay-sized _ _ _ _ c.before.before.before.before.before.requires c.before.before.loop.invariant))
+loop-again c = lay_more _ _ _ _ c.before.before.before.before.before.requires c.before.before.loop.invariant _ c.place-number.ensures (omega (arith, c.before.loop-test.true, lay_sized _ _ _ _ c.before.before.before.before.before.requires c.before.before.loop.invariant))
 
 -- src/laying.rt:40:1
 same_length : tie.Need-same-length invariant-loop decreases-loop
-same_length c = lay-sized _ _ _ _ c.before.before.before.before.requires c.before.loop.invariant
+same_length c = lay_sized _ _ _ _ c.before.before.before.before.requires c.before.loop.invariant
 
 -- src/laying.rt:40:1
 returns : tie.Need-returns invariant-loop decreases-loop
-returns c = lay-ends _ _ _ _ c.before.before.before.before.requires c.before.loop.invariant c.loop-test.false
+returns c = lay_ends _ _ _ _ c.before.before.before.before.requires c.before.loop.invariant c.loop-test.false
 
 pub lay-places-spec : {M : Type 1} → statement M
 lay-places-spec =

@@ -3,7 +3,7 @@ use Prim.Native.Nat.{◌-◌}
 use native.Mathlib.Omega.{arith}
 use lib.ListN.{length}
 use borrow.Author.Rules.{rules}
-use Rattle.translate.proofs.LayingLaws.{Laying, lay-begins, lay-sized, lay-more, lay-ends}
+use Rattle.translate.proofs.LayingLaws.{Laying, lay_begins, lay_sized, lay_more, lay_ends}
 use Rattle.translate.proofs.laying.lay_rows.Statement.{statement}
 use Rattle.translate.proofs.laying.lay_rows.Tie as tie
 use Rattle.translate.proofs.laying.lay_rows.Reads as reads
@@ -18,7 +18,7 @@ decreases-loop from to₀ i₀ to i = length to₀ - i
 
 -- src/laying.rt:23:5
 loop-holds : tie.Need-loop-init invariant-loop decreases-loop
-loop-holds c = lay-begins _ _
+loop-holds c = lay_begins _ _
 
 -- src/laying.rt:24:17
 row-number-requires : tie.Need-row-number-requires invariant-loop decreases-loop
@@ -38,19 +38,19 @@ add-i c = omega (arith, c.before.loop-test.true)
 
 -- src/laying.rt:23:5
 loop-less : tie.Need-loop-smaller invariant-loop decreases-loop
-loop-less c = omega (arith, c.before.loop-test.true, lay-sized _ _ _ _ c.before.before.before.before.before.requires c.before.before.loop.invariant)
+loop-less c = omega (arith, c.before.loop-test.true, lay_sized _ _ _ _ c.before.before.before.before.before.requires c.before.before.loop.invariant)
 
 -- src/laying.rt:23:5
 loop-again : tie.Need-loop-preserved invariant-loop decreases-loop
-loop-again c = lay-more _ _ _ _ c.before.before.before.before.before.requires c.before.before.loop.invariant _ c.row_number.ensures (omega (arith, c.before.loop-test.true, lay-sized _ _ _ _ c.before.before.before.before.before.requires c.before.before.loop.invariant))
+loop-again c = lay_more _ _ _ _ c.before.before.before.before.before.requires c.before.before.loop.invariant _ c.row_number.ensures (omega (arith, c.before.loop-test.true, lay_sized _ _ _ _ c.before.before.before.before.before.requires c.before.before.loop.invariant))
 
 -- src/laying.rt:18:1
 same_length : tie.Need-same-length invariant-loop decreases-loop
-same_length c = lay-sized _ _ _ _ c.before.before.before.before.requires c.before.loop.invariant
+same_length c = lay_sized _ _ _ _ c.before.before.before.before.requires c.before.loop.invariant
 
 -- src/laying.rt:18:1
 returns : tie.Need-returns invariant-loop decreases-loop
-returns c = lay-ends _ _ _ _ c.before.before.before.before.requires c.before.loop.invariant c.loop-test.false
+returns c = lay_ends _ _ _ _ c.before.before.before.before.requires c.before.loop.invariant c.loop-test.false
 
 pub lay-rows-spec : {M : Type 1} → statement M
 lay-rows-spec =

@@ -1,12 +1,12 @@
 -- `reading::limits` meets its contract. Assumes nothing.
-use Rattle.translate.proofs.TranslatedLaws.{limits-4, limits-5, limits-0}
+use Rattle.translate.proofs.TranslatedLaws.{limits_4, limits_5, limits_0}
 use borrow.Author.Rules.{rules}
 use Rattle.translate.proofs.reading.limits.Statement.{statement}
 use Rattle.translate.proofs.reading.limits.Tie as tie
 use Rattle.translate.proofs.reading.limits.Reads as reads
 use Rattle.translate.proofs.reading.limits.Lts as lts
 use Rattle.census.proofs.calls.too_many.Reads as too-many-reads
-use Rattle.census.proofs.constants.too_large.Reads as too-large-reads
+use Rattle.census.proofs.constants.too_large_law.Reads as too-large-reads
 
 -- src/reading.rt:27:8
 too-large-requires : tie.Need-too-large-requires
@@ -14,7 +14,7 @@ too-large-requires c κs = search rules
 
 -- src/reading.rt:28:9
 returns : tie.Need-returns
-returns c = limits-4 _ _ c.before.too_large.ensures c.if1.true
+returns c = limits_4 _ _ c.before.too_large_law.ensures c.if1.true
 
 -- src/reading.rt:30:8
 too-many-requires : tie.Need-too-many-requires
@@ -22,11 +22,11 @@ too-many-requires c κs = search rules
 
 -- src/reading.rt:31:9
 returns-2 : tie.Need-returns-2
-returns-2 c = limits-5 _ _ _ c.before.before.before.too_large.ensures c.before.before.if1.false c.before.too_many.ensures c.if2.true
+returns-2 c = limits_5 _ _ _ c.before.before.before.too_large_law.ensures c.before.before.if1.false c.before.too_many.ensures c.if2.true
 
 -- src/reading.rt:23:1
 returns-3 : tie.Need-returns-3
-returns-3 c = limits-0 _ _ _ c.before.before.before.too_large.ensures c.before.before.if1.false c.before.too_many.ensures c.if2.false
+returns-3 c = limits_0 _ _ _ c.before.before.before.too_large_law.ensures c.before.before.if1.false c.before.too_many.ensures c.if2.false
 
 pub limits-spec : {M : Type 1} → statement M
 limits-spec = tie.close (tie.spec too-large-requires returns too-many-requires returns-2 returns-3)

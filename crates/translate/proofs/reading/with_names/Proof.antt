@@ -1,6 +1,6 @@
 -- `reading::with_names` meets its contract. Assumes nothing.
 use native.Mathlib.Omega.{arith}
-use Rattle.translate.proofs.TranslatedLaws.{refused-is, says-6, variables-known, predicates-known}
+use Rattle.translate.proofs.TranslatedLaws.{refused_is, says_6, variables_known, predicates_known}
 use borrow.Author.Rules.{rules}
 use Rattle.translate.proofs.reading.with_names.Statement.{statement}
 use Rattle.translate.proofs.reading.with_names.Tie as tie
@@ -28,7 +28,7 @@ refused-requires c κs = search rules
 
 -- src/reading.rt:91:9
 returns : tie.Need-returns
-returns c = refused-is _ _ _ _ _ _ _ _ _ (says-6 c.before.before.before.before.before.before.before.before.before.args.text.now c.before.before.before.before.before.before.before.before.before.args.rows.now c.before.before.before.before.before.before.before.before.before.requires.0.0 c.before.before.before.before.before.before.before.before.before.requires.0.1 c.before.before.before.before.before.before.before.before.before.requires.1 c.before.before.before.before.before.before.before.before.before.requires.0.2 _ _ _ c.before.before.before.before.names.ensures c.before.before.before.before.names.auto.1.0 c.before.if1.true) c.refused.ensures
+returns c = refused_is _ _ _ _ _ _ _ _ _ (says_6 c.before.before.before.before.before.before.before.before.before.args.text.now c.before.before.before.before.before.before.before.before.before.args.rows.now c.before.before.before.before.before.before.before.before.before.requires.0.0 c.before.before.before.before.before.before.before.before.before.requires.0.1 c.before.before.before.before.before.before.before.before.before.requires.1 c.before.before.before.before.before.before.before.before.before.requires.0.2 _ _ _ c.before.before.before.before.names.ensures c.before.before.before.before.names.auto.1.0 c.before.if1.true) c.refused.ensures
 
 -- src/reading.rt:95:26
 slice-aggregate-names-3 : tie.Need-slice-aggregate-names-3
@@ -60,7 +60,7 @@ slice-aggregate-with-tables-4 c = search rules
 
 -- src/reading.rt:96:5
 with-tables-requires : tie.Need-with-tables-requires
-with-tables-requires c κs = ((c.before.before.before.before.before.before.before.before.before.before.before.before.before.before.before.before.before.before.requires.0.0, c.before.before.before.before.before.before.before.before.before.before.before.before.before.before.before.before.before.before.requires.0.1, c.before.before.before.before.before.before.before.before.before.before.before.before.before.before.before.before.before.before.requires.0.2), ((predicates-known _ _ _ _ c.before.before.before.before.before.before.before.names2.ensures c.before.before.before.before.before.before.before.names2.auto.1.0 c.before.before.before.before.before.before.before.before.before.before.before.before.before.before.before.before.before.before.requires.0.1, variables-known _ _ _ _ c.before.before.before.before.before.before.before.before.before.before.before.before.before.names.ensures c.before.before.before.before.before.before.before.before.before.before.before.before.before.names.auto.1.0 c.before.before.before.before.before.before.before.before.before.before.if1.false), c.before.before.before.before.before.before.before.before.before.before.before.before.before.before.before.before.before.before.requires.1))
+with-tables-requires c κs = ((c.before.before.before.before.before.before.before.before.before.before.before.before.before.before.before.before.before.before.requires.0.0, c.before.before.before.before.before.before.before.before.before.before.before.before.before.before.before.before.before.before.requires.0.1, c.before.before.before.before.before.before.before.before.before.before.before.before.before.before.before.before.before.before.requires.0.2), ((predicates_known _ _ _ _ c.before.before.before.before.before.before.before.names2.ensures c.before.before.before.before.before.before.before.names2.auto.1.0 c.before.before.before.before.before.before.before.before.before.before.before.before.before.before.before.before.before.before.requires.0.1, variables_known _ _ _ _ c.before.before.before.before.before.before.before.before.before.before.before.before.before.names.ensures c.before.before.before.before.before.before.before.before.before.before.before.before.before.names.auto.1.0 c.before.before.before.before.before.before.before.before.before.before.if1.false), c.before.before.before.before.before.before.before.before.before.before.before.before.before.before.before.before.before.before.requires.1))
 
 -- src/reading.rt:82:1
 same_length : tie.Need-same-length

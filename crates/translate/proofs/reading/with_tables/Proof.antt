@@ -1,7 +1,7 @@
 -- `reading::with_tables` meets its contract. Assumes nothing.
 use native.Mathlib.Omega.{arith}
-use Rattle.translate.proofs.TranslatedLaws.{refused-is, says-7, says-8, says-9, few-names, rows_written}
-use Rattle.translate.proofs.LayingLaws.{part-fits}
+use Rattle.translate.proofs.TranslatedLaws.{refused_is, says_7, says_8, says_9, few_names, rows_written}
+use Rattle.translate.proofs.LayingLaws.{part_fits}
 use borrow.Author.Rules.{rules}
 use Rattle.translate.proofs.reading.with_tables.Statement.{statement}
 use Rattle.translate.proofs.reading.with_tables.Tie as tie
@@ -24,7 +24,7 @@ refused-requires c κs = search rules
 
 -- src/reading.rt:53:9
 returns : tie.Need-returns
-returns c = refused-is _ _ _ _ _ _ _ _ _ (says-7 c.before.before.before.before.before.before.before.before.before.args.text.now c.before.before.before.before.before.before.before.before.before.args.rows.now c.before.before.before.before.before.before.before.before.before.requires.0.0 c.before.before.before.before.before.before.before.before.before.requires.0.1 c.before.before.before.before.before.before.before.before.before.requires.1.1 c.before.before.before.before.before.before.before.before.before.requires.0.2 _ _ _ c.before.before.before.before.before.before.before.before.before.requires.1.0.1 _ c.before.before.clashes.ensures c.before.if1.true) c.refused.ensures
+returns c = refused_is _ _ _ _ _ _ _ _ _ (says_7 c.before.before.before.before.before.before.before.before.before.args.text.now c.before.before.before.before.before.before.before.before.before.args.rows.now c.before.before.before.before.before.before.before.before.before.requires.0.0 c.before.before.before.before.before.before.before.before.before.requires.0.1 c.before.before.before.before.before.before.before.before.before.requires.1.1 c.before.before.before.before.before.before.before.before.before.requires.0.2 _ _ _ c.before.before.before.before.before.before.before.before.before.requires.1.0.1 _ c.before.before.clashes.ensures c.before.if1.true) c.refused.ensures
 
 -- src/reading.rt:55:8
 has-free-requires : tie.Need-has-free-requires
@@ -36,7 +36,7 @@ refused-requires-2 c κs = search rules
 
 -- src/reading.rt:56:9
 returns-2 : tie.Need-returns-2
-returns-2 c = refused-is _ _ _ _ _ _ _ _ _ (says-8 c.before.before.before.before.before.before.before.before.before.before.before.args.text.now c.before.before.before.before.before.before.before.before.before.before.before.args.rows.now c.before.before.before.before.before.before.before.before.before.before.before.requires.0.0 c.before.before.before.before.before.before.before.before.before.before.before.requires.0.1 c.before.before.before.before.before.before.before.before.before.before.before.requires.1.1 c.before.before.before.before.before.before.before.before.before.before.before.requires.0.2 _ _ _ c.before.before.before.before.before.before.before.before.before.before.before.requires.1.0.1 _ c.before.before.before.before.clashes.ensures c.before.before.before.if1.false _ c.before.before.has-free.ensures c.before.if2.true) c.refused2.ensures
+returns-2 c = refused_is _ _ _ _ _ _ _ _ _ (says_8 c.before.before.before.before.before.before.before.before.before.before.before.args.text.now c.before.before.before.before.before.before.before.before.before.before.before.args.rows.now c.before.before.before.before.before.before.before.before.before.before.before.requires.0.0 c.before.before.before.before.before.before.before.before.before.before.before.requires.0.1 c.before.before.before.before.before.before.before.before.before.before.before.requires.1.1 c.before.before.before.before.before.before.before.before.before.before.before.requires.0.2 _ _ _ c.before.before.before.before.before.before.before.before.before.before.before.requires.1.0.1 _ c.before.before.before.before.clashes.ensures c.before.before.before.if1.false _ c.before.before.has-free.ensures c.before.if2.true) c.refused2.ensures
 
 -- src/reading.rt:59:73
 slice-aggregate-rows-of : tie.Need-slice-aggregate-rows-of
@@ -52,7 +52,7 @@ refused-requires-3 c κs = search rules
 
 -- src/reading.rt:61:9
 returns-3 : tie.Need-returns-3
-returns-3 c = refused-is _ _ _ _ _ _ _ _ _ (says-9 c.before.before.before.before.before.before.before.before.before.before.before.before.before.before.before.args.text.now c.before.before.before.before.before.before.before.before.before.before.before.before.before.before.before.args.rows.now c.before.before.before.before.before.before.before.before.before.before.before.before.before.before.before.requires.0.0 c.before.before.before.before.before.before.before.before.before.before.before.before.before.before.before.requires.0.1 c.before.before.before.before.before.before.before.before.before.before.before.before.before.before.before.requires.1.1 c.before.before.before.before.before.before.before.before.before.before.before.before.before.before.before.requires.0.2 _ _ _ c.before.before.before.before.before.before.before.before.before.before.before.before.before.before.before.requires.1.0.1 _ c.before.before.before.before.before.before.before.before.clashes.ensures c.before.before.before.before.before.before.before.if1.false _ c.before.before.before.before.before.before.has-free.ensures c.before.before.before.before.before.if2.false _ _ c.before.before.before.rows_of_lem.ensures c.before.if3.true) c.refused3.ensures
+returns-3 c = refused_is _ _ _ _ _ _ _ _ _ (says_9 c.before.before.before.before.before.before.before.before.before.before.before.before.before.before.before.args.text.now c.before.before.before.before.before.before.before.before.before.before.before.before.before.before.before.args.rows.now c.before.before.before.before.before.before.before.before.before.before.before.before.before.before.before.requires.0.0 c.before.before.before.before.before.before.before.before.before.before.before.before.before.before.before.requires.0.1 c.before.before.before.before.before.before.before.before.before.before.before.before.before.before.before.requires.1.1 c.before.before.before.before.before.before.before.before.before.before.before.before.before.before.before.requires.0.2 _ _ _ c.before.before.before.before.before.before.before.before.before.before.before.before.before.before.before.requires.1.0.1 _ c.before.before.before.before.before.before.before.before.clashes.ensures c.before.before.before.before.before.before.before.if1.false _ c.before.before.before.before.before.before.has-free.ensures c.before.before.before.before.before.if2.false _ _ c.before.before.before.rows_of_lem.ensures c.before.if3.true) c.refused3.ensures
 
 -- src/reading.rt:63:23
 mul-lay-rows : tie.Need-overflow-mul-lay-rows
@@ -92,7 +92,7 @@ slice-aggregate-lay-places c = search rules
 
 -- src/reading.rt:68:5
 lay-places-requires : tie.Need-lay-places-requires
-lay-places-requires c κs = part-fits _ 64 _ (few-names c.before.before.before.before.before.before.before.before.before.before.before.before.before.before.before.before.before.before.before.before.before.before.args.text.now c.before.before.before.before.before.before.before.before.before.before.before.before.before.before.before.before.before.before.before.before.before.before.args.rows.now c.before.before.before.before.before.before.before.before.before.before.before.before.before.before.before.before.before.before.before.before.before.before.requires.0.0 c.before.before.before.before.before.before.before.before.before.before.before.before.before.before.before.before.before.before.before.before.before.before.requires.0.1 c.before.before.before.before.before.before.before.before.before.before.before.before.before.before.before.before.before.before.before.before.before.before.requires.1.1 c.before.before.before.before.before.before.before.before.before.before.before.before.before.before.before.before.before.before.before.before.before.before.requires.0.2 _ _ _ c.before.before.before.before.before.before.before.before.before.before.before.before.before.before.before.before.before.before.before.before.before.before.requires.1.0.1 _ c.before.before.before.before.before.before.before.before.before.before.before.before.before.before.before.clashes.ensures c.before.before.before.before.before.before.before.before.before.before.before.before.before.before.if1.false _ c.before.before.before.before.before.before.before.before.before.before.before.before.before.has-free.ensures c.before.before.before.before.before.before.before.before.before.before.before.before.if2.false _ _ c.before.before.before.before.before.before.before.before.before.before.rows_of_lem.ensures c.before.before.before.before.before.before.before.before.if3.false _ _ _ c.before.before.before.before.before.before.before.before.before.before.before.before.before.before.before.before.before.before.before.before.before.before.requires.1.0.0)
+lay-places-requires c κs = part_fits _ 64 _ (few_names c.before.before.before.before.before.before.before.before.before.before.before.before.before.before.before.before.before.before.before.before.before.before.args.text.now c.before.before.before.before.before.before.before.before.before.before.before.before.before.before.before.before.before.before.before.before.before.before.args.rows.now c.before.before.before.before.before.before.before.before.before.before.before.before.before.before.before.before.before.before.before.before.before.before.requires.0.0 c.before.before.before.before.before.before.before.before.before.before.before.before.before.before.before.before.before.before.before.before.before.before.requires.0.1 c.before.before.before.before.before.before.before.before.before.before.before.before.before.before.before.before.before.before.before.before.before.before.requires.1.1 c.before.before.before.before.before.before.before.before.before.before.before.before.before.before.before.before.before.before.before.before.before.before.requires.0.2 _ _ _ c.before.before.before.before.before.before.before.before.before.before.before.before.before.before.before.before.before.before.before.before.before.before.requires.1.0.1 _ c.before.before.before.before.before.before.before.before.before.before.before.before.before.before.before.clashes.ensures c.before.before.before.before.before.before.before.before.before.before.before.before.before.before.if1.false _ c.before.before.before.before.before.before.before.before.before.before.before.before.before.has-free.ensures c.before.before.before.before.before.before.before.before.before.before.before.before.if2.false _ _ c.before.before.before.before.before.before.before.before.before.before.rows_of_lem.ensures c.before.before.before.before.before.before.before.before.if3.false _ _ _ c.before.before.before.before.before.before.before.before.before.before.before.before.before.before.before.before.before.before.before.before.before.before.requires.1.0.0)
 
 -- src/reading.rt:69:16
 sub-lay-places-2 : tie.Need-overflow-sub-lay-places-2
@@ -112,7 +112,7 @@ slice-aggregate-lay-places-2 c = search rules
 
 -- src/reading.rt:69:5
 lay-places-requires-2 : tie.Need-lay-places-requires-2
-lay-places-requires-2 c κs = part-fits _ 64 _ (few-names c.before.before.before.before.before.before.before.before.before.before.before.before.before.before.before.before.before.before.before.before.before.before.before.before.before.before.args.text.now c.before.before.before.before.before.before.before.before.before.before.before.before.before.before.before.before.before.before.before.before.before.before.before.before.before.before.args.rows.now c.before.before.before.before.before.before.before.before.before.before.before.before.before.before.before.before.before.before.before.before.before.before.before.before.before.before.requires.0.0 c.before.before.before.before.before.before.before.before.before.before.before.before.before.before.before.before.before.before.before.before.before.before.before.before.before.before.requires.0.1 c.before.before.before.before.before.before.before.before.before.before.before.before.before.before.before.before.before.before.before.before.before.before.before.before.before.before.requires.1.1 c.before.before.before.before.before.before.before.before.before.before.before.before.before.before.before.before.before.before.before.before.before.before.before.before.before.before.requires.0.2 _ _ _ c.before.before.before.before.before.before.before.before.before.before.before.before.before.before.before.before.before.before.before.before.before.before.before.before.before.before.requires.1.0.1 _ c.before.before.before.before.before.before.before.before.before.before.before.before.before.before.before.before.before.before.before.clashes.ensures c.before.before.before.before.before.before.before.before.before.before.before.before.before.before.before.before.before.before.if1.false _ c.before.before.before.before.before.before.before.before.before.before.before.before.before.before.before.before.before.has-free.ensures c.before.before.before.before.before.before.before.before.before.before.before.before.before.before.before.before.if2.false _ _ c.before.before.before.before.before.before.before.before.before.before.before.before.before.before.rows_of_lem.ensures c.before.before.before.before.before.before.before.before.before.before.before.before.if3.false _ _ _ c.before.before.before.before.before.before.before.before.before.before.before.before.before.before.before.before.before.before.before.before.before.before.before.before.before.before.requires.1.0.0)
+lay-places-requires-2 c κs = part_fits _ 64 _ (few_names c.before.before.before.before.before.before.before.before.before.before.before.before.before.before.before.before.before.before.before.before.before.before.before.before.before.before.args.text.now c.before.before.before.before.before.before.before.before.before.before.before.before.before.before.before.before.before.before.before.before.before.before.before.before.before.before.args.rows.now c.before.before.before.before.before.before.before.before.before.before.before.before.before.before.before.before.before.before.before.before.before.before.before.before.before.before.requires.0.0 c.before.before.before.before.before.before.before.before.before.before.before.before.before.before.before.before.before.before.before.before.before.before.before.before.before.before.requires.0.1 c.before.before.before.before.before.before.before.before.before.before.before.before.before.before.before.before.before.before.before.before.before.before.before.before.before.before.requires.1.1 c.before.before.before.before.before.before.before.before.before.before.before.before.before.before.before.before.before.before.before.before.before.before.before.before.before.before.requires.0.2 _ _ _ c.before.before.before.before.before.before.before.before.before.before.before.before.before.before.before.before.before.before.before.before.before.before.before.before.before.before.requires.1.0.1 _ c.before.before.before.before.before.before.before.before.before.before.before.before.before.before.before.before.before.before.before.clashes.ensures c.before.before.before.before.before.before.before.before.before.before.before.before.before.before.before.before.before.before.if1.false _ c.before.before.before.before.before.before.before.before.before.before.before.before.before.before.before.before.before.has-free.ensures c.before.before.before.before.before.before.before.before.before.before.before.before.before.before.before.before.if2.false _ _ c.before.before.before.before.before.before.before.before.before.before.before.before.before.before.rows_of_lem.ensures c.before.before.before.before.before.before.before.before.before.before.before.before.if3.false _ _ _ c.before.before.before.before.before.before.before.before.before.before.before.before.before.before.before.before.before.before.before.before.before.before.before.before.before.before.requires.1.0.0)
 
 -- src/reading.rt:70:16
 sub-lay-places-3 : tie.Need-overflow-sub-lay-places-3
@@ -132,7 +132,7 @@ slice-aggregate-lay-places-3 c = search rules
 
 -- src/reading.rt:70:5
 lay-places-requires-3 : tie.Need-lay-places-requires-3
-lay-places-requires-3 c κs = part-fits _ 4 _ c.before.before.before.before.before.before.before.before.before.before.before.before.before.before.before.before.before.before.before.before.before.before.before.before.before.before.before.before.before.before.requires.1.0.1.few
+lay-places-requires-3 c κs = part_fits _ 4 _ c.before.before.before.before.before.before.before.before.before.before.before.before.before.before.before.before.before.before.before.before.before.before.before.before.before.before.before.before.before.before.requires.1.0.1.few
 
 -- src/reading.rt:71:16
 sub-lay-places-4 : tie.Need-overflow-sub-lay-places-4
@@ -152,7 +152,7 @@ slice-aggregate-lay-places-4 c = search rules
 
 -- src/reading.rt:71:5
 lay-places-requires-4 : tie.Need-lay-places-requires-4
-lay-places-requires-4 c κs = part-fits _ 4 _ c.before.before.before.before.before.before.before.before.before.before.before.before.before.before.before.before.before.before.before.before.before.before.before.before.before.before.before.before.before.before.before.before.before.before.requires.1.0.1.few
+lay-places-requires-4 c κs = part_fits _ 4 _ c.before.before.before.before.before.before.before.before.before.before.before.before.before.before.before.before.before.before.before.before.before.before.before.before.before.before.before.before.before.before.before.before.before.before.requires.1.0.1.few
 
 -- src/reading.rt:37:1
 same_length : tie.Need-same-length
