@@ -1,4 +1,3 @@
--- `mark_all` meets its contract. The loop's invariant: the references before r are marked, and nothing past the marks has changed. The
 use Prim.Native.Nat.{◌+◌, ◌-◌, ◌≤◌}
 use mathlib.Core.Path.{◌≡◌, refl, ◌∙◌}
 use native.Mathlib.Omega.{arith}

@@ -1,4 +1,3 @@
--- `rows_right` meets its contract. The loop's invariant: the first i rows pass. The measure is what is left. Assumes nothing.
 use Prim.Native.Nat.{◌-◌, ◌≤◌}
 use native.Mathlib.Omega.{arith}
 use Rattle.age_check.specs.Marks.{AgesRight}

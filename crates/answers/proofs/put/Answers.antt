@@ -1,4 +1,3 @@
--- `answers::put` meets its contract: byte after byte, the bytes passed stand behind what was there. The measure is what is left of them.
 use Prim.Native.Nat.{◌-◌}
 use native.Mathlib.Omega.{arith}
 use lib.ListN.{length}

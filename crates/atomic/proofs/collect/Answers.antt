@@ -1,4 +1,3 @@
--- `collect` meets its contract. The loop's invariant: the arguments so far and those of the words left are all. Assumes nothing.
 use Prim.Native.Nat.{◌-◌}
 use native.Mathlib.Omega.{arith}
 use lib.ListN.{length}

@@ -1,4 +1,3 @@
--- `first` meets its contract. The loop's invariant: the variables before the `left` last are bound. The measure is what is left.
 use Prim.Native.Nat.{◌+◌, ◌*◌, ◌-◌, ◌≤◌}
 use mathlib.Core.Path.{◌≡◌, refl, ◌∙◌}
 use native.Mathlib.Omega.{arith}

@@ -1,4 +1,3 @@
--- `least` meets its contract. The loop's invariant: the `done` most significant bits are fixed to the least number that they can show.
 use Prim.Native.Nat.{ℕ, suc, ◌+◌, ◌*◌, ◌-◌, ◌≤◌, ◌<◌}
 use mathlib.Core.Path.{◌≡◌, refl, ◌∙◌}
 use native.Mathlib.Nat.{mul-le-mul_right}

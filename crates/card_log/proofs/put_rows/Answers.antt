@@ -1,4 +1,3 @@
--- `put_rows` meets its contract: the rows passed stand in the block. The measure is what is left of them. Assumes nothing.
 use Prim.Native.Nat.{◌-◌, ◌*◌}
 use mathlib.Core.Path.{ap, sym, ◌∙◌}
 use native.Mathlib.Omega.{arith}

@@ -1,4 +1,3 @@
--- `rows_right` meets its contract: the rows still to come decide. The measure is what is left of them. Assumes nothing.
 use Prim.Native.Nat.{◌-◌}
 use mathlib.Core.Path.{sym, ap, ◌∙◌}
 use native.Mathlib.Omega.{arith}

@@ -1,4 +1,3 @@
--- `write` meets its contract: what is put, with the blocks to come, is the card. The measure is what is left of the blocks. Assumes nothing.
 use Prim.Native.Nat.{◌-◌}
 use mathlib.Core.Path.{refl, sym, ap, ◌∙◌}
 use mathlib.Core.Bool.{true≢false}

@@ -1,4 +1,3 @@
--- `mend` meets its contract: what is put and listed, with what is to come, is the whole. The measure is what is left of the card. Assumes nothing.
 use Prim.Native.Nat.{◌+◌, ◌-◌, ◌*◌, ◌<◌}
 use mathlib.Core.Path.{refl}
 use native.Mathlib.Omega.{arith}

@@ -1,4 +1,3 @@
--- `put_kept` meets its contract: the records passed stand in the block. The measure is what is left of them. Assumes nothing.
 use Prim.Native.Nat.{◌+◌, ◌-◌, ◌*◌}
 use mathlib.Core.Path.{ap, sym, ◌∙◌}
 use lib.ListN.{length, drop}

@@ -1,4 +1,3 @@
--- `read` meets its contract: the pieces still to come give what the reader finds. The measure is what is left of the card. Assumes nothing.
 use Prim.Native.Nat.{◌-◌}
 use native.Mathlib.Omega.{arith}
 use mathlib.Core.Logic.{⊎_elim}

@@ -1,4 +1,3 @@
--- `clear` meets its contract: the bytes passed are 0. The measure is what is left of them. Assumes nothing.
 use Prim.Native.Nat.{◌-◌}
 use native.Mathlib.Omega.{arith}
 use borrow.Author.Rules.{rules}

@@ -1,4 +1,3 @@
--- `copy_block` meets its contract: the bytes passed are stored. The measure is what is left of them. Assumes nothing.
 use Prim.Native.Nat.{◌-◌}
 use native.Mathlib.Omega.{arith}
 use borrow.Author.Rules.{rules}

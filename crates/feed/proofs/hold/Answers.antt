@@ -1,4 +1,3 @@
--- `feed::hold` meets its contract: the bytes passed are held, one after the other. The measure is what is left of them. Assumes nothing.
 use native.Mathlib.Omega.{arith}
 use Prim.Native.Nat.{◌-◌}
 use lib.ListN.{length}

@@ -1,4 +1,3 @@
--- `feed::line_end` meets its contract: the line end that is looked for is the first from any place passed. The measure is what is left of the
 use native.Mathlib.Omega.{arith}
 use mathlib.Core.Path.{◌≡◌}
 use Prim.Native.Nat.{◌+◌, ◌-◌, ◌≤◌}

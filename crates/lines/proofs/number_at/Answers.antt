@@ -1,4 +1,3 @@
--- `lines::number_at` meets its contract. The loop's invariant: the digits passed are the numeral of `value`; the measure is what is left of the line.
 use borrow.Author.Rules.{rules}
 use native.Mathlib.Omega.{arith}
 use Prim.Native.Nat.{◌-◌}

@@ -1,4 +1,3 @@
--- `lines::numbers_from` meets its contract. The loop's invariant: the bytes passed are the numbers read, and any run of numbers begins with those;
 use borrow.Author.Rules.{rules}
 use native.Mathlib.Omega.{arith}
 use Prim.Native.Nat.{◌-◌}

@@ -1,4 +1,3 @@
--- `zero` meets its contract. The loop's invariant: the numbers from `from` to i are 0. The measure is what is left.
 use Prim.Native.Nat.{◌-◌, ◌≤◌, ◌<◌}
 use native.Mathlib.Omega.{arith}
 use Rattle.nodes.specs.Nodes.{Zeroed}

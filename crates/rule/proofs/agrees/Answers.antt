@@ -1,4 +1,3 @@
--- `rule::agrees` meets its contract. The loop keeps that the facts before i are right; the facts left are the measure. Assumes nothing.
 use Prim.Native.Nat.{ℕ, ◌-◌, ◌≤◌, ◌<◌}
 use mathlib.Core.Path.{◌≡◌, refl, sym, ◌∙◌}
 use mathlib.Core.Bool.{true}

@@ -1,4 +1,3 @@
--- `rule::check` meets its contract. The loop keeps that no row before i is a fault and that their masks are right; the rows left are the measure. Assumes nothing.
 use Prim.Native.Nat.{◌-◌, ◌/◌, ◌%◌, ◌≤◌, ◌<◌}
 use mathlib.Core.Path.{◌≡◌, refl, sym, ◌∙◌}
 use native.Mathlib.Omega.{arith}

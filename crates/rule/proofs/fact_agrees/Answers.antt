@@ -1,4 +1,3 @@
--- `rule::fact_agrees` meets its contract. The loop keeps that no row before i is an atom of the predicate with another count; the rows left are the measure. Assumes nothing.
 use Prim.Native.Nat.{ℕ, ◌-◌, ◌/◌, ◌≤◌, ◌<◌}
 use mathlib.Core.Bool.{false}
 use mathlib.Core.Path.{◌≡◌, refl, sym, ◌∙◌}

@@ -1,4 +1,3 @@
--- `scan::scan` meets its contract. The loop's invariant: the bytes passed have led to a state that can go on. Assumes nothing.
 use Prim.Native.Nat.{◌-◌}
 use native.Mathlib.Omega.{arith}
 use lib.ListN.{length}

@@ -1,4 +1,3 @@
--- `session::put_row` meets its contract: the numbers passed stand behind the rule so far. The measure is what is left of the nine. Assumes nothing.
 use native.Mathlib.Omega.{arith}
 use borrow.Author.Rules.{rules}
 use Prim.Native.Nat.{◌-◌}

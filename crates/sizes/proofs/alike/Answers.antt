@@ -1,4 +1,3 @@
--- `alike` meets its contract. The loop's invariant: the first i numbers are the same. The measure is what is left.
 use Prim.Native.Nat.{ℕ, ◌-◌, ◌≤◌}
 use mathlib.Core.Path.{◌≡◌, sym, ap}
 use mathlib.Core.List.{List}

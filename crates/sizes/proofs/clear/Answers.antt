@@ -1,4 +1,3 @@
--- `clear` meets its contract. The loop's invariant: the first i sizes are 0. The measure is what is left. Assumes nothing.
 use Prim.Native.Nat.{◌-◌, ◌≤◌}
 use mathlib.Core.Path.{◌≡◌}
 use native.Mathlib.Omega.{arith}

@@ -1,4 +1,3 @@
--- `count_rows` meets its contract. The loop's invariant: the rows of w are still to be counted. The measure is w.
 use Prim.Native.Nat.{ℕ, ◌+◌, ◌≤◌, ◌<◌}
 use mathlib.Core.Path.{◌≡◌}
 use mathlib.Core.List.{List}

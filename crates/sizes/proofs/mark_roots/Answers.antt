@@ -1,4 +1,3 @@
--- `mark_roots` meets its contract. The loop's invariant: the roots of the first t rows are marked. The measure is what is left.
 use Prim.Native.Nat.{◌-◌, ◌≤◌}
 use mathlib.Core.Path.{◌≡◌, refl, ◌∙◌}
 use mathlib.Core.List.{map}

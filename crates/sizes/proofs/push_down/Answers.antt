@@ -1,4 +1,3 @@
--- `push_down` meets its contract. The loop's invariant: the first n nodes are still to be counted. The measure is n.
 use Prim.Native.Nat.{◌-◌}
 use mathlib.Core.Path.{sym, ◌∙◌}
 use native.Mathlib.Omega.{arith}

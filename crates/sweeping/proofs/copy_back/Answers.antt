@@ -1,4 +1,3 @@
--- `copy_back` meets its contract. The loop's invariant: the first i numbers are copied. The measure is what is left.
 use Prim.Native.Nat.{◌*◌, ◌-◌, ◌≤◌}
 use mathlib.Core.Path.{◌≡◌, refl, ◌∙◌}
 use native.Mathlib.Omega.{arith}

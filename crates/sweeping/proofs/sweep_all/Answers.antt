@@ -1,4 +1,3 @@
--- `sweep_all` meets its contract. The loop's invariant: the first i references are swept. The measure is what is left.
 use Prim.Native.Nat.{◌-◌, ◌/◌, ◌≤◌}
 use mathlib.Core.Path.{◌≡◌, ap, ◌∙◌}
 use mathlib.Core.Logic.{⊎_elim}

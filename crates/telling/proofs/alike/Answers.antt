@@ -1,4 +1,3 @@
--- `alike` meets its contract. The loop's invariant: at the entries before i both numbers lead to one side. The measure is what is
 use Prim.Native.Nat.{ℕ, ◌-◌, ◌^◌, ◌≤◌, ◌<◌}
 use mathlib.Core.Path.{◌≡◌}
 use native.Mathlib.Omega.{arith}

@@ -1,4 +1,3 @@
--- `along` meets its contract. The loop's invariant: from q on the bits lead where they lead from r on. The measure is q, since
 use Prim.Native.Nat.{◌+◌, ◌<◌}
 use mathlib.Core.Path.{◌≡◌, refl, sym, ◌∙◌}
 use native.Mathlib.Omega.{arith}

@@ -1,4 +1,3 @@
--- `enter` meets its contract. The loop's invariant: the marks before `left` and the entries found tell what p's diagram tells
 use Prim.Native.Nat.{◌+◌}
 use mathlib.Core.Path.{◌≡◌, refl, ◌∙◌}
 use native.Mathlib.Omega.{arith}

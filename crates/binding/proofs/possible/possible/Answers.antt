@@ -1,4 +1,3 @@
--- `possible::possible` meets its contract. The loop's invariant: the references before r are marked, and nothing past the marks has
 use Prim.Native.Nat.{◌+◌, ◌-◌, ◌≤◌}
 use mathlib.Core.Path.{◌≡◌, refl, ◌∙◌}
 use native.Mathlib.Omega.{arith}

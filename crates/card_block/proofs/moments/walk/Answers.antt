@@ -1,4 +1,3 @@
--- `walk` meets its contract: the records still to come, from what is open now, lead to the same. The measure is what is left. Assumes nothing.
 use Prim.Native.Nat.{◌-◌}
 use native.Mathlib.Omega.{arith}
 use borrow.Author.Rules.{rules}

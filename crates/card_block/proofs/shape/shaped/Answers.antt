@@ -1,4 +1,3 @@
--- `shaped` meets its contract: the records still to be tested decide. The measure is what is left of them. Assumes nothing.
 use Prim.Native.Nat.{◌-◌, ◌≤◌}
 use mathlib.Core.Path.{◌≡◌, sym, ◌∙◌}
 use borrow.Author.Rules.{rules}

@@ -1,4 +1,3 @@
--- `check_of` meets its contract: the sums of the bytes so far, taken on over those to come, are the check. Assumes nothing.
 use Prim.Native.Nat.{ℕ, ◌+◌, ◌-◌, ◌%◌, ◌≤◌, ◌<◌}
 use native.Mathlib.Omega.{arith}
 use native.Mathlib.Numerals.{add-one}

@@ -1,4 +1,3 @@
--- `past_first` meets its contract: the records passed are not flagged. The measure is what is left of them. Assumes nothing.
 use Prim.Native.Nat.{◌-◌}
 use native.Mathlib.Omega.{arith}
 use borrow.Author.Rules.{rules}

@@ -1,4 +1,3 @@
--- `past_last` meets its contract: the last flagged record so far, and those still to come. The measure is what is left of them. Assumes nothing.
 use Prim.Native.Nat.{◌-◌}
 use mathlib.Core.Logic.{⊎_elim}
 use native.Mathlib.Omega.{arith}

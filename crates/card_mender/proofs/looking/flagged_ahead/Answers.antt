@@ -1,4 +1,3 @@
--- `flagged_ahead` meets its contract: the pieces still to come give the answer. The measure is what is left of the card. Assumes nothing.
 use Prim.Native.Nat.{◌-◌}
 use native.Mathlib.Omega.{arith}
 use lib.ListN.{length}

@@ -1,4 +1,3 @@
--- `calls::commas` meets its contract. The loop's invariant: the commas so far and those of the words left are all. Assumes nothing.
 use Prim.Native.Nat.{◌-◌}
 use native.Mathlib.Omega.{arith}
 use lib.ListN.{length}

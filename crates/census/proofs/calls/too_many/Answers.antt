@@ -1,4 +1,3 @@
--- `calls::too_many` meets its contract. The loop's invariant: the words left tell it. Assumes nothing.
 use Prim.Native.Nat.{◌-◌}
 use native.Mathlib.Omega.{arith}
 use lib.ListN.{length}

@@ -1,4 +1,3 @@
--- `counts::clashes` meets its contract. The loop's invariant: no two counts of the names so far differ. Assumes nothing.
 use mathlib.Core.Path.{refl}
 use Prim.Native.Nat.{◌-◌}
 use native.Mathlib.Omega.{arith}

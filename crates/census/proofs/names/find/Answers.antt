@@ -1,4 +1,3 @@
--- `names::find` meets its contract. The loop's invariant: the names passed are others. Assumes nothing.
 use Prim.Native.Nat.{◌-◌}
 use native.Mathlib.Omega.{arith}
 use mathlib.Core.Path.{sym, ◌∙◌}

@@ -1,4 +1,3 @@
--- `names::names` meets its contract. The loop's invariant: the table has the names so far. Assumes nothing.
 use Prim.Native.Nat.{◌-◌}
 use native.Mathlib.Omega.{arith}
 use mathlib.Core.Path.{◌≡◌, refl}

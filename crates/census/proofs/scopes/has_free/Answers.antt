@@ -1,4 +1,3 @@
--- `scopes::has_free` meets its contract. The loop's invariant: the depths show which names are bound. Assumes nothing.
 use Prim.Native.Nat.{◌-◌}
 use native.Mathlib.Omega.{arith}
 use lib.ListN.{length}

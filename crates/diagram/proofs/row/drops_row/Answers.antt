@@ -1,4 +1,3 @@
--- `row::drops_row` meets its contract. The loop's invariant: what is left to remove gives what was asked. The measure is the
 use Prim.Native.Nat.{◌*◌, ◌≤◌}
 use mathlib.Core.Path.{◌≡◌, refl, ◌∙◌}
 use native.Mathlib.Omega.{arith}

@@ -1,4 +1,3 @@
--- `pass::rows_of` meets its contract. Assumes nothing.
 use Rattle.census.specs.Tables.{names_at}
 use Prim.Native.Nat.{◌-◌}
 use native.Mathlib.Omega.{arith}

@@ -1,4 +1,3 @@
--- `each::all_differ` meets its contract. The loop's invariant: the first j places are chained, and no two of their nodes are
 use Prim.Native.Nat.{◌+◌, ◌*◌, ◌-◌, ◌/◌, ◌≤◌}
 use native.Mathlib.Omega.{arith}
 use mathlib.Core.Path.{◌≡◌, refl, ◌∙◌}

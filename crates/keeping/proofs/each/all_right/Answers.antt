@@ -1,4 +1,3 @@
--- `each::all_right` meets its contract. The loop's invariant: the first j nodes are right. The measure is what is left. Assumes nothing.
 use Prim.Native.Nat.{◌-◌, ◌≤◌}
 use native.Mathlib.Omega.{arith}
 use mathlib.Core.Path.{◌≡◌, sym, ◌∙◌}

@@ -1,4 +1,3 @@
--- `each::inside` meets its contract. The loop's invariant: the first i references are inside. The measure is what is left. Assumes nothing.
 use Prim.Native.Nat.{◌-◌, ◌≤◌}
 use native.Mathlib.Omega.{arith}
 use Rattle.keeping.specs.Checks.{Inside}

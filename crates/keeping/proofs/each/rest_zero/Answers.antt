@@ -1,4 +1,3 @@
--- `each::rest_zero` meets its contract. The loop's invariant: the or of the numbers so far tells whether they are 0. The measure is
 use Prim.Native.Nat.{◌-◌}
 use native.Mathlib.Omega.{arith}
 use lib.ListN.{length}

@@ -1,4 +1,3 @@
--- `free::mark` meets its contract. The loop's invariant: the leaves and the first j nodes are marked, and nothing past the marks has
 use Prim.Native.Nat.{◌+◌, ◌-◌, ◌≤◌}
 use mathlib.Core.Path.{◌≡◌, refl, ◌∙◌}
 use native.Mathlib.Omega.{arith}

@@ -1,4 +1,3 @@
--- `free::rows_allowed` meets its contract. The loop's invariant: the first i rows are allowed. The measure is what is left.
 use Prim.Native.Nat.{◌-◌, ◌≤◌}
 use mathlib.Core.Path.{◌≡◌}
 use native.Mathlib.Omega.{arith}

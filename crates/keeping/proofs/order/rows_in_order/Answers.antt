@@ -1,4 +1,3 @@
--- `order::rows_in_order` meets its contract. The loop's invariant: the first i rows lead to the first n nodes, or are not in order. The
 use Prim.Native.Nat.{◌-◌, ◌≤◌}
 use mathlib.Core.Path.{◌≡◌}
 use mathlib.Core.Logic.{⊎_elim}

@@ -1,4 +1,3 @@
--- `packing::put_numbers` meets its contract. The loop's invariant: the first i numbers are copied. The measure is what is left. Assumes nothing.
 use Prim.Native.Nat.{◌-◌, ◌≤◌}
 use mathlib.Core.Path.{◌≡◌, refl, ap, ◌∙◌}
 use native.Mathlib.Numerals.{add-one}

@@ -1,4 +1,3 @@
--- `packing::put_places` meets its contract. Assumes nothing.
 use Prim.Native.Nat.{◌-◌, ◌+◌, ◌≤◌, ◌<◌}
 use mathlib.Core.Path.{◌≡◌, refl, sym, ap, ◌∙◌}
 use native.Mathlib.Numerals.{add-one}

@@ -1,4 +1,3 @@
--- `all_differ` meets its contract. The loop's invariant: the first j places stand in the table, and their values differ. The measure is what is
 use Prim.Native.Nat.{ℕ, ◌+◌, ◌≤◌, ◌-◌}
 use mathlib.Core.Path.{◌≡◌, refl, ap, ◌∙◌}
 use mathlib.Core.List.{List}

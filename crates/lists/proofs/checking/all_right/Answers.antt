@@ -1,4 +1,3 @@
--- `all_right` meets its contract. The loop's invariant: the lists of the first v variables are right. The measure is the count of variables
 use native.Mathlib.Omega.{arith}
 use Prim.Native.Nat.{ℕ, ◌+◌, ◌*◌, ◌≤◌, ◌<◌, ◌-◌}
 use mathlib.Core.Path.{◌≡◌, refl, sym, ◌∙◌}

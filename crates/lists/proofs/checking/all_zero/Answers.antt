@@ -1,4 +1,3 @@
--- `all_zero` meets its contract. The loop's invariant: the bits so far are 0 exactly if the first i numbers are. The measure is what is left of
 use Prim.Native.Nat.{◌≤◌, ◌-◌}
 use mathlib.Core.Path.{◌≡◌, refl}
 use native.Mathlib.Omega.{arith}

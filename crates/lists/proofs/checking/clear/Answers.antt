@@ -1,4 +1,3 @@
--- `clear` meets its contract. The loop's invariant: the first i numbers are 0, and the others as they were. The measure is what is left.
 use native.Mathlib.Omega.{arith}
 use Prim.Native.Nat.{ℕ, ◌≤◌, ◌-◌}
 use mathlib.Core.List.{List, ◌++◌}

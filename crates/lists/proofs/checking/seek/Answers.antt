@@ -1,4 +1,3 @@
--- `seek` meets its contract. The loop's invariant: the search has come to the slot p over taken slots, and the earlier places of the value
 use native.Mathlib.Omega.{arith}
 use borrow.Author.Rules.{rules}
 use Rattle.lists.proofs.SlotsLaws.{Searching, distance, vacancy, begin, go_on, closer, sought_one, sought_none}

@@ -1,4 +1,3 @@
--- `shortest` meets its contract. The loop's invariant: no variable below v is short. The measure is the count of variables left. Assumes nothing.
 use native.Mathlib.Omega.{arith}
 use Prim.Native.Nat.{ℕ, ◌≤◌, ◌<◌, ◌-◌}
 use mathlib.Core.Bool.{false}

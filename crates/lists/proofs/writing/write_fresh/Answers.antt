@@ -1,4 +1,3 @@
--- `write_fresh` meets its contract. The loop's invariant: the fresh values of the variables before v are written. The measure is the count of variables
 use native.Mathlib.Omega.{arith}
 use Prim.Native.Nat.{ℕ, ◌*◌, ◌≤◌, ◌<◌, ◌-◌}
 use mathlib.Core.Path.{◌≡◌, refl, sym, ◌∙◌}

@@ -1,4 +1,3 @@
--- `write_list` meets its contract. The loop's invariant: the first j fresh values are written. The measure is the count of values left. Assumes nothing.
 use native.Mathlib.Omega.{arith}
 use Prim.Native.Nat.{◌+◌, ◌-◌, ◌*◌, ◌≤◌}
 use mathlib.Core.Path.{◌≡◌, refl, ◌∙◌}

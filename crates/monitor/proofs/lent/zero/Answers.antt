@@ -1,4 +1,3 @@
--- `monitor::lent::zero` meets its contract. The loop keeps that the numbers before i are 0; the measure is what is left. Assumes nothing.
 use Prim.Native.Nat.{◌-◌, ◌≤◌}
 use native.Mathlib.Omega.{arith}
 use lib.ListN.{length}

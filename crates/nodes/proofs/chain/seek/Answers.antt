@@ -1,4 +1,3 @@
--- `chain::seek` meets its contract. The loop's invariant: what is found from p on is what is found from `first` on. The measure is p,
 use Prim.Native.Nat.{ℕ, ◌+◌, ◌-◌, ◌≤◌}
 use native.Mathlib.Omega.{arith}
 use lib.ListN.{get_or}

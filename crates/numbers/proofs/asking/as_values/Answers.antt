@@ -1,4 +1,3 @@
--- `as_values` meets its contract. The loop's invariant: the first t values are there. The measure is the count of values left. Assumes nothing.
 use native.Mathlib.Omega.{arith}
 use Prim.Native.Nat.{◌-◌}
 use Rattle.numbers.proofs.CopyLaws.{Copied, copied_none, copied_more, copied_all}

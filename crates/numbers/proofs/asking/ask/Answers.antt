@@ -1,4 +1,3 @@
--- `ask` meets its contract. The loop's invariant: the facts before f have asked. The measure is the count of facts left. Assumes nothing.
 use Prim.Native.Nat.{ℕ, ◌-◌, ◌≤◌, ◌<◌}
 use mathlib.Core.Path.{◌≡◌, sym, ◌∙◌}
 use native.Mathlib.Omega.{arith}

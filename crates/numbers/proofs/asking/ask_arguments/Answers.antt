@@ -1,4 +1,3 @@
--- `ask_arguments` meets its contract. The loop's invariant: the first j arguments have asked. The measure is the count of arguments left.
 use native.Mathlib.Omega.{arith}
 use Prim.Native.Nat.{◌≤◌, ◌-◌}
 use mathlib.Core.Path.{sym, ◌∙◌}

@@ -1,4 +1,3 @@
--- `ask_fact` meets its contract. The loop's invariant: the rows before i have asked, and row i matches, if there is one. The measure is the count of
 use Prim.Native.Nat.{◌/◌, ◌-◌, ◌≤◌, ◌<◌}
 use mathlib.Core.Path.{◌≡◌, sym, ◌∙◌}
 use mathlib.Core.Bool.{true}

@@ -1,4 +1,3 @@
--- `next_match` meets its contract. The loop's invariant: no row passed matches. The measure is the count of rows left. Assumes nothing.
 use native.Mathlib.Omega.{arith}
 use Prim.Native.Nat.{ℕ, ◌≤◌, ◌<◌, ◌-◌, ◌/◌}
 use mathlib.Core.Path.{◌≡◌, ap, sym, ◌∙◌}

@@ -1,4 +1,3 @@
--- `tell` meets its contract. The loop's invariant: the first i numbers stand at their places. The measure is the count of numbers left. Assumes nothing.
 use native.Mathlib.Omega.{arith}
 use Prim.Native.Nat.{◌-◌}
 use mathlib.Core.Path.{◌≡◌, refl, sym, ◌∙◌}

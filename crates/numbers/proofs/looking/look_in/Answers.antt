@@ -1,4 +1,3 @@
--- `look_in` meets its contract. The loop's invariant: no place before i has y. The measure is what is left of the list. Assumes nothing.
 use native.Mathlib.Omega.{arith}
 use Prim.Native.Nat.{ℕ, ◌≤◌, ◌<◌, ◌-◌}
 use mathlib.Core.Path.{◌≡◌, sym}

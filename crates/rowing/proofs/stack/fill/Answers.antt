@@ -1,4 +1,3 @@
--- `stack::fill` meets its contract. The loop's invariant: what is left to fill is as at the start. Assumes nothing.
 use Prim.Native.Nat.{◌-◌}
 use native.Mathlib.Omega.{arith}
 use borrow.Author.Rules.{rules}

@@ -1,4 +1,3 @@
--- `table::find_row` meets its contract. The loop's invariant: the rows passed are others. Assumes nothing.
 use Prim.Native.Nat.{◌-◌}
 use native.Mathlib.Omega.{arith}
 use mathlib.Core.Path.{sym, ◌∙◌}

@@ -1,4 +1,3 @@
--- `table::make` meets its contract. The loop's invariant: the row is written so far, and the rows before it stay. Assumes nothing.
 use Prim.Native.Nat.{◌-◌}
 use native.Mathlib.Omega.{arith}
 use mathlib.Core.Path.{refl, sym, ap, ◌∙◌}

@@ -1,4 +1,3 @@
--- `rule::right::counts_agree` meets its contract. The loop's invariant: no row from j on, before the row at place i, is an atom of its predicate. The
 use Prim.Native.Nat.{ℕ, ◌-◌, ◌≤◌, ◌<◌}
 use mathlib.Core.Path.{◌≡◌, sym, ◌∙◌}
 use mathlib.Core.Bool.{false}

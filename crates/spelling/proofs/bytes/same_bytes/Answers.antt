@@ -1,4 +1,3 @@
--- `bytes::same_bytes` meets its contract. The loop's invariant: the runs are the same exactly if what is left of them is. Assumes nothing.
 use Prim.Native.Nat.{◌-◌}
 use native.Mathlib.Omega.{arith}
 use mathlib.Core.Path.{refl, sym}

@@ -1,4 +1,3 @@
--- `words::spaces_end` meets its contract. The loop's invariant: the words from the place on stay. Assumes nothing.
 use Prim.Native.Nat.{◌-◌}
 use native.Mathlib.Omega.{arith}
 use lib.ListN.{length}

@@ -1,4 +1,3 @@
--- `words::value_of` meets its contract. The loop's invariant: the digits left, read after the value, give the value of all. Assumes nothing.
 use Prim.Native.Nat.{◌-◌}
 use native.Mathlib.Omega.{arith}
 use mathlib.Core.Logic.{⊎_elim}

@@ -1,4 +1,3 @@
--- `words::word_end` meets its contract. The loop's invariant: the bytes passed are letters, digits and `_`. Assumes nothing.
 use Prim.Native.Nat.{◌-◌}
 use native.Mathlib.Omega.{arith}
 use mathlib.Core.Path.{sym, ◌∙◌}

@@ -1,4 +1,3 @@
--- `atoms::atom` meets its contract. The loop's invariant: the first f turns are taken. The measure is the count of facts that are left.
 use Prim.Native.Nat.{ℕ, ◌*◌, ◌-◌, ◌≤◌, ◌<◌}
 use mathlib.Core.Path.{◌≡◌, refl, sym, ◌∙◌}
 use mathlib.Core.List.{List, []}

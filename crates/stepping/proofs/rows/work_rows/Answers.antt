@@ -1,4 +1,3 @@
--- `work_rows` meets its contract. The loop's invariant: the first i rows are worked and counted. The measure is the count of rows that
 use Prim.Native.Nat.{ℕ, ◌+◌, ◌*◌, ◌-◌, ◌/◌, ◌≤◌, ◌<◌}
 use mathlib.Core.Path.{◌≡◌, refl, ap, sym, ◌∙◌}
 use mathlib.Core.List.{List}

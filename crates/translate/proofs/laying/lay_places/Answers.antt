@@ -1,4 +1,3 @@
--- `laying::lay_places` meets its contract. Assumes nothing.
 use Prim.Native.Nat.{◌-◌}
 use native.Mathlib.Omega.{arith}
 use lib.ListN.{length}
