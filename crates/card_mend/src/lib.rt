@@ -1,9 +1,14 @@
 // `card mend IN OUT`: the mended card in OUT, which must not be there yet, and the list of blocks on standard output. IN is read in order, and
 // from a block whose records end in an open moment the pieces to come are looked at, so IN is a file and no pipe. No more than a part is held.
+#![tactic(auto)]
+
 use card_block::{Carried, Reason};
 use card_mender::looking::Looked;
 use card_mender::{Held, Weighed};
-use card_text::{create, fail, flush, open_read, progress, progress_end, put, put_byte, put_number, read_full, refused, unlink, write_all};
+use card_text::{
+    create, fail, flush, open_read, progress, progress_end, put, put_byte, put_number, read_full,
+    refused, unlink, write_all,
+};
 use std::fs::File;
 use std::io::{Read, Stderr, Stdout};
 use std::os::unix::fs::FileExt;
@@ -11,7 +16,7 @@ use std::rt::Files;
 
 // Mending under way: what is carried, whether the stretch has begun, the place of the next piece, the bytes of the list that wait, and whether
 // all went well.
-#[derive(Drop)]
+#[derive(Clone, Copy)]
 struct State {
     carried: Carried,
     begun: bool,
@@ -22,7 +27,7 @@ struct State {
 }
 
 // What a look ahead over the file says.
-#[derive(Drop)]
+#[derive(Clone, Copy)]
 enum Ahead {
     Comes,
     Ends,
@@ -30,7 +35,7 @@ enum Ahead {
 }
 
 // A look at one piece of the file.
-#[derive(Drop)]
+#[derive(Clone, Copy)]
 enum Look {
     At(Looked),
     End,

@@ -6,7 +6,7 @@ use std::fs::File;
 use std::io::{Read, Stderr};
 
 // The reader under way: what is carried, the place of the next piece, and that of the last block with a record.
-#[derive(Drop)]
+#[derive(Clone, Copy)]
 struct Reading {
     carried: Carried,
     place: u64,
@@ -14,7 +14,7 @@ struct Reading {
 }
 
 // The reader after some pieces: it goes on, or it is at the end, or a block is bad, or the file cannot be read.
-#[derive(Drop)]
+#[derive(Clone, Copy)]
 enum Checked {
     On(Reading),
     End(Reading),

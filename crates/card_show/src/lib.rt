@@ -1,5 +1,7 @@
 // `card read FILE`: the moments of a card as lines of text. The card is gone over twice: first for a bad block, so that nothing is written of a
 // card that the reader refuses, and then for its moments. No more than a part of the card is held.
+#![tactic(auto)]
+
 mod checking; // checking.rt: the first pass, for a bad block
 
 use crate::checking::fine;
@@ -13,7 +15,7 @@ use std::rt::Files;
 
 // The text under way: what is carried, whether a moment is open, how many bytes stand in the buffer, whether they could be written, and whether
 // more of the file may come.
-#[derive(Drop)]
+#[derive(Clone, Copy)]
 struct Showing {
     carried: Carried,
     open: bool,
@@ -128,7 +130,13 @@ fn show_piece(stdout: Stdout, stderr: Stderr, out: &mut [u8], piece: &[u8], s: S
 }
 
 // The pieces of a part of the card.
-fn show_pieces(stdout: Stdout, stderr: Stderr, out: &mut [u8], part: &[u8], first: Showing) -> Showing {
+fn show_pieces(
+    stdout: Stdout,
+    stderr: Stderr,
+    out: &mut [u8],
+    part: &[u8],
+    first: Showing,
+) -> Showing {
     let mut s = first;
     let mut at: usize = 0;
     while at < part.len() {
@@ -140,7 +148,13 @@ fn show_pieces(stdout: Stdout, stderr: Stderr, out: &mut [u8], part: &[u8], firs
 }
 
 // The next part of the file, or none.
-fn show_some(file: &mut File, stdout: Stdout, stderr: Stderr, out: &mut [u8], s: Showing) -> Showing {
+fn show_some(
+    file: &mut File,
+    stdout: Stdout,
+    stderr: Stderr,
+    out: &mut [u8],
+    s: Showing,
+) -> Showing {
     let mut part = [0u8; 65536];
     let n = read_full(file, &mut part);
     if n == 0 {

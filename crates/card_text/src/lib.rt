@@ -4,6 +4,7 @@
 
 ghost use Rattle.std.specs.Prelude.{◌≤◌, length};
 
+use std::env::{Env, FillError};
 use std::fs;
 use std::fs::OpenOptions;
 use std::io::{Cursor, Error, ErrorKind, IsTerminal, Read, Stderr, Stdout, Write};
@@ -41,6 +42,13 @@ pub fn write_all<W: Write>(to: &mut W, bytes: &[u8]) -> bool {
     to.write_all(bytes).is_ok()
 }
 
+// Writes a number's digits; false where that cannot be done.
+pub fn write_number<W: Write>(to: &mut W, n: u64) -> bool {
+    let mut digits = [0u8; 20];
+    let k = io::decimal(n, &mut digits);
+    write_all(to, &digits[..k])
+}
+
 // Reads until the slice is full, the input ends or a read fails, and answers how many bytes stand at the front of the slice.
 pub fn read_full<R: Read>(from: &mut R, buf: &mut [u8]) -> usize
     ensures { result ≤ length buf.new }
@@ -76,10 +84,8 @@ pub fn say(mut stderr: Stderr, bytes: &[u8]) {
 }
 
 // Writes a number to standard error.
-pub fn say_number(stderr: Stderr, n: u64) {
-    let mut digits = [0u8; 20];
-    let k = io::decimal(n, &mut digits);
-    say(stderr, &digits[..k]);
+pub fn say_number(mut stderr: Stderr, n: u64) {
+    write_number(&mut stderr, n);
 }
 
 // Says that something cannot be done with a file.
@@ -106,6 +112,12 @@ pub fn progress_end(stderr: Stderr) {
     if stderr.is_terminal() {
         say(stderr, b"\r               \r");
     }
+}
+
+// The program's argument at a place is there; its own name is at place 0.
+pub fn given<R: Env>(rt: &R, place: usize) -> bool {
+    let mut none = [0u8; 0];
+    !matches!(rt.arg(place, &mut none), Err(FillError::NotPresent))
 }
 
 // The path that a name is. A path is text: what is no UTF-8 names no file.
