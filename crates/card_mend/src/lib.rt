@@ -27,7 +27,7 @@ struct State {
 }
 
 // What a look ahead over the file says.
-#[derive(Clone, Copy)]
+#[derive(Drop)]
 enum Ahead {
     Comes,
     Ends,
@@ -35,7 +35,7 @@ enum Ahead {
 }
 
 // A look at one piece of the file.
-#[derive(Clone, Copy)]
+#[derive(Drop)]
 enum Look {
     At(Looked),
     End,

@@ -14,7 +14,7 @@ struct Reading {
 }
 
 // The reader after some pieces: it goes on, or it is at the end, or a block is bad, or the file cannot be read.
-#[derive(Clone, Copy)]
+#[derive(Drop)]
 enum Checked {
     On(Reading),
     End(Reading),
