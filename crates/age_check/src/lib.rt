@@ -2,6 +2,8 @@
 // marks each kept node, children before parents; then each row's mark is compared with its greatest age. So it is linear in the
 // kept nodes. The bindings' levels are those before `base`, and an age has the 11 levels from `base` on. Assumes that the kept
 // nodes are a table.
+#![tactic(auto)]
+
 ghost use Rattle.std.specs.Prelude.{◌≡◌, ℕ, ◌+◌, ◌-◌, ◌<◌, ◌≤◌, max, length, get_or};
 ghost use Rattle.trees.specs.Table.{at, trees_of};
 ghost use Rattle.nodes.specs.Nodes.{Table, Rest, Decides};

@@ -1,4 +1,6 @@
 // The lines of the output, put into a slice of bytes. Which bytes each line has is in specs/Answers.antt.
+#![tactic(auto)]
+
 ghost use Rattle.std.specs.Prelude.{◌∷◌, ◌+◌, ◌≤◌, length};
 ghost use Rattle.lines.specs.Numeral.{numeral};
 ghost use Rattle.answers.specs.Answers.{Put, word_line, word, headed, answered, answer_line, said_line, told_lines};

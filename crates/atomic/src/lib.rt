@@ -1,4 +1,6 @@
 // The nine numbers of an atom's row, from its arguments in the text. The definitions are in the crate text. Assumes nothing.
+#![tactic(auto)]
+
 ghost use Rattle.std.specs.Prelude.{◌≡◌, ◌-◌, ◌≤◌, ◌<◌, length, take, drop};
 ghost use Rattle.census.specs.Folds.{Lexed};
 ghost use Rattle.census.specs.Tables.{Table, names_at, Within};

@@ -1,6 +1,8 @@
 // Which lot broke it: the first binding, in order of numbers, for which a diagram of the kept table says yes. Each bit in turn,
 // from the most significant of the outermost variable down, is fixed to 0 where the diagram can still say yes, and else to 1;
 // whether it can is one pass over the nodes, children first. Nothing is made, and nothing calls itself. Assumes nothing.
+#![tactic(auto)]
+
 mod possible; // the pass
 
 ghost use Rattle.std.specs.Prelude.{◌≡◌, true, ℕ, ◌+◌, ◌*◌, ◌<◌, ◌≤◌, length, get_or};

@@ -1,5 +1,6 @@
 // Cards from the command line: `read FILE`, `write FILE` and `mend IN OUT`. A program has no exit status, so the first argument names a file
 // that is written only where all went well; the script ./card hands one over and turns it into a status.
+#![tactic(auto)]
 
 use card_text::say;
 

@@ -1,5 +1,7 @@
 // One block of a card: its check, its shape, and what it makes of the moment that is open before it. What a block is, and when it stays, is
 // said in the crate `cards`; what `judge` answers is in specs/Judging.antt. Assumes nothing: any bytes are judged.
+#![tactic(auto)]
+
 pub mod sums; // sums.rt: the check, numbers and unused bytes
 mod shape; // shape.rt: the shape of a record and of a block
 pub mod moments; // moments.rt: the moments that run through a block
@@ -22,7 +24,7 @@ pub enum Reason {
 }
 
 // What is carried from block to block: the number that runs on, and the count and the stamp of the open moment.
-#[derive(Drop)]
+#[derive(Clone, Copy)]
 pub struct Carried {
     pub next: u64,
     pub count: u32,

@@ -1,5 +1,7 @@
 // `card write FILE`: lines of standard input, one for each moment, as a card in FILE, which must not be there yet. A line is a stamp, a colon,
 // and the facts, each a predicate and its values after spaces, with a comma between facts: `5: 1 258, 2 7 8`.
+#![tactic(auto)]
+
 mod parsing; // parsing.rt: numbers and facts of a line
 
 use crate::parsing::{Parsed, Token, fact_from, number_at};
@@ -8,7 +10,7 @@ use card_text::{fail, say, say_number};
 
 // The block under way: its number, the count of its records, the count of lines, the count of bytes of the line that is held, and whether all
 // went well.
-#[derive(Drop)]
+#[derive(Clone, Copy)]
 struct Sheet {
     number: u64,
     records: usize,

@@ -1,5 +1,7 @@
 // A log written on a card: records in rows of seven numbers, each its stamp, its predicate, the count of its values, three values, and 1 where it
 // is the last of its moment. What rows say is in specs/Rows.antt, what `write` leaves in specs/Logging.antt. Assumes nothing.
+#![tactic(auto)]
+
 ghost use Rattle.std.specs.Prelude.{◌≡◌, ◌+◌, ◌-◌, ◌*◌, ◌≤◌, ◌<◌, min, length, take, drop, get_or};
 ghost use Rattle.std.proofs.lemmas.List.Edits.{sets};
 ghost use Rattle.cards.specs.Blocks.{block_bytes};

@@ -1,5 +1,7 @@
 // `card mend IN OUT`: the mended card in OUT, which must not be there yet, and the list of blocks on standard output. IN is read in order, and
 // from a block whose records end in an open moment the pieces to come are looked at, so IN is a file and no pipe. No more than a part is held.
+#![tactic(auto)]
+
 use card_block::{Carried, Reason};
 use card_mender::looking::Looked;
 use card_mender::{Held, Weighed};

@@ -1,5 +1,7 @@
 // Mending a card: which blocks stay, which of their records, and the list of blocks. What mending keeps is in the crate `cards`; what one piece
 // comes to is in specs/Weighing.antt, and what `mend` leaves in the slices in specs/Mended.antt. Assumes nothing: any bytes are mended.
+#![tactic(auto)]
+
 mod flags; // flags.rt: the first and the last flagged record of a block
 pub mod looking; // looking.rt: whether a flagged record comes later in the stretch
 
@@ -24,7 +26,7 @@ use card_writer::{add_fact, end_block, start_block};
 
 // A block that stays: what is carried on, whether the stretch has begun with it, the first record that stays, the place past its last flagged
 // record from there on, and the count of its records. Its records from `last` on stay only where a flagged one comes later in the stretch.
-#[derive(Drop)]
+#[derive(Clone, Copy)]
 pub struct Held {
     pub carried: Carried,
     pub begun: bool,

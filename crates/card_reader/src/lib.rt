@@ -1,5 +1,7 @@
 // The reader of a card: piece after piece, up to the first bad block. What a card says is in the crate `cards`; what one step answers is in
 // specs/Stepping.antt, and what `read` answers in specs/Finding.antt. Assumes nothing: any bytes are read.
+#![tactic(auto)]
+
 ghost use Rattle.std.specs.Prelude.{◌≡◌, ◌<◌};
 ghost use Rattle.card_reader.specs.Stepping.{stepped, stepped_by};
 ghost use Rattle.card_reader.specs.Finding.{Finds};

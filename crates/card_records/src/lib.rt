@@ -1,4 +1,6 @@
 // A record of a card as a struct: read from the bytes of a block, and put as bytes. What a record's bytes are is in the crate `cards`.
+#![tactic(auto)]
+
 ghost use Rattle.std.specs.Prelude.{◌≡◌, ◌+◌, ◌*◌, ◌≤◌, min, length, take, drop};
 ghost use Rattle.std.proofs.lemmas.List.Edits.{sets};
 ghost use Rattle.cards.specs.Bytes.{bytes_of};
@@ -9,7 +11,7 @@ use card_block::sums::number_at;
 
 // A record: its stamp, its predicate, the count of its values, three values, of which those past the count say nothing, and whether it is the
 // last of its moment.
-#[derive(Drop)]
+#[derive(Clone, Copy)]
 pub struct Fact {
     pub stamp: u32,
     pub predicate: u32,

@@ -1,5 +1,7 @@
 // `card read FILE`: the moments of a card as lines of text. The card is gone over twice: first for a bad block, so that nothing is written of a
 // card that the reader refuses, and then for its moments. No more than a part of the card is held.
+#![tactic(auto)]
+
 mod checking; // checking.rt: the first pass, for a bad block
 
 use crate::checking::fine;

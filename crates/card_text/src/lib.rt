@@ -1,4 +1,6 @@
 // Text for standard output and standard error, put into a lent slice. What finds no room is left out; the callers empty the slice in time.
+#![tactic(auto)]
+
 use libc::{STDERR_FILENO, STDOUT_FILENO};
 
 // Puts one byte, and answers the place past it.

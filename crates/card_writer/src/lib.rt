@@ -1,5 +1,7 @@
 // A block of a card, written in a slice of 512 bytes: begun with its number, given its records one after the other, and ended with its check.
 // What the slice then holds is in specs/Sheets.antt; what a block is written as is in the crate `cards`.
+#![tactic(auto)]
+
 ghost use Rattle.std.specs.Prelude.{◌≡◌, ℕ, ◌+◌, ◌≤◌, ◌<◌, List, [], ◌∷◌, ◌++◌, length};
 ghost use Rattle.std.proofs.lemmas.List.Edits.{sets};
 ghost use Rattle.cards.specs.Bytes.{filled};

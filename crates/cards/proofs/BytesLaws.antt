@@ -1,5 +1,5 @@
 -- Laws of bytes: lengths, parts of joined bytes, equal lists. Assumes nothing.
-use Prim.Native.Nat.{ℕ, zero, suc, ◌+◌, ◌-◌, ◌*◌, ◌/◌, ◌≤◌, ◌<◌}
+use Prim.Native.Nat.{ℕ, zero, suc, ◌+◌, ◌-◌, ◌*◌, ◌/◌, ◌%◌, ◌≤◌, ◌<◌}
 use native.Mathlib.Omega.{arith}
 use native.Mathlib.Numerals.{add-one, add-two, add-three}
 use mathlib.Core.Path.{◌≡◌, refl, ap}
@@ -27,7 +27,7 @@ length_bytes (suc size) n = ap suc (length_bytes size (n / 256))
 pub length_sums : (a b : ℕ) (bs : List ℕ) → length (sums a b bs) ≡ 2
 unfolding sums
 length_sums a b [] = refl
-length_sums a b (x ∷ xs) = length_sums _ _ xs
+length_sums a b (x ∷ xs) = length_sums ((a + x) % 255) ((b + (a + x) % 255) % 255) xs
 
 pub length_check : (bs : List ℕ) → length (check bs) ≡ 2
 unfolding check

@@ -7,7 +7,7 @@ use mathlib.Core.List.{List, [], ◌∷◌, map}
 use lib.Dec.{ltb}
 use borrow.Author.Tests.{ltb-false, le-ltb}
 use Rattle.cards.specs.Moments.{unbroken}
-use Rattle.cards.specs.Blocks.{Block, Reason, shape, number, Piece, good, faulty}
+use Rattle.cards.specs.Blocks.{Block, Reason, shape, Piece, good, faulty}
 use Rattle.cards.specs.Reading.{Before, line, after, Fate, stays, goes, fate_by, fate, fates, fine, bad, last_place, some, open_at_gap, fault_from, blocks}
 use Rattle.cards.specs.Mending.{kept}
 

@@ -1,18 +1,18 @@
 -- The reader's refusal: every block before the one that it names stays, that one goes for the reason given or holds the end of an open moment,
 -- and the reason is the first of the three that applies. Assumes nothing.
-use Prim.Native.Nat.{ℕ, zero, suc, ◌-◌, ◌≤◌, ◌<◌}
+use Prim.Native.Nat.{ℕ, suc, ◌-◌, ◌≤◌, ◌<◌}
 use native.Mathlib.Omega.{arith}
 use mathlib.Core.Path.{◌≡◌, refl, sym, ap, ◌∙◌}
-use mathlib.Core.Bool.{Bool, true, false, ◌&&◌, not}
+use mathlib.Core.Bool.{Bool, true, false, not}
 use mathlib.Core.List.{List, [], ◌∷◌, map}
-use mathlib.Core.Logic.{◌⊎◌, inl, inr, ⊎_elim}
+use mathlib.Core.Logic.{◌⊎◌, inl, inr}
 use lib.Dec.{eqb, ltb}
 use lib.ListN.{length, take, drop}
 use borrow.Author.Tests.{eqb-true, eqb-false, ltb-true, ltb-false}
 use Rattle.cards.specs.Bytes.{same}
 use Rattle.cards.specs.Bytes
-use Rattle.cards.specs.Moments.{Record, unbroken}
-use Rattle.cards.specs.Blocks.{Block, Reason, check, shape, number, body, block_of, Piece, good, faulty, piece_by, piece_of, pieces}
+use Rattle.cards.specs.Moments.{unbroken}
+use Rattle.cards.specs.Blocks.{Block, Reason, check, shape, number, body, block_of, Piece, piece_by, piece_of, pieces}
 use Rattle.cards.specs.Reading.{Before, start, line, after, Fate, stays, goes, fate_by, fate, fates, Fault, fine, bad, last_place, some, open_at_gap, fault_from, blocks, stretches, moments_of, refused, read_by, read_pieces, read}
 use Rattle.cards.proofs.Tests.{and_left}
 use Rattle.cards.proofs.NamedPlace.{held_after, no_record}

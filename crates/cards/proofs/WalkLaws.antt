@@ -5,7 +5,7 @@ use mathlib.Core.List.{List, [], ◌∷◌}
 use Rattle.cards.specs.Moments.{Record, flagged, open_of, ended, together, all_together, unbroken}
 use Rattle.cards.specs.Blocks.{Block}
 use Rattle.cards.specs.Reading.{Before, start, runs_on, line, after, some}
-use Rattle.cards.specs.Counting.{Open, opening_of, closed, into, open_after, all_belong}
+use Rattle.cards.specs.Counting.{opening_of, into, open_after, all_belong}
 use Rattle.cards.proofs.Tests.{and_right}
 use Rattle.cards.proofs.MomentLaws.{open_unflagged}
 use Rattle.cards.proofs.CountingLaws.{none_open, no_flag, counted_open, counted_unbroken}

@@ -2,6 +2,8 @@
 // nodes[3 * j + 1] and nodes[3 * j + 2], the references for bit 0 and bit 1. References 0 and 1 are no and yes,
 // and j + 2 is the node at place j. A row's new diagram is made by the walk that its instruction asks for (`row::row`). What a whole
 // event makes of the diagrams is defined in specs/Steps.antt. Assumes nothing.
+#![tactic(auto)]
+
 pub mod row;
 pub mod turns;
 

@@ -1,5 +1,7 @@
 // A block of the input, taken apart into lines. A line may begin in one block and end in another: its bytes so far are held.
 // No right line is longer than 100 bytes, so a longer one is known to be bad by its first 101 bytes, and the rest is not held.
+#![tactic(auto)]
+
 ghost use Rattle.std.specs.Prelude.{◌≡◌, ◌+◌, ◌≤◌, ◌<◌, length, take};
 ghost use Rattle.std.proofs.Math.Seq.{slice};
 ghost use Rattle.lines.specs.Format.{Reads};

@@ -1,4 +1,6 @@
 // What the rows of a rule ask of the diagrams in one event: of an atom what each fact adds to it, of any other row one instruction.
+#![tactic(auto)]
+
 ghost use Rattle.std.specs.Prelude.{◌≡◌, [], ◌∷◌, ◌<◌, length, take};
 ghost use Rattle.rule.specs.Decoded.{argument_of, row_of};
 ghost use Rattle.instructions.specs.Read.{names, place_read, row_turn, is_atom, instruction_read};

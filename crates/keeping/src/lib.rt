@@ -1,5 +1,7 @@
 // Whether a state's diagrams are well kept: the clauses of refusal 4 that speak of nodes and references. Each pass is linear
 // in the kept nodes, the search for equal nodes but for collisions. Assumes nothing.
+#![tactic(auto)]
+
 mod each; // references and nodes by themselves
 mod order; // canonical order
 mod free; // the rows' variables

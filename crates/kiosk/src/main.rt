@@ -1,6 +1,8 @@
 // The kiosk's program: reads a rule and its events from standard input, line by line, and writes an answer for each event.
 // Input comes in blocks, and the answers to the lines of a block are written together before the next block is asked for,
 // so whoever types a line sees its answer. No memory is asked for: an input of any length is judged in these arrays.
+#![tactic(auto)]
+
 mod blocks;
 
 ghost use Rattle.std.specs.Prelude.{◌≤◌, ◌<◌, take};

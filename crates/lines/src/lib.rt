@@ -1,5 +1,7 @@
 // One line of the program's input, without its line end, read as an enum. What each line is written as, and what it is to read one, is in
 // specs/Format.antt; what the parts of the reader promise is in specs/Parts.antt. Assumes nothing: any bytes, of any length, are read.
+#![tactic(auto)]
+
 ghost use Rattle.std.specs.Prelude.{◌≡◌, ◌≤◌, length, drop};
 ghost use Rattle.lines.specs.Format.{Reads};
 ghost use Rattle.lines.specs.Parts.{IsToken, Found, LedBy, Unlettered};

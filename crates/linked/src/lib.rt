@@ -1,5 +1,7 @@
 // The monitor for programs in C and Rust that link it: start, event and lookup, with the state as 135 numbers, the answer of the first
 // two as 10 and that of the third as 2, and a fact as 5. All calls are total. How numbers are laid out is in specs/Packing.antt, what each call gives back and leaves in specs/Calls.antt.
+#![tactic(auto)]
+
 mod happening;
 mod packing;
 

@@ -1,5 +1,7 @@
 // Rules typed as text for programs in C and Rust: one call, with the answer as 141 numbers. The call is total. How the answer is laid out
 // and what the call leaves is in specs/Ruling.antt. Assumes nothing.
+#![tactic(auto)]
+
 mod packing;
 
 ghost use Rattle.linked_rule.specs.Ruling.{LinkedRule};

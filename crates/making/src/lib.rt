@@ -1,5 +1,7 @@
 // Find-or-make by the chains of nodes, the memory of results, and a fact's numbers put into a diagram. Assumes that the first n
 // nodes are a table.
+#![tactic(auto)]
+
 pub mod into;
 pub mod memory;
 pub mod table;
@@ -12,11 +14,11 @@ pub enum Made {
 }
 
 // A number that stands for a value.
-#[derive(Drop)]
+#[derive(Clone, Copy)]
 pub struct Number(pub u32);
 
 // What a variable's bits are to show: any number, or this one.
-#[derive(Drop)]
+#[derive(Clone, Copy)]
 pub enum Place {
     Any,
     Is(Number),

@@ -1,26 +1,23 @@
 -- What an answer of a running machine says. Assumes nothing.
-use Prim.Native.Nat.{ℕ, zero, suc, ◌+◌, ◌-◌, ◌*◌, ◌≤◌, ◌<◌}
+use Prim.Native.Nat.{ℕ, suc, ◌-◌, ◌<◌}
 use mathlib.Core.Path.{◌≡◌, refl, ap, sym, ◌∙◌}
 use mathlib.Core.Bool.{Bool, true, false}
 use mathlib.Core.List.{List, [], ◌∷◌, ◌++◌}
 use mathlib.Core.Logic.{◌↔◌, ⊎_elim}
 use native.Mathlib.Omega.{arith}
 use lib.ListN.{length, get_or}
-use Rattle.trees.specs.Tree.{Tree, off, is_on}
-use Rattle.trees.specs.Room.{Room}
+use Rattle.trees.specs.Tree.{off, is_on}
 use Rattle.trees.proofs.Tests.{lt_or_ge}
 use Rattle.meaning.specs.declared.State.{State}
 use Rattle.meaning.specs.declared.Event.{Event}
-use Rattle.meaning.specs.declared.Answer.{Answer}
-use Rattle.meaning.specs.declared.Answer.TheVariants.{Started, Verdict, Refused}
+use Rattle.meaning.specs.declared.Answer.TheVariants.{Verdict}
 use Rattle.meaning.specs.Qtl.{Fact, Assignment, Holds, free}
-use Rattle.meaning.specs.Rows.{Row, rule_of, count_of_rows, rows_up_to, formula_at, right, check_rows}
-use Rattle.meaning.specs.Step.{says_at, Shown, step, counted, room_of}
+use Rattle.meaning.specs.Rows.{rule_of, count_of_rows, formula_at, right, check_rows}
+use Rattle.meaning.specs.Step.{says_at, Shown, step, room_of}
 use Rattle.meaning.specs.Tables.{kept_table, lay_state}
 use Rattle.meaning.specs.Verdicts.{Counts, Answered}
 use Rattle.meaning.specs.Outcome.{k_right, facts_of, Decision, taken, refused, Machine, shows, decide_event, verdict_of, settle_event, event_outcome, log}
-use Rattle.meaning.proofs.RowsLaws.{Checked, checked, rows_length, free_beyond}
-use Rattle.meaning.proofs.Simulation.{Faithful}
+use Rattle.meaning.proofs.RowsLaws.{checked, rows_length, free_beyond}
 use Rattle.meaning.proofs.VerdictLaws.{sentence}
 use Rattle.meaning.proofs.RoomOfLaws.{room_is}
 use Rattle.meaning.proofs.RunLaws.{Running, Laid, k_is, shows_is, laid_on, after_faithful}

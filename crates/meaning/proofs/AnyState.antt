@@ -1,31 +1,30 @@
 -- Any well-formed state: the functions shown go to those that one step of the meaning gives, and the new state is well formed.
 -- What tables show determines them. Assumes nothing.
-use Prim.Native.Nat.{ℕ, zero, suc, ◌+◌, ◌-◌, ◌*◌, ◌/◌, ◌%◌, ◌≤◌, ◌<◌}
+use Prim.Native.Nat.{ℕ, zero, suc, ◌+◌, ◌-◌, ◌*◌, ◌/◌, ◌%◌, ◌<◌}
 use mathlib.Core.Path.{◌≡◌, refl, ap, ap₂, sym, ◌∙◌}
 use mathlib.Core.Bool.{Bool, true, false, ◌&&◌}
 use mathlib.Core.List.{List, [], ◌∷◌, ◌++◌}
-use mathlib.Core.Logic.{⊎_elim}
 use native.Mathlib.Omega.{arith}
 use lib.Dec.{eqb, ltb, leb}
-use lib.ListN.{length, get_or, length-append, get_or-append}
+use lib.ListN.{length, get_or, length-append}
 use lib.Seq.{ext_get_or, get_or-append_seam}
 use borrow.Author.Tests.{eqb-true}
 use Rattle.trees.specs.Bits.{Bits, Function, Same}
 use Rattle.trees.specs.Tree.{Tree, off, on, node, eval, is_on}
 use Rattle.trees.specs.Kept.{levels}
-use Rattle.trees.proofs.Tests.{false_true, and_true_l, and_true_r, lt_or_ge}
+use Rattle.trees.proofs.Tests.{false_true, and_true_l, and_true_r}
 use Rattle.trees.proofs.BitsLaws.{drops_same}
 use Rattle.trees.proofs.TreeLaws.{canon, fine_off}
 use Rattle.meaning.specs.declared.Event.{Event}
 use Rattle.meaning.specs.declared.Answer.TheVariants.{Verdict}
-use Rattle.meaning.specs.Qtl.{Fact, free}
+use Rattle.meaning.specs.Qtl.{Fact}
 use Rattle.meaning.specs.Rows.{Row, truth, atom, both, neg, since, previous, exists, rule_of, right, check_rows}
 use Rattle.meaning.specs.Numbering.{Lists, ask_facts}
 use Rattle.meaning.specs.Step.{row_says, says_at, row_tree, row_trees, Shown, step, OneStep}
 use Rattle.meaning.specs.Tables.{most, read, free_level, lay_state, lay_nodes, lay_values, well_formed}
-use Rattle.meaning.specs.Outcome.{k_right, capacity, nodes_right, values_right, work_size, cleared, facts_of, Decision, taken, judge_start, judge_event, Machine, Arrays, WellFormed, shows, decide_event, settle_event, event_outcome}
+use Rattle.meaning.specs.Outcome.{k_right, capacity, nodes_right, values_right, work_size, cleared, facts_of, taken, Machine, Arrays, WellFormed, shows, decide_event, settle_event, event_outcome}
 use Rattle.meaning.specs.Verdicts.{Sized, Stepped}
-use Rattle.meaning.proofs.RowsLaws.{RowOk, RowsOk, Checked, checked}
+use Rattle.meaning.proofs.RowsLaws.{RowOk, RowsOk, checked}
 use Rattle.meaning.proofs.StepLaws.{AllFine, fine_snoc, fine_row, eval_row, trees_keep}
 use Rattle.meaning.proofs.ProperLaws.{Proper, Shaped, proper_read, lay_nodes_law, lay_state_law, lay_values_law}
 use Rattle.meaning.proofs.RunLaws.{start_taken, event_taken, positive, few, Laid, k_is, C-is, shows_is, formed_is, laid_on}

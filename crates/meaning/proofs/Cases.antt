@@ -1,10 +1,9 @@
 -- The cases of document 01 that are marked P, and some of several facts, as one list under one claim about the definitions. Assumes nothing.
-use Prim.Native.Nat.{ℕ, zero, suc, ◌+◌, ◌-◌, ◌*◌}
+use Prim.Native.Nat.{ℕ, suc, ◌*◌}
 use mathlib.Core.Path.{◌≡◌, refl}
-use mathlib.Core.Bool.{Bool, true, false, cond, not, ◌&&◌, ◌||◌}
-use mathlib.Core.List.{List, [], ◌∷◌, ◌++◌, map}
-use lib.Dec.{eqb, ltb, leb}
-use lib.ListN.{length, get_or, set, take, drop, replicate}
+use mathlib.Core.Bool.{Bool, true, false, ◌&&◌}
+use mathlib.Core.List.{List, [], ◌∷◌, ◌++◌}
+use lib.ListN.{length, get_or, set, take, replicate}
 use Rattle.trees.specs.Bits as Bits
 use Rattle.trees.specs.Tree as Tree
 use Rattle.trees.specs.Table as Table

@@ -1,32 +1,28 @@
 -- Disguised logs: both runs give the same answers and diagrams, and the value lists differ by the disguise only. Assumes nothing.
-use Prim.Native.Nat.{ℕ, zero, suc, ◌+◌, ◌-◌, ◌*◌, ◌^◌, ◌≤◌, ◌<◌}
+use Prim.Native.Nat.{ℕ, zero, suc, ◌*◌, ◌≤◌, ◌<◌}
 use mathlib.Core.Path.{◌≡◌, refl, ap, ap₂, sym, ◌∙◌, fun_ext}
-use mathlib.Core.Bool.{Bool, true, false, cond, not, ◌&&◌, ◌||◌}
-use mathlib.Core.List.{List, [], ◌∷◌, ◌++◌, map}
-use mathlib.Core.Logic.{◌⊎◌, inl, inr, ⊎_elim}
+use mathlib.Core.Bool.{Bool, true, false, cond, ◌&&◌}
+use mathlib.Core.List.{List, [], ◌∷◌, map}
 use native.Mathlib.Omega.{arith}
-use lib.Dec.{eqb, ltb, leb}
-use lib.ListN.{length, get_or, take, drop, replicate, length-append, length-map, length-replicate, length-drop}
-use borrow.Author.Tests.{eq-eqb}
-use Rattle.trees.specs.Tree.{Tree, off}
-use Rattle.trees.proofs.Tests.{or_l, or_r, eqb_same}
+use lib.Dec.{ltb, leb}
+use lib.ListN.{length, get_or, take, length-append, length-map, length-drop}
 use Rattle.meaning.specs.declared.State.{State}
 use Rattle.meaning.specs.declared.Event.{Event}
 use Rattle.meaning.specs.declared.Fact.{Fact as Given}
 use Rattle.meaning.specs.declared.Value.{Value}
 use Rattle.meaning.specs.declared.Answer.{Answer}
-use Rattle.meaning.specs.Qtl.{Argument, variable, constant, Fact}
-use Rattle.meaning.specs.Rows.{Row, truth, atom, both, neg, since, previous, exists, rule_of, first_below, Found, right, check_rows}
+use Rattle.meaning.specs.Qtl.{Fact}
+use Rattle.meaning.specs.Rows.{Row, truth, atom, both, neg, since, previous, exists, rule_of, first_below, right, check_rows}
 use Rattle.meaning.specs.Numbering.{Lists, ask_facts}
 use Rattle.meaning.specs.Step.{Shown, step, room_of}
-use Rattle.meaning.specs.Tables.{most, padded, kept_table, lay_state, lay_nodes, lay_values, well_formed}
+use Rattle.meaning.specs.Tables.{most, kept_table, lay_state, lay_nodes, lay_values}
 use Rattle.meaning.specs.Outcome.{k_right, capacity, nodes_right, values_right, work_size, cleared, fact_of, given, facts_of, agrees, all_agree, fact_right, all_right, count_right, shortest, Decision, taken, refused, judge_start, judge_event, Machine, shows, decide_event, verdict_of, settle_event, event_outcome, runs, answers}
-use Rattle.meaning.specs.Disguise.{among, used, constants_in, constants, Disguise, disguised_given, disguised, disguised_fact}
+use Rattle.meaning.specs.Disguise.{disguised_given, disguised, disguised_fact}
 use Rattle.meaning.proofs.ValuesLaws.{Distinct}
 use Rattle.meaning.proofs.PartsLaws.{padded_length}
 use Rattle.meaning.proofs.ProperLaws.{Proper}
-use Rattle.meaning.proofs.RenameLaws.{Every, EveryFact, EveryEvent, EveryList, KeepsArguments, KeepsRow, KeepsRows, renamed_lists, renamed, ask_facts_every, ask_facts_ren, step_ren, room_ren}
-use Rattle.meaning.proofs.RunLaws.{Laid, k_is, C-is, shows_is, formed_is, laid_on, laid_stays}
+use Rattle.meaning.proofs.RenameLaws.{Every, EveryFact, EveryEvent, EveryList, KeepsRows, renamed_lists, renamed, ask_facts_every, ask_facts_ren, step_ren, room_ren}
+use Rattle.meaning.proofs.RunLaws.{Laid, k_is, shows_is, formed_is, laid_on, laid_stays}
 
 -- the fact of a disguised event
 take_map : {A : Type 0} (n : ℕ) (f : A → A) (vs : List A) → take n (map f vs) ≡ map f (take n vs)

@@ -1,29 +1,24 @@
 -- Each refusal is given exactly if its sentence holds and none of the earlier ones. Assumes nothing.
-use Prim.Native.Nat.{ℕ, zero, suc, ◌+◌, ◌-◌, ◌*◌, ◌%◌, ◌≤◌, ◌<◌}
-use mathlib.Core.Path.{◌≡◌, refl, ap, sym, ◌∙◌}
+use Prim.Native.Nat.{ℕ, zero, suc, ◌-◌, ◌*◌, ◌%◌, ◌<◌}
+use mathlib.Core.Path.{◌≡◌, refl, ap, sym}
 use mathlib.Core.Bool.{Bool, true, false, not, ◌&&◌, ◌||◌}
 use mathlib.Core.List.{List, [], ◌∷◌}
 use mathlib.Core.Logic.{◌↔◌, ◌≢◌, ◌⊎◌, inl, inr, ⊎_elim}
-use native.Mathlib.Decide.{dec_lt}
 use native.Mathlib.Omega.{arith}
 use lib.Dec.{eqb, ltb, leb}
 use lib.ListN.{length, get_or}
-use borrow.Author.Tests.{eqb-true, eqb-false, eq-eqb, ne_eqb, ltb-true, ltb-false, leb-true, leb-false, lt-ltb, le-leb, lt-leb, le-ltb}
-use Rattle.trees.specs.Kept.{all_below}
-use Rattle.trees.proofs.Tests.{bool, lt_or_ge, false_true, and_true, and_true_l, and_true_r}
+use borrow.Author.Tests.{eqb-true, eqb-false, eq-eqb, ne_eqb, ltb-true, ltb-false, leb-false, lt-ltb, lt-leb, le-ltb}
+use Rattle.trees.proofs.Tests.{lt_or_ge, false_true}
 use Rattle.trees.proofs.KeptLaws.{all_at, all_fails, not_false}
-use Rattle.trees.proofs.RoomLaws.{room_one}
 use Rattle.meaning.specs.declared.Event.{Event}
 use Rattle.meaning.specs.declared.Fact.{Fact as Given}
 use Rattle.meaning.specs.Qtl.{Argument, free}
 use Rattle.meaning.specs.Rows.{Row, truth, atom, both, neg, since, previous, exists, row_fault, count_of_rows, rows_up_to, rule_of, formula_at, closed, first_below, Found, right, fault, judge_rows, check_rows}
 use Rattle.meaning.specs.Numbering.{ask_facts}
-use Rattle.meaning.specs.Step.{step, counted, room_of}
-use Rattle.meaning.specs.Tables.{most, well_formed}
-use Rattle.meaning.specs.Outcome
-use Rattle.meaning.specs.Outcome.{k_right, capacity, nodes_right, values_right, work_size, given, facts_of, agrees, all_agree, fact_right, all_right, count_right, shortest, Decision, taken, refused, judge_start, judge_event, decide_start, decide_event, Machine, shows}
-use Rattle.meaning.specs.Refusals.{BadK, BadShape, FirstFault, OpenRule, BadRows, BadNodes, BadValues, BadWork, OtherCount, BadFact, SomeBad, Short, NoRoom, StartSentence, Sentence, First}
-use Rattle.meaning.proofs.RowsLaws.{first_le, first_none, first_some, rows_length}
+use Rattle.meaning.specs.Tables.{most}
+use Rattle.meaning.specs.Outcome.{k_right, capacity, nodes_right, values_right, given, facts_of, agrees, all_agree, fact_right, all_right, count_right, shortest, Machine, shows}
+use Rattle.meaning.specs.Refusals.{BadK, BadShape, BadRows, BadNodes, BadValues, OtherCount, BadFact, SomeBad, Short}
+use Rattle.meaning.proofs.RowsLaws.{first_none, first_some, rows_length}
 
 -- a test that failed
 pub and_false : (a b : Bool) → (a && b) ≡ false → (a ≡ false) ⊎ (b ≡ false)

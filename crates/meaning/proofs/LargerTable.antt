@@ -1,25 +1,24 @@
 -- The same state with a larger table: it is well formed, shows the same, and answers the same but where the smaller has no room.
 -- Assumes nothing.
-use Prim.Native.Nat.{ℕ, zero, suc, ◌+◌, ◌-◌, ◌*◌, ◌/◌, ◌%◌, ◌≤◌, ◌<◌}
-use mathlib.Core.Path.{◌≡◌, refl, ap, ap₂, sym, ◌∙◌}
+use Prim.Native.Nat.{ℕ, ◌+◌, ◌-◌, ◌*◌, ◌%◌, ◌≤◌, ◌<◌}
+use mathlib.Core.Path.{◌≡◌, refl, ap, sym, ◌∙◌}
 use mathlib.Core.Bool.{Bool, true, false, ◌&&◌}
-use mathlib.Core.List.{List, [], ◌∷◌, ◌++◌, append_assoc}
+use mathlib.Core.List.{List, [], ◌++◌, append_assoc}
 use mathlib.Core.Logic.{◌⊎◌, inl, inr, ⊎_elim}
 use native.Mathlib.Omega.{arith}
 use lib.Dec.{eqb, ltb, leb}
-use lib.ListN.{length, replicate, length-append, length-replicate}
+use lib.ListN.{length, length-append, length-replicate}
 use borrow.Author.Tests.{eqb-true, eq-eqb, ltb-true, lt-ltb, leb-true, le-leb}
-use Rattle.trees.specs.Tree.{Tree}
 use Rattle.trees.specs.Table.{add_trees, show}
 use Rattle.trees.proofs.Tests.{and_true, and_true_l, and_true_r}
 use Rattle.trees.proofs.ShowLaws.{show_length, sound_adds, sound_nil}
 use Rattle.meaning.specs.declared.Event.{Event}
 use Rattle.meaning.specs.declared.Answer.{Answer}
-use Rattle.meaning.specs.declared.Answer.TheVariants.{Verdict, Refused}
+use Rattle.meaning.specs.declared.Answer.TheVariants.{Refused}
 use Rattle.meaning.specs.Rows.{Row, rule_of, right, check_rows}
 use Rattle.meaning.specs.Step.{Shown, step, room_of}
-use Rattle.meaning.specs.Tables.{padded, kept_table, lay_nodes, well_formed}
-use Rattle.meaning.specs.Outcome.{k_right, capacity, nodes_right, values_right, work_size, cleared, facts_of, count_right, shortest, Decision, taken, refused, judge_start, judge_event, Machine, Arrays, WellFormed, enlarged, shows, verdict_of, decide_event, settle_event, event_outcome}
+use Rattle.meaning.specs.Tables.{padded, kept_table, lay_nodes}
+use Rattle.meaning.specs.Outcome.{k_right, capacity, nodes_right, values_right, work_size, cleared, facts_of, count_right, shortest, Decision, taken, refused, judge_start, judge_event, Machine, WellFormed, enlarged, shows, verdict_of, decide_event, settle_event, event_outcome}
 use Rattle.meaning.proofs.ProperLaws.{Proper}
 use Rattle.meaning.proofs.StartLaws.{zeros, zeros_add}
 use Rattle.meaning.proofs.RunLaws.{Laid, k_is, C-is, shows_is, formed_is, laid_on}

@@ -1,27 +1,26 @@
 -- Start and event refuse exactly as document 01's table says: the first sentence that applies is given. Assumes nothing.
-use Prim.Native.Nat.{ℕ, zero, suc, ◌+◌, ◌-◌, ◌*◌, ◌≤◌, ◌<◌}
-use mathlib.Core.Path.{◌≡◌, refl, ap, sym, ◌∙◌}
+use Prim.Native.Nat.{ℕ, zero, suc, ◌*◌, ◌<◌}
+use mathlib.Core.Path.{◌≡◌, refl}
 use mathlib.Core.Bool.{Bool, true, false, ◌&&◌}
 use mathlib.Core.List.{List, []}
-use mathlib.Core.Logic.{◌↔◌, ◌⊎◌, inl, inr, ⊎_elim}
+use mathlib.Core.Logic.{◌↔◌, ◌⊎◌, ⊎_elim}
 use native.Mathlib.Nat.{eq-or-lt_of_le}
 use native.Mathlib.Omega.{arith}
 use lib.Dec.{ltb, leb}
 use lib.ListN.{length}
-use borrow.Author.Tests.{ltb-true, ltb-false, leb-true, leb-false, lt-leb}
-use Rattle.trees.specs.Tree.{Tree}
+use borrow.Author.Tests.{ltb-true, ltb-false, leb-false, lt-leb}
 use Rattle.trees.specs.Room.{Room}
-use Rattle.trees.proofs.Tests.{lt_or_ge, false_true, and_true_l, and_true_r}
+use Rattle.trees.proofs.Tests.{lt_or_ge, false_true, and_true_l}
 use Rattle.trees.proofs.TreeLaws.{fine_off}
 use Rattle.trees.proofs.RoomLaws.{room_one}
 use Rattle.meaning.specs.declared.Event.{Event}
-use Rattle.meaning.specs.Rows.{Row, rule_of, Found, right, fault, check_rows}
+use Rattle.meaning.specs.Rows.{rule_of, Found, right, check_rows}
 use Rattle.meaning.specs.Numbering.{ask_facts}
 use Rattle.meaning.specs.Step.{step, counted, room_of}
 use Rattle.meaning.specs.Tables.{read, well_formed}
 use Rattle.meaning.specs.Outcome.{k_right, capacity, nodes_right, values_right, work_size, facts_of, count_right, shortest, Decision, taken, refused, judge_start, judge_event, decide_start, decide_event, Machine, shows}
-use Rattle.meaning.specs.Refusals.{BadNodes, BadValues, BadWork, IllFormed, Short, NoRoom, StartSentence, Sentence, First}
-use Rattle.meaning.proofs.RowsLaws.{Checked, checked}
+use Rattle.meaning.specs.Refusals.{BadNodes, BadValues, BadWork, IllFormed, NoRoom, StartSentence, Sentence, First}
+use Rattle.meaning.proofs.RowsLaws.{checked}
 use Rattle.meaning.proofs.StepLaws.{AllFine, fine_rows}
 use Rattle.meaning.proofs.ProperLaws.{read_fine}
 use Rattle.meaning.proofs.RoomOfLaws.{room_is}

@@ -1,7 +1,7 @@
 -- From a fresh start the diagrams show the meaning, for every assignment of whole numbers. Assumes nothing.
-use Prim.Native.Nat.{ℕ, zero, suc, ◌+◌, ◌-◌, ◌*◌, ◌^◌, ◌≤◌, ◌<◌}
+use Prim.Native.Nat.{ℕ, suc, ◌+◌, ◌-◌, ◌*◌, ◌^◌, ◌≤◌, ◌<◌}
 use mathlib.Core.Path.{◌≡◌, refl, ap, sym, ◌∙◌}
-use mathlib.Core.Bool.{Bool, true, false, cond, not, ◌&&◌, ◌||◌}
+use mathlib.Core.Bool.{Bool, true, false, not, ◌&&◌, ◌||◌}
 use mathlib.Core.List.{List, [], ◌∷◌, ◌++◌}
 use mathlib.Core.Logic.{◌↔◌, ◌≢◌, ◌⊎◌, inl, inr, ⊎_elim}
 use native.Mathlib.Decide.{dec_lt, ℕ_discrete}
@@ -13,8 +13,8 @@ use lib.Seq.{get_or-append_seam}
 use lib.Pow.{pow_pos}
 use borrow.Author.Tests.{eq-eqb, ne_eqb, lt-ltb, ltb-true, eqb-true}
 use Rattle.trees.specs.Bits.{Bits, Function, Same, Asks, number, drops}
-use Rattle.trees.specs.Tree.{Tree, off, eval, Fine}
-use Rattle.trees.proofs.Tests.{EqCase, equal, other, eq_case, eqb_same, false_true, and_true_l, and_true_r, and_true}
+use Rattle.trees.specs.Tree.{Tree, off, eval}
+use Rattle.trees.proofs.Tests.{EqCase, equal, eq_case, eqb_same, false_true, and_true_l, and_true_r, and_true}
 use Rattle.trees.proofs.BitsLaws.{Outside, drops_some, drops_of, number_agree, write, write_outside, write_number}
 use Rattle.trees.proofs.TreeLaws.{fine_off}
 use Rattle.meaning.specs.Qtl.{Argument, variable, constant, Fact, Formula, Assignment, bind, Matches, Some, Matching, Holds}
@@ -23,9 +23,9 @@ use Rattle.meaning.specs.Rows.{Row, truth, atom, both, neg, since, previous, exi
 use Rattle.meaning.specs.Numbering.{Lists, place, listed, repeats, fits, ask_facts, Stands, Shows}
 use Rattle.meaning.specs.Step.{arguments_say, fact_says, atom_says, row_says, says_at, row_tree, row_trees, Shown, fresh, step}
 use Rattle.meaning.proofs.RowsLaws.{ArgumentsOk, RowOk, RowsOk, formulas_keep, formulas_here, formulas_length}
-use Rattle.meaning.proofs.ValuesLaws.{Distinct, stands_back, value_of, number_of_law, stands_place, place_stands}
+use Rattle.meaning.proofs.ValuesLaws.{stands_back, value_of, number_of_law, stands_place, place_stands}
 use Rattle.meaning.proofs.AskingLaws.{has_place, GrowsL, DistinctL, Asked, InLists, Covered, CoveredBy, Covers, covers_row, covers_rest, ask_facts_grows, ask_facts_distinct, ask_facts_covers}
-use Rattle.meaning.proofs.StepLaws.{AllFine, asks_at, fine_row, eval_row, fine_snoc, fine_rows, variable_fits}
+use Rattle.meaning.proofs.StepLaws.{AllFine, asks_at, fine_row, eval_row, fine_snoc, fine_rows}
 
 -- no variable has more values than numbers
 abbrev pub Enough : ℕ → Lists → Type 0

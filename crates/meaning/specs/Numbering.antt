@@ -1,5 +1,5 @@
 -- Numbers for values: each variable has its own numbering. Assumes nothing: these are definitions.
-use Rattle.std.specs.Prelude.{ℕ, zero, suc, ◌+◌, ◌-◌, ◌*◌, ◌/◌, ◌%◌, ◌^◌, ◌≤◌, ◌<◌, ◌≡◌, Bool, true, false, cond, not, ◌&&◌, ◌||◌, List, [], ◌∷◌, ◌++◌, ◌≢◌, eqb, ltb, length, get_or}
+use Rattle.std.specs.Prelude.{ℕ, suc, ◌-◌, ◌*◌, ◌/◌, ◌%◌, ◌^◌, ◌≤◌, ◌<◌, ◌≡◌, Bool, true, false, cond, not, ◌&&◌, ◌||◌, List, [], ◌∷◌, ◌++◌, ◌≢◌, eqb, ltb, length, get_or}
 use Rattle.trees.specs.Bits.{Bits, number}
 use Rattle.meaning.specs.Qtl.{Argument, variable, constant, Fact, Assignment}
 use Rattle.meaning.specs.Rows.{Row, truth, atom, both, neg, since, previous, exists}

@@ -1,5 +1,5 @@
 -- The sentences of document 01's table of refusals, each as a statement about the numbers handed in. Assumes nothing: these are definitions.
-use Rattle.std.specs.Prelude.{ℕ, zero, suc, ◌+◌, ◌-◌, ◌*◌, ◌/◌, ◌%◌, ◌≤◌, ◌<◌, ◌≡◌, Bool, true, false, List, [], ◌∷◌, ◌≢◌, ◌⊎◌, length, get_or}
+use Rattle.std.specs.Prelude.{ℕ, zero, suc, ◌+◌, ◌-◌, ◌*◌, ◌%◌, ◌≤◌, ◌<◌, ◌≡◌, true, false, List, [], ◌∷◌, ◌≢◌, ◌⊎◌, length, get_or}
 use Rattle.trees.specs.Tree.{Tree, off, on, node}
 use Rattle.trees.specs.Table.{add_trees, at, trees_of}
 use Rattle.trees.specs.Kept.{diagrams}

@@ -1,6 +1,6 @@
 -- One step of the meaning, read over numbers: the function of each row after an event, and the functions counted for room.
 -- Assumes nothing: these are definitions.
-use Rattle.std.specs.Prelude.{ℕ, zero, suc, ◌+◌, ◌*◌, ◌<◌, ◌≡◌, Bool, true, false, not, ◌&&◌, ◌||◌, List, [], ◌∷◌, ◌++◌, map, eqb, length, get_or, replicate}
+use Rattle.std.specs.Prelude.{ℕ, zero, suc, ◌+◌, ◌*◌, ◌<◌, ◌≡◌, true, false, not, ◌&&◌, ◌||◌, List, [], ◌∷◌, ◌++◌, map, eqb, length, get_or, replicate}
 use Rattle.trees.specs.Bits.{Function, Same, number, drop, drops}
 use Rattle.trees.specs.Tree.{Tree, off, eval, tree_of}
 use Rattle.trees.specs.Table.{add_trees}

@@ -1,5 +1,7 @@
 // The monitor: a start checks k, the rule and the lengths, and clears the lent tables; an event is judged, and taken or refused.
 // What each call answers and leaves is defined in the crate `meaning`.
+#![tactic(auto)]
+
 mod decide;
 mod lent;
 mod working;
@@ -69,7 +71,7 @@ pub fn start(k: u32, rows: &[u32], nodes: &mut [u32], values: &mut [u32]) -> Tur
 }
 
 // The numbers of a state beside its references and sizes.
-#[derive(Drop)]
+#[derive(Clone, Copy)]
 pub struct Figures {
     pub k: u32,
     pub rows: u32,

@@ -1,6 +1,8 @@
 // A slice of nodes, three numbers a node: reading one, clearing a part of a slice, and chains of nodes from buckets. The node at place j
 // is nodes[3 * j], its level, nodes[3 * j + 1] and nodes[3 * j + 2], the references for bit 0 and bit 1. References 0 and 1 are no
 // and yes, and j + 2 is the node at place j. Assumes nothing.
+#![tactic(auto)]
+
 ghost use Rattle.std.specs.Prelude.{◌+◌, ◌<◌, ◌≤◌, length};
 ghost use Rattle.nodes.specs.Nodes.{Table, Splits, Zeroed};
 

@@ -1,5 +1,7 @@
 // Numbers for values: looking a value up, which atoms match a fact, and which numbers an event asks for. Nothing is written to the value slice here.
 // What each function promises is in specs/; the lists themselves are those of `meaning`.
+#![tactic(auto)]
+
 pub mod asking; // asking.rt: what an event asks
 pub mod looking; // looking.rt: a value's number, and whether one is left
 pub mod matching; // matching.rt: the atoms that match a fact
@@ -20,7 +22,7 @@ const MOST: [u32; 11] = [0, 1, 3, 7, 15, 31, 63, 127, 255, 511, 1023];
 // What an event asks: how many values of each variable have numbers after it; the new values of variable v, in order, from
 // 24 * v on, and 0 past them; and at 12 * f + 3 * v + j the number that variable v has for value j of fact f, where an atom that
 // matches the fact has v at place j, and 4294967295 elsewhere.
-#[derive(Drop)]
+#[derive(Clone, Copy)]
 pub struct Asked {
     pub counts: [u32; 4],
     pub fresh: [Value; 96],

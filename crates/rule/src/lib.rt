@@ -1,5 +1,7 @@
 // A rule as rows of nine numbers: decoded, checked once for all (refusal 2), and asked about the counts of an event (refusal 5).
 // What a row says and when it is right is defined in the crate `meaning`.
+#![tactic(auto)]
+
 mod masks;
 mod right;
 
@@ -11,14 +13,14 @@ ghost use Rattle.rule.specs.Checking.{refused_at, Checks, FactAgrees, Agrees};
 use meaning::{Event, Value};
 
 // An argument of an atom.
-#[derive(Drop)]
+#[derive(Clone, Copy)]
 pub enum Argument {
     Variable(u32),
     Constant(Value),
 }
 
 // A row: one of seven kinds. An atom has its predicate, its count and three arguments, of which the first `count` are used.
-#[derive(Drop)]
+#[derive(Clone, Copy)]
 pub enum Row {
     True,
     Atom(u32, u32, Argument, Argument, Argument),

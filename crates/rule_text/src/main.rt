@@ -1,6 +1,8 @@
 // A rule typed as text, from standard input or from a file: its rows as the kiosk's `r` lines, or with `-n` its names, or a refusal in plain
 // words with the text and a caret under its place. One line end after the text is left out. A program has no exit status, so the first argument names a file
 // that is written only where all went well; the script ./rule hands one over and turns it into a status.
+#![tactic(auto)]
+
 mod names;
 mod refusals;
 

@@ -1,5 +1,7 @@
 // Refusal 3: whether bytes are a rule text, and if not the first place at which no rule text can go on. What a rule text is, is in the
 // crate text. Total: any bytes, of any length. One pass, and no stack: the depth of parentheses is enough. Assumes nothing.
+#![tactic(auto)]
+
 mod looks;
 
 ghost use Rattle.std.specs.Prelude.{◌≡◌, ◌<◌, ◌≤◌, length};

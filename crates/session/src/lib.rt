@@ -1,5 +1,7 @@
 // What each line of the input does: the parts come in order, and what does not read in its part ends the run.
 // What a line leaves, and what is put out for it, is in specs/Lefts.antt.
+#![tactic(auto)]
+
 ghost use Rattle.std.specs.Prelude.{◌≡◌, ◌+◌, ◌≤◌, ◌<◌, ◌++◌, length, take, drop};
 ghost use Rattle.transcript.specs.Output.{event_of, values_asked};
 ghost use Rattle.session.specs.Sessions.{Sound, Sized, Tables};
@@ -10,7 +12,7 @@ use lines::Line;
 use meaning::{Answer, Event, Fact, State, Value};
 
 // Which line may come next.
-#[derive(Drop)]
+#[derive(Clone, Copy)]
 pub enum Part {
     // The sizes.
     First,
@@ -23,7 +25,7 @@ pub enum Part {
 }
 
 // What is carried from line to line, beside the tables.
-#[derive(Drop)]
+#[derive(Clone, Copy)]
 pub struct Session {
     pub part: Part,
     // The sizes.

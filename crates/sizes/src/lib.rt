@@ -2,6 +2,8 @@
 // row: the rows' roots are marked first, and one pass from the last node to the first gives each node's word to both its sides and
 // counts its bits. Children stand before parents, so a word is complete when it is reached. A word has 32 bits: the rows
 // before 32 and those from 32 on take a pass each. Assumes nothing.
+#![tactic(auto)]
+
 ghost use Rattle.std.specs.Prelude.{◌≡◌, map, ℕ, ◌+◌, ◌*◌, ◌-◌, ◌<◌, ◌≤◌, length, get_or, replicate};
 ghost use Rattle.trees.specs.Kept.{diagrams};
 ghost use Rattle.trees.specs.Sizes.{sizes_of};

@@ -8,7 +8,7 @@ use crate::bytes::{class_of, is_word_byte, same_bytes};
 
 // A word by number, with its first byte and the place past it; 18 where no word is left. The numbers: 0 a name, 1 a constant's digits,
 // 2 `true`, 3 `false`, 4 `P`, 5 `H`, 6 `@`, 7 `!`, 8 `S`, 9 `&`, 10 `|`, 11 `->`, 12 `forall`, 13 `exists`, 14 `(`, 15 `)`, 16 `,`, 17 `.`.
-#[derive(Drop)]
+#[derive(Clone, Copy)]
 pub struct Taken {
     pub word: u8,
     pub from: usize,

@@ -1,6 +1,8 @@
 // One event's work on the diagrams: the check of what is kept, the rows one after the other, the sweep that makes the nodes the
 // canonical table of the new diagrams, and their sizes. `step` works an event, and `well_formed` only checks the diagrams. Neither
 // assumes anything of the diagrams, the references, the sizes or the slices.
+#![tactic(auto)]
+
 mod atoms;
 mod rows;
 

@@ -1,6 +1,8 @@
 // The canonical sweep: the diagrams of some references, copied in canonical order into a table of their own, with the visits
 // that it takes. The work slice holds that table in its first 3 * c numbers, and behind it, for each place of the nodes, 0 or
 // one more than the reference that its diagram has in the new table. Assumes nothing.
+#![tactic(auto)]
+
 ghost use Rattle.std.specs.Prelude.{◌≡◌, ℕ, ◌+◌, ◌*◌, ◌-◌, ◌/◌, ◌<◌, ◌≤◌, ◌++◌, length, get_or, set, take, replicate};
 ghost use Rattle.nodes.specs.Nodes.{Table, Rows};
 ghost use Rattle.sweeping.specs.Sweeps.{Noted, Ordered, Known, Emitted, Awaits, Copied, Renewal};

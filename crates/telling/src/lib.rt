@@ -1,6 +1,8 @@
 // Whether a diagram tells a number of a variable apart from the reserved one, all ones. The variable's k bits stand at the levels
 // from `base` on. The entries, where the diagram comes to these levels or passes them, are found once for a diagram and a
 // variable; then each number is followed from each entry. No node is made. Assumes that the kept nodes are a table.
+#![tactic(auto)]
+
 ghost use Rattle.std.specs.Prelude.{◌≡◌, ◌+◌, ◌-◌, ◌^◌, ◌<◌, ◌≤◌, cond, length};
 ghost use Rattle.trees.specs.Table.{at, trees_of};
 ghost use Rattle.nodes.specs.Nodes.{Table, Rest, To};

@@ -1,14 +1,12 @@
 -- The theorems on rules typed as text, for any bytes and any row slice. Each is a sentence of request A1, proved where it says. Assumes nothing.
-use Prim.Native.Nat.{ℕ, suc, ◌-◌, ◌*◌, ◌≤◌, ◌<◌}
+use Prim.Native.Nat.{ℕ, ◌≤◌}
 use mathlib.Core.Path.{◌≡◌, refl, sym, ◌∙◌}
 use mathlib.Core.List.{List}
-use lib.ListN.{length, take}
-use Rattle.meaning.specs.Rows.{Found, right, check_rows, rule_of, formula_at}
-use Rattle.text.specs.Grammar.{Reading, RuleText, Viable, Place}
+use lib.ListN.{length}
+use Rattle.text.specs.Grammar.{Reading, RuleText, Place}
 use Rattle.text.specs.Machine.{reads}
 use Rattle.text.specs.Reader.{read}
-use Rattle.text.specs.Unfold.{formula_of}
-use Rattle.text.specs.Translate.{Answer, refuses, makes, answer_of, Says, wrong_slice, too_long, no_text, a_text}
+use Rattle.text.specs.Translate.{Answer, refuses, makes, answer_of, Says, a_text}
 use Rattle.text.specs.Translator.{translate}
 use Rattle.text.proofs.RuleTexts
 use Rattle.text.proofs.Translations.{Made, made, NoText, three, says, says_translate}

@@ -1,9 +1,7 @@
 -- What some texts translate to, worked out by the definitions: the cases of request A1's readings, and document 01's rule K.
 -- Assumes nothing.
-use Prim.Native.Nat.{ℕ}
 use mathlib.Core.Path.{◌≡◌, refl}
-use mathlib.Core.Bool.{true, false}
-use mathlib.Core.List.{List, [], ◌∷◌, ◌++◌}
+use mathlib.Core.List.{[], ◌∷◌, ◌++◌}
 use lib.ListN.{replicate}
 use Rattle.trees.specs.Kept.{all_below}
 use Rattle.meaning.specs.Qtl.{free, free_arguments}

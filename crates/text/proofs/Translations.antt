@@ -1,23 +1,23 @@
 -- The theorems on translating: what success gives, and what refusals 1 to 3 say. Assumes nothing.
-use Prim.Native.Nat.{ℕ, zero, suc, ◌+◌, ◌-◌, ◌*◌, ◌≤◌, ◌<◌}
+use Prim.Native.Nat.{ℕ, ◌-◌, ◌*◌, ◌≤◌}
 use native.Mathlib.Omega.{arith}
 use mathlib.Core.Path.{◌≡◌, refl, sym, ap, ◌∙◌}
-use mathlib.Core.Bool.{Bool, true, false, ◌&&◌, ◌||◌}
-use mathlib.Core.List.{List, [], ◌∷◌, ◌++◌}
+use mathlib.Core.Bool.{Bool, true, false}
+use mathlib.Core.List.{List, ◌++◌}
 use lib.Dec.{eqb, leb}
 use lib.ListN.{length, take, replicate, length-append, length-replicate}
 use lib.Seq.{take_at}
 use borrow.Author.Tests.{leb-true, leb-false, le-leb, lt-leb, eqb-true, eqb-false, eq-eqb, ne_eqb}
 use Rattle.meaning.specs.Qtl.{Formula}
-use Rattle.meaning.specs.Rows.{Found, right, check_rows, rule_of, formula_at}
+use Rattle.meaning.specs.Rows.{right, check_rows, rule_of, formula_at}
 use Rattle.text.specs.Grammar.{Reading, RuleText, Place}
 use Rattle.text.specs.Machine.{Result, refused, reads}
 use Rattle.text.specs.Reader.{read, place_of}
-use Rattle.text.specs.Unfold.{Atom, atoms, predicate_names, variable_names, formula_of}
+use Rattle.text.specs.Unfold.{atoms, predicate_names, variable_names, formula_of}
 use Rattle.text.specs.Parts.{rows_of, numbers}
 use Rattle.text.specs.Translate.{any_atom, too_large, too_many, clashes, sentence, padded, Answer, refuses, makes, judge_reading, answer_of, Says, wrong_slice, too_long, no_text, a_text}
 use Rattle.text.specs.Translator.{judge_text, translate}
-use Rattle.text.proofs.RuleTexts.{correct, complete, unique, place, place_same}
+use Rattle.text.proofs.RuleTexts.{correct, complete, place, place_same}
 use Rattle.text.proofs.NineLaws.{numbers_length}
 use Rattle.text.proofs.CheckLaws.{Good}
 use Rattle.text.proofs.Taken.{meaning_back, taken}

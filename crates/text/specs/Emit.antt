@@ -1,10 +1,10 @@
 -- How the rows come while the text is read: what a frame notes when it comes and when it takes its operand. So the reader of rows
 -- keeps row numbers where the machine keeps readings. Part of the machine, not of the meaning. Assumes nothing: these are definitions.
-use Rattle.std.specs.Prelude.{ℕ, suc, Bool, true, false, List, [], ◌∷◌, ◌++◌, ltb, length}
+use Rattle.std.specs.Prelude.{ℕ, suc, true, false, List, [], ◌∷◌, ◌++◌, ltb, length}
 use Rattle.meaning.specs.Qtl.{Formula, truth, both, neg, since, previous, exists}
 use Rattle.meaning.specs.Rows
 use Rattle.text.specs.Words.{same, Prefix, once, historically, previously, negation, Binary, sinces, ands, ors, implies, Quantifier, universal, existential}
-use Rattle.text.specs.Grammar.{Reading, atom}
+use Rattle.text.specs.Grammar.{atom}
 use Rattle.text.specs.Machine.{Frame, group, applied, binding, left, Stage, wants, ended, named, binds, bound, argues, argued, stopped}
 use Rattle.text.specs.Unfold.{number_in, unfolded}
 use Rattle.text.specs.Parts.{note, parts_after, row_in, nine}

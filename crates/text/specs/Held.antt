@@ -1,10 +1,8 @@
 -- The frames by row numbers, as the code keeps them: what waits for an operand, and what it makes. Part of the machine, not of the meaning. Assumes nothing: these are definitions.
 use Rattle.std.specs.Prelude.{ℕ, Bool, true, false, List, [], ◌∷◌, ltb}
-use Rattle.meaning.specs.Rows
-use Rattle.text.specs.Words.{Prefix, once, historically, previously, negation, Binary, sinces, ands, ors, implies, Quantifier}
+use Rattle.text.specs.Words.{Prefix, Binary, sinces, ands, ors, implies, Quantifier}
 use Rattle.text.specs.Grammar.{level, right_level}
-use Rattle.text.specs.Parts.{nine}
-use Rattle.text.specs.Emit.{Rowed, make_row, negated, binary_rows, applied_rows, bound_rows}
+use Rattle.text.specs.Emit.{Rowed, negated, binary_rows, applied_rows, bound_rows}
 
 -- a parenthesis; a prefix operator with the row of true (where it needs one); a quantifier with its slot; an operator with the row
 -- of what it keeps of its left operand

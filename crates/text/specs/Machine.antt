@@ -1,7 +1,7 @@
 -- The machine that reads a rule text byte by byte: what is pending of a word, what must come, and the frames that wait for their
 -- operand. Total: a byte at which no rule text can go on leads to `stopped`. Part of the machine, not of the meaning. Assumes nothing: these are definitions.
-use Rattle.std.specs.Prelude.{ℕ, zero, suc, Bool, true, false, cond, List, [], ◌∷◌, ◌++◌, eqb, ltb}
-use Rattle.text.specs.Words.{is_letter, is_digit, is_word_byte, same, Word, name, number, constant, prefix, binary, quantifier, opening, closing, comma, dot, Prefix, previously, negation, Binary, ands, ors, implies, sinces, Quantifier, bytes_of, word_of}
+use Rattle.std.specs.Prelude.{ℕ, true, false, List, [], ◌∷◌, ◌++◌, ltb}
+use Rattle.text.specs.Words.{Word, name, number, constant, prefix, binary, quantifier, opening, closing, comma, dot, Prefix, Binary, Quantifier}
 use Rattle.text.specs.Grammar.{Term, variable, digits, Reading, truth, atom, under, joined, quantified, grouped, level, right_level}
 
 -- what waits for an operand: a parenthesis, a prefix operator, a quantifier with its variable, an operator with its left operand

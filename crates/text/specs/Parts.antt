@@ -1,5 +1,5 @@
 -- The rows of a formula: its different parts in order, and the row of each. Part of the meaning. Assumes nothing: these are definitions.
-use Rattle.std.specs.Prelude.{ℕ, zero, suc, ◌+◌, ◌-◌, ◌*◌, Bool, true, false, ◌&&◌, ◌||◌, List, [], ◌∷◌, ◌++◌, map, eqb, length}
+use Rattle.std.specs.Prelude.{ℕ, zero, suc, Bool, true, false, ◌&&◌, ◌||◌, List, [], ◌∷◌, ◌++◌, map, eqb, length}
 use Rattle.meaning.specs.Qtl.{Argument, variable, constant, Formula, truth, atom, both, neg, since, previous, exists}
 use Rattle.meaning.specs.Rows.{Row}
 use Rattle.meaning.specs.Rows

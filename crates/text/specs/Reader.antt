@@ -1,6 +1,6 @@
 -- The reader: the machine of words, driven by bytes. A word of letters, digits and `_` is pending until another byte ends it.
 -- Part of the machine, not of the meaning. Assumes nothing: these are definitions.
-use Rattle.std.specs.Prelude.{ℕ, zero, suc, ◌≡◌, Bool, true, false, List, [], ◌∷◌, ◌++◌, eqb}
+use Rattle.std.specs.Prelude.{ℕ, zero, suc, Bool, true, false, List, [], ◌∷◌, ◌++◌, eqb}
 use Rattle.text.specs.Words.{is_letter, is_digit, is_word_byte, same, Word, number, prefix, binary, opening, closing, comma, dot, previously, negation, ands, ors, implies, bytes_of, word_of}
 use Rattle.text.specs.Machine.{Stage, wants, ended, named, binds, bound, argues, argued, stopped, give, Result, refused, result}
 

@@ -1,6 +1,6 @@
 -- Free variables, by name and while the text is read: a variable is bound if a quantifier among the waiting frames names it.
 -- Part of the machine, not of the meaning. Assumes nothing: these are definitions.
-use Rattle.std.specs.Prelude.{ℕ, Bool, true, false, not, ◌&&◌, ◌||◌, List, [], ◌∷◌}
+use Rattle.std.specs.Prelude.{ℕ, Bool, false, not, ◌&&◌, ◌||◌, List, [], ◌∷◌}
 use Rattle.text.specs.Words.{same}
 use Rattle.text.specs.Grammar.{Term, variable, digits, Reading, truth, atom, under, joined, quantified, grouped}
 use Rattle.text.specs.Machine.{Frame, group, applied, binding, left}

@@ -1,6 +1,6 @@
 -- What a text translates to: the rows, or a refusal with its place. Part of the meaning: no machine reads here.
 -- Assumes nothing: these are definitions.
-use Rattle.std.specs.Prelude.{ℕ, zero, suc, ◌+◌, ◌-◌, ◌*◌, ◌≤◌, ◌<◌, ◌≡◌, Bool, true, false, not, ◌&&◌, ◌||◌, List, [], ◌∷◌, ◌++◌, eqb, ltb, leb, length, replicate}
+use Rattle.std.specs.Prelude.{ℕ, ◌-◌, ◌≤◌, ◌<◌, ◌≡◌, Bool, true, false, not, ◌||◌, List, [], ◌∷◌, ◌++◌, eqb, ltb, leb, length, replicate}
 use Rattle.trees.specs.Kept.{all_below}
 use Rattle.meaning.specs.Qtl.{Formula, free}
 use Rattle.text.specs.Words.{same}

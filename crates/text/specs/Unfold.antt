@@ -1,6 +1,6 @@
 -- The formula of a reading: names get numbers and slots in order of first use, and derived operators unfold as in document 002
 -- section 2. Part of the meaning. Assumes nothing: these are definitions.
-use Rattle.std.specs.Prelude.{ℕ, zero, suc, ◌+◌, ◌-◌, ◌*◌, Bool, true, false, ◌||◌, List, [], ◌∷◌, ◌++◌, map, length}
+use Rattle.std.specs.Prelude.{ℕ, suc, ◌+◌, ◌-◌, ◌*◌, Bool, true, false, ◌||◌, List, [], ◌∷◌, ◌++◌, map}
 use Rattle.meaning.specs.Qtl.{Argument, Formula}
 use Rattle.meaning.specs.Qtl
 use Rattle.text.specs.Words.{same, Prefix, once, historically, previously, negation, Binary, sinces, ands, ors, implies, Quantifier, universal, existential}

@@ -1,6 +1,6 @@
 -- The words of a rule text and how they are spelled: bytes, names, constants, spaces between words. Bytes are numbers.
 -- Part of the meaning. Assumes nothing: these are definitions.
-use Rattle.std.specs.Prelude.{ℕ, suc, ◌≡◌, Bool, true, false, ◌&&◌, ◌||◌, List, [], ◌∷◌, ◌++◌, eqb, leb}
+use Rattle.std.specs.Prelude.{ℕ, ◌≡◌, Bool, true, false, ◌&&◌, ◌||◌, List, [], ◌∷◌, ◌++◌, eqb, leb}
 
 -- letters are A to Z and a to z
 unfoldable pub is_letter : ℕ → Bool

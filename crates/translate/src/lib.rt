@@ -1,5 +1,7 @@
 // Request A1: a rule text, and the rows that mean it or a refusal. What a rule text is and what it is answered with is in the crate text;
 // the promise is specs/Translated.antt. Total: any bytes, and a row slice of any length. Assumes nothing.
+#![tactic(auto)]
+
 mod laying;
 mod reading;
 

@@ -1,12 +1,12 @@
 -- The tree of a function: reduced and ordered, it says what the function says, and it is the only such tree. Assumes nothing.
-use Prim.Native.Nat.{ℕ, zero, suc, ◌+◌, ◌-◌, ◌≤◌, ◌<◌}
+use Prim.Native.Nat.{ℕ, zero, suc, ◌+◌, ◌-◌, ◌<◌}
 use mathlib.Core.Path.{◌≡◌, refl, sym, ap, ap₂, ◌∙◌, fun_ext}
-use mathlib.Core.Bool.{Bool, true, false, cond, not, ◌&&◌, ◌||◌}
+use mathlib.Core.Bool.{Bool, true, false, cond}
 use native.Mathlib.Omega.{arith}
-use Rattle.trees.specs.Bits.{Bits, Function, Same, Asks, put, drop}
-use Rattle.trees.specs.Tree.{Tree, eval, Fine, mk, leaf, tree_from, tree_of, not_t, since_t, drop_t}
-use Rattle.trees.proofs.BitsLaws.{put_back, asks_put, asks_wider, asks_drop}
-use Rattle.trees.proofs.TreeLaws.{eval_mk, fine_mk, fine_lower, fine_leaf, eval_leaf, canon, eval_agree}
+use Rattle.trees.specs.Bits.{Bits, Function, Same, Asks, put}
+use Rattle.trees.specs.Tree.{Tree, eval, Fine, mk, tree_from, tree_of}
+use Rattle.trees.proofs.BitsLaws.{put_back, asks_put, asks_wider}
+use Rattle.trees.proofs.TreeLaws.{eval_mk, fine_mk, fine_lower, fine_leaf, eval_leaf, canon}
 
 -- the two sides of a function at a level, joined, are the function
 pub join : (lo hi v : ℕ) (g : Function) → Asks lo hi g → (s : Bits) → cond (s v) (g (put s v true)) (g (put s v false)) ≡ g s

@@ -3,6 +3,8 @@
 // written down. So it leaves the table with the nodes of its result, in their order, or says that there is no room for them.
 // With c nodes in the node slice, the work slice has the map of complements from 4 * c on, the memory of results, of so many
 // slots, from 5 * c on, and the chains of nodes from 13 * c on and before 15 * c. Assumes that the first n nodes are a table.
+#![tactic(auto)]
+
 ghost use Rattle.std.specs.Prelude.{◌≡◌, ◌+◌, ◌<◌, ◌≤◌, min, max};
 ghost use Rattle.trees.specs.Tree.{mk, not_t, since_t, drop_t};
 ghost use Rattle.trees.specs.Table.{at, trees_of};

@@ -1,0 +1,106 @@
+-- `weigh` meets its contract. Assumes nothing.
+use Prim.Native.Nat.{max}
+use mathlib.Core.Path.{sym, ap₂, ◌∙◌}
+use native.Mathlib.Omega.{arith}
+use Rattle.nodes.proofs.ReadLaws.{read_below}
+use Rattle.age_check.proofs.MarkLaws.{mark_high, mark_past, mark_none, mark_both, mark_odd, mark_even, bits_le}
+use borrow.Author.Rules.{rules}
+use Rattle.age_check.proofs.weigh.Goals as goal
+
+pub read-x-requires : goal.read-x-requires
+read-x-requires c = let p = c.requires.table in record { table = p.0; le_r = (p.1, p.2) }
+
+pub age_of-requires : goal.age_of-requires
+age_of-requires c =
+    let at_read = c in
+    let s = at_read in
+    let p = s.requires.table in
+    let q = read_below p.0 at_read.read-x.ensures p.1 p.2 in
+    record { table = (p.0, omega (arith, q.0, p.2), q.0, p.3); marked = s.requires.base_bound.1 }
+
+pub age_of-requires-then-x-base : goal.age_of-requires-then-x-base
+age_of-requires-then-x-base c =
+    let at_read = c in
+    let s = at_read in
+    let p = s.requires.table in
+    let q = read_below p.0 at_read.read-x.ensures p.1 p.2 in
+    record { table = (p.0, omega (arith, q.1, p.2), q.1, p.3); marked = s.requires.base_bound.1 }
+
+pub returns-then-x-base : goal.returns-then-x-base
+returns-then-x-base c =
+    let at_read = c in
+    let s = at_read in
+    c.greater.ensures ∙ ap₂ max c.age_of_law.ensures c.age_of-then-x-base.ensures ∙ sym (mark_high s.requires.table.0 at_read.read-x.ensures s.args.base c.if-x-base.true)
+
+pub returns-then-base-x : goal.returns-then-base-x
+returns-then-base-x c =
+    let at_read = c in
+    let s = at_read in
+    mark_past s.requires.table.0 at_read.read-x.ensures s.args.base c.if-base-x.true
+
+pub returns-then-x-eq0-2 : goal.returns-then-x-eq0-2
+returns-then-x-eq0-2 c =
+    let at_read = c in
+    let s = at_read in
+    mark_none s.requires.table.0 at_read.read-x.ensures s.args.base (omega (arith, c.if-x-base.false)) (omega (arith, c.if-base-x.false)) c.if-x-eq0.true c.if-x-eq0-2.true
+
+pub bits_of-y-requires : goal.bits_of-y-requires
+bits_of-y-requires c =
+    let at_read = c in
+    let s = at_read in
+    let p = s.requires.table in
+    let q = read_below p.0 at_read.read-x.ensures p.1 p.2 in
+    record { table = (p.0, omega (arith, q.1, p.2), q.1, p.3); base_bound = (s.requires.base_bound.0, omega (arith, c.if-x-base.false), omega (arith, c.if-base-x.false), s.requires.base_bound.1) }
+
+pub returns-then-y-eq4096 : goal.returns-then-y-eq4096
+returns-then-y-eq4096 c =
+    let at_read = c in
+    let s = at_read in
+    (mark_odd s.requires.table.0 at_read.read-x.ensures s.args.base (omega (arith, c.if-x-base.false)) (omega (arith, c.if-base-x.false)) _ c.if-x-eq0.true c.if-x-eq0-2.false c.bits_of-y.ensures).0 c.if-y-eq4096.true
+
+pub overflow_mul-result : goal.overflow_mul-result
+overflow_mul-result c =
+    let s = c in
+    omega (arith, (bits_le s.args.base _ _ _ (omega (arith, c.if-x-base.false)) c.bits_of-y.ensures).1)
+
+pub returns-then-x-eq0 : goal.returns-then-x-eq0
+returns-then-x-eq0 c =
+    let at_read = c in
+    let s = at_read in
+    (mark_odd s.requires.table.0 at_read.read-x.ensures s.args.base (omega (arith, c.if-x-base.false)) (omega (arith, c.if-base-x.false)) _ c.if-x-eq0.true c.if-x-eq0-2.false c.bits_of-y.ensures).1 c.if-y-eq4096.false
+
+pub returns-then-x-ne0 : goal.returns-then-x-ne0
+returns-then-x-ne0 c =
+    let at_read = c in
+    let s = at_read in
+    mark_both s.requires.table.0 at_read.read-x.ensures s.args.base (omega (arith, c.if-x-base.false)) (omega (arith, c.if-base-x.false)) c.if-x-eq0.false c.if-x-ne0.true
+
+pub bits_of-y-requires-2 : goal.bits_of-y-requires-2
+bits_of-y-requires-2 c =
+    let at_read = c in
+    let s = at_read in
+    let p = s.requires.table in
+    let q = read_below p.0 at_read.read-x.ensures p.1 p.2 in
+    record { table = (p.0, omega (arith, q.0, p.2), q.0, p.3); base_bound = (s.requires.base_bound.0, omega (arith, c.if-x-base.false), omega (arith, c.if-base-x.false), s.requires.base_bound.1) }
+
+pub returns-then-y-eq4096-2 : goal.returns-then-y-eq4096-2
+returns-then-y-eq4096-2 c =
+    let at_read = c in
+    let s = at_read in
+    (mark_even s.requires.table.0 at_read.read-x.ensures s.args.base (omega (arith, c.if-x-base.false)) (omega (arith, c.if-base-x.false)) _ c.if-x-eq0.false (omega (arith, c.if-x-ne0.false)) c.bits_of-y-2.ensures).0 c.if-y-eq4096-2.true
+
+pub overflow_mul-result-2 : goal.overflow_mul-result-2
+overflow_mul-result-2 c =
+    let s = c in
+    omega (arith, (bits_le s.args.base _ _ _ (omega (arith, c.if-x-base.false)) c.bits_of-y-2.ensures).1)
+
+pub overflow_sub-result : goal.overflow_sub-result
+overflow_sub-result c =
+    let s = c in
+    omega (arith, (bits_le s.args.base _ _ _ (omega (arith, c.if-x-base.false)) c.bits_of-y-2.ensures).0)
+
+pub returns : goal.returns
+returns c =
+    let at_read = c in
+    let s = at_read in
+    (mark_even s.requires.table.0 at_read.read-x.ensures s.args.base (omega (arith, c.if-x-base.false)) (omega (arith, c.if-base-x.false)) _ c.if-x-eq0.false (omega (arith, c.if-x-ne0.false)) c.bits_of-y-2.ensures).1 c.if-y-eq4096-2.false

@@ -1,0 +1,10 @@
+-- `age_walk` meets its contract. Assumes nothing.
+use Rattle.aging.proofs.TaskLaws.{does_ages}
+use borrow.Author.Rules.{rules}
+use Rattle.aging.proofs.walk.age_walk.Goals as goal
+
+pub returns : goal.returns
+returns c =
+    let done = c in
+    let a = done.args in
+    rw (does_ages a.k a.b a.t _ _ _) done.run.ensures

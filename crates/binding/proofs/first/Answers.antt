@@ -1,0 +1,66 @@
+use Prim.Native.Nat.{◌+◌, ◌*◌, ◌-◌, ◌≤◌}
+use mathlib.Core.Path.{◌≡◌, refl, ◌∙◌}
+use native.Mathlib.Omega.{arith}
+use lib.ListN.{length}
+use Rattle.trees.specs.Table.{at, trees_of}
+use Rattle.nodes.specs.Nodes.{Rest}
+use Rattle.binding.proofs.FirstLaws.{Going, not_no, going_none, going_same, going_more, going_first}
+use Rattle.binding.proofs.first.Goals as goal
+
+pub loop-left-init : goal.loop-left-init
+loop-left-init c =
+    let s = c in
+    let d = at (trees_of s.args.nodes.now s.args.kept) s.args.p in
+    (omega arith, refl, record { eq = λ i h. refl }, going_same (omega arith) (going_none d s.args.k s.args.order.now s.args.count (4 * s.args.k) s.requires.table.1 (not_no s.requires.table.0 s.requires.p_nonzero.0 s.requires.p_nonzero.1)))
+
+pub overflow_sub-j : goal.overflow_sub-j
+overflow_sub-j c = omega (arith, c.loop-left-test.true, c.loop-left.invariant.0)
+
+pub offset_bounds-order-j : goal.offset_bounds-order-j
+offset_bounds-order-j c = omega (arith, c.loop-left-test.true, c.loop-left.invariant.0, c.requires.k_bound.1)
+
+pub bounds-order-j : goal.bounds-order-j
+bounds-order-j c = omega (arith, c.loop-left-test.true, c.loop-left.invariant.0, c.requires.k_bound.1)
+
+pub least-n-requires : goal.least-n-requires
+least-n-requires c =
+    let l = c in
+    let s = l in
+    let v = l.loop-left.invariant in
+    let h = c.loop-left-test.true in
+    record { table = s.requires.table; p_bound = (s.requires.p_nonzero.1, omega (arith, v.1, s.requires.p_nonzero.2)); k_bound = (s.requires.k_bound.0, s.requires.k_bound.3.few _ (omega (arith, h, v.0)), v.3.size); p_value = v.3.can_still; free = v.3.free _ (omega (arith, h, v.0)) (omega (arith, h, v.0)) }
+
+pub offset_bounds-answer-j : goal.offset_bounds-answer-j
+offset_bounds-answer-j c = omega (arith, c.loop-left-test.true, c.loop-left.invariant.0, c.requires.k_bound.1)
+
+pub bounds-answer-j : goal.bounds-answer-j
+bounds-answer-j c = omega (arith, c.loop-left-test.true, c.loop-left.invariant.0, c.requires.k_bound.1)
+
+pub overflow_sub-left : goal.overflow_sub-left
+overflow_sub-left c = omega (arith, c.loop-left-test.true)
+
+pub loop-left-smaller : goal.loop-left-smaller
+loop-left-smaller c = omega (arith, c.loop-left-test.true)
+
+pub loop-left-preserved : goal.loop-left-preserved
+loop-left-preserved c =
+    let l = c in
+    let s = l in
+    let v = l.loop-left.invariant in
+    let h = c.loop-left-test.true in
+    let e = c.least-n.ensures in (
+      omega (arith, h, v.0),
+      c.least-n.auto.1.1.1.1.1.1.0 ∙ v.1,
+      record { eq = λ i q. e.1.eq i q ∙ v.2.eq i q },
+      going_same (omega (arith, h, v.0)) (going_more s.requires.k_bound.3 (omega (arith, h, v.0)) s.requires.k_bound.1 v.3 e.0),
+    )
+
+pub shape_of-work : goal.shape_of-work
+shape_of-work c = c.loop-left.invariant.1
+
+pub returns : goal.returns
+returns c =
+    let s = c in
+    let v = c.loop-left.invariant in
+    let g = going_same {j = s.args.count} (omega (arith, v.0, c.loop-left-test.false)) v.3 in
+    record { first = going_first (4 * s.args.k) s.requires.table.1 g; by_index = g.past; rest = v.2 }

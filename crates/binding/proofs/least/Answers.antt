@@ -1,0 +1,80 @@
+use Prim.Native.Nat.{ℕ, suc, ◌+◌, ◌*◌, ◌-◌, ◌≤◌, ◌<◌}
+use mathlib.Core.Path.{◌≡◌, refl, ◌∙◌}
+use native.Mathlib.Nat.{mul-le-mul_right}
+use native.Mathlib.Omega.{arith}
+use lib.ListN.{length}
+use lib.Pow.{pow_mono}
+use Rattle.trees.specs.Table.{at, trees_of}
+use Rattle.nodes.specs.Nodes.{Rest}
+use Rattle.binding.specs.Fixing.{Fixes}
+use Rattle.binding.proofs.FixLaws.{settles_small, fixes_none, fixes_same, fixes_lt, fixes_more}
+use Rattle.binding.proofs.least.Goals as goal
+use Rattle.binding.proofs.least.Goals.{At-loop-done}
+
+-- a variable's levels are below 40
+below : (v k : ℕ) → v < 4 → k ≤ 10 → v * k + k ≤ 40
+below v k h g = let m : suc v * k ≤ 4 * k = mul-le-mul_right k h in omega arith
+
+-- the number so far is small
+small : (l : At-loop-done) → l.loop.n < 1024
+small l =
+    let s = l in
+    omega (arith, fixes_lt _ s.requires.0.1 l.loop.invariant.3, pow_mono (fits s.args.k l.loop.done l.loop.invariant.0 s.requires.1.1.0.0))
+  where
+    fits : (k n : ℕ) → n ≤ k → k ≤ 10 → n ≤ 10
+    fits k n g h = omega arith
+
+pub overflow_mul-base : goal.overflow_mul-base
+overflow_mul-base c = let s = c in omega (arith, below s.args.v s.args.k s.requires.k_bound.1 s.requires.k_bound.0)
+
+pub loop-done-init : goal.loop-done-init
+loop-done-init c = let s = c in (omega arith, refl, record { eq = λ i h. refl }, fixes_none _ _ _ _ refl s.requires.p_value)
+
+pub overflow_add-done : goal.overflow_add-done
+overflow_add-done c = omega (arith, c.loop-done-test.true, c.requires.k_bound.0)
+
+pub overflow_sub-k : goal.overflow_sub-k
+overflow_sub-k c = omega (arith, c.loop-done-test.true)
+
+pub overflow_add-base : goal.overflow_add-base
+overflow_add-base c = let s = c in omega (arith, c.loop-done-test.true, below s.args.v s.args.k s.requires.k_bound.1 s.requires.k_bound.0)
+
+pub settle-x-requires : goal.settle-x-requires
+settle-x-requires c =
+    let l = c in
+    let s = l in
+    let v = l.loop-done.invariant in
+    record { table = s.requires.table.0; p_bound = (s.requires.p_bound.0, omega (arith, v.1, s.requires.p_bound.1)); level_bound = (omega (arith, c.loop-done-test.true, below s.args.v s.args.k s.requires.k_bound.1 s.requires.k_bound.0), v.3.size ∙ s.requires.k_bound.2) }
+
+pub overflow_mul-n : goal.overflow_mul-n
+overflow_mul-n c = omega (arith, small c)
+
+pub overflow_add-n : goal.overflow_add-n
+overflow_add-n c = omega (arith, small c, settles_small c.settle-x.ensures.settles)
+
+pub loop-done-smaller : goal.loop-done-smaller
+loop-done-smaller c = omega (arith, c.loop-done-test.true)
+
+pub loop-done-preserved : goal.loop-done-preserved
+loop-done-preserved c =
+    let l = c in
+    let s = l in
+    let v = l.loop-done.invariant in
+    let h = c.loop-done-test.true in
+    let e = c.settle-x.ensures in
+    let wide = below s.args.v s.args.k s.requires.k_bound.1 s.requires.k_bound.0 in
+    let level = s.args.v * s.args.k + (s.args.k - (l.loop-done.done + 1)) in
+    let more = fixes_more _ level l.loop-done.done _ _ _ (fixes_same (omega (arith, h)) refl v.3) (omega (arith, h, wide, s.requires.k_bound.2)) (s.requires.free.each level (omega arith) (omega (arith, h))) _ s.requires.table.1 e.0 in (
+      omega (arith, h),
+      c.settle-x.auto.1.1.1.1.1.0 ∙ v.1,
+      record { eq = λ i q. e.1.eq i q ∙ v.2.eq i q },
+      fixes_same refl (omega arith) more,
+    )
+
+pub shape_of-work : goal.shape_of-work
+shape_of-work c = c.loop-done.invariant.1
+
+pub returns : goal.returns
+returns c =
+    let v = c.loop-done.invariant in
+    record { fixes = fixes_same (omega (arith, v.0, c.loop-done-test.false)) (omega (arith, v.0, c.loop-done-test.false)) v.3; rest = v.2 }

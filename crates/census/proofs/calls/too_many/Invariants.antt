@@ -1,0 +1,12 @@
+-- `calls::too_many` meets its contract. The loop's invariant: the words left tell it. Assumes nothing.
+use Prim.Native.Nat.{◌-◌}
+use native.Mathlib.Omega.{arith}
+use lib.ListN.{length}
+use Rattle.census.proofs.ManyLaws.{Scanning, many_begins, many_over, many_ends, many_lexed, many_grows, many_word, many_found, many_more}
+use Rattle.census.proofs.calls.too_many.Given as goal
+
+abbrev pub invariant-loop-at : goal.invariant-loop-at
+invariant-loop-at l = Scanning l.text l.at l.mode
+
+abbrev pub decreases-loop-at : goal.decreases-loop-at
+decreases-loop-at l = length l.text - l.at

@@ -1,0 +1,14 @@
+-- `names::find` meets its contract. The loop's invariant: the names passed are others. Assumes nothing.
+use Prim.Native.Nat.{◌-◌}
+use native.Mathlib.Omega.{arith}
+use mathlib.Core.Path.{sym, ◌∙◌}
+use lib.ListN.{length, take, drop}
+use borrow.Author.Rules.{rules}
+use Rattle.census.proofs.TableLaws.{Finding, find_begins, find_here, find_more, find_none}
+use Rattle.census.proofs.names.find.Given as goal
+
+abbrev pub invariant-loop-i : goal.invariant-loop-i
+invariant-loop-i l = Finding l.text l.starts l.lengths l.n (take (l.past - l.from) (drop l.from l.text)) l.i
+
+abbrev pub decreases-loop-i : goal.decreases-loop-i
+decreases-loop-i l = l.n - l.i

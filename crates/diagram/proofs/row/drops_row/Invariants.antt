@@ -1,0 +1,17 @@
+-- `row::drops_row` meets its contract. The loop's invariant: what is left to remove gives what was asked. The measure is the
+-- count of bits that are left. Assumes nothing.
+use Prim.Native.Nat.{◌*◌, ◌≤◌}
+use mathlib.Core.Path.{◌≡◌, refl, ◌∙◌}
+use native.Mathlib.Omega.{arith}
+use lib.ListN.{length}
+use borrow.Author.Rules.{rules}
+use Rattle.diagram.proofs.RemovalLaws.{Removing, removing_none, removing_more, removing_short, removing_all}
+use Rattle.diagram.proofs.RowLaws.{removal_short, removal_done}
+use Rattle.diagram.proofs.row.drops_row.Given as goal
+
+abbrev pub invariant-loop-b : goal.invariant-loop-b
+invariant-loop-b l =
+    (l.b ≤ l.k) × (length l.work ≡ length l.initial.work) × Removing (4 * l.k) l.base l.k l.initial.nodes l.n l.p l.nodes l.m l.r l.b l.initial.work l.work l.c l.slots
+
+abbrev pub decreases-loop-b : goal.decreases-loop-b
+decreases-loop-b l = l.b

@@ -1,0 +1,17 @@
+-- `free::mark` meets its contract. The loop's invariant: the leaves and the first j nodes are marked, and nothing past the marks has
+-- changed. The measure is what is left. Assumes nothing.
+use Prim.Native.Nat.{◌+◌, ◌-◌, ◌≤◌}
+use mathlib.Core.Path.{◌≡◌, refl, ◌∙◌}
+use native.Mathlib.Omega.{arith}
+use lib.ListN.{length, set, length-set}
+use lib.Seq.{get_or-set_other}
+use Rattle.nodes.specs.Nodes.{Rest}
+use Rattle.keeping.specs.Checks.{Marks}
+use Rattle.keeping.proofs.FreeLaws.{marks_none, marks_more}
+use Rattle.keeping.proofs.free.mark.Given as goal
+
+abbrev pub invariant-loop-j : goal.invariant-loop-j
+invariant-loop-j l = (l.j ≤ l.kept) × (length l.work ≡ length l.initial.work) × Marks l.nodes l.kept l.k l.work l.j × Rest (l.kept + 2) l.initial.work l.work
+
+abbrev pub decreases-loop-j : goal.decreases-loop-j
+decreases-loop-j l = l.kept - l.j

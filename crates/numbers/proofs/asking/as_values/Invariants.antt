@@ -1,0 +1,12 @@
+-- `as_values` meets its contract. The loop's invariant: the first t values are there. The measure is the count of values left. Assumes nothing.
+use native.Mathlib.Omega.{arith}
+use Prim.Native.Nat.{◌-◌}
+use Rattle.numbers.proofs.CopyLaws.{Copied, copied_none, copied_more, copied_all}
+use borrow.Author.Rules.{rules}
+use Rattle.numbers.proofs.asking.as_values.Given as goal
+
+abbrev pub invariant-loop-t : goal.invariant-loop-t
+invariant-loop-t l = Copied l.fresh l.all l.t
+
+abbrev pub decreases-loop-t : goal.decreases-loop-t
+decreases-loop-t l = 96 - l.t

@@ -1,0 +1,18 @@
+-- `rule::masks::at` meets its contract: four bits of the mask, and none past the rows. Assumes nothing.
+use Prim.Native.Nat.{◌≤◌}
+use mathlib.Core.Path.{sym}
+use native.Mathlib.Omega.{arith}
+use lib.ListN.{length, get_or-eq_default}
+use borrow.Author.Rules.{rules}
+use Rattle.rule.specs.Masks.{mask_of, digit, has_bit}
+use Rattle.rule.proofs.MasksLaws.{mask_has}
+use Rattle.rule.proofs.masks.at.Goals as goal
+
+pub returns-then-p-lt64 : goal.returns-then-p-lt64
+returns-then-p-lt64 c = sym (mask_has _)
+
+pub returns : goal.returns
+unfolding mask_of digit has_bit
+returns c =
+    let h : length c.args.free.now ≤ c.args.p = omega arith in
+    rw (get_or-eq_default c.args.free.now 0 h)

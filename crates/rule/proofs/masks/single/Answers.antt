@@ -1,0 +1,24 @@
+-- `rule::masks::single` meets its contract: the bit of each variable. Assumes nothing.
+use native.Mathlib.Omega.{arith}
+use Rattle.rule.specs.Masks.{digit, mask_of}
+use Rattle.rule.proofs.MasksLaws.{single_none}
+use Rattle.rule.proofs.masks.single.Goals as goal
+
+pub returns-in-0 : goal.returns-in-0
+unfolding mask_of digit
+returns-in-0 c = rw c.in_default.keys1
+
+pub returns-in-1 : goal.returns-in-1
+unfolding mask_of digit
+returns-in-1 c = rw c.in_default.keys2
+
+pub returns-in-2 : goal.returns-in-2
+unfolding mask_of digit
+returns-in-2 c = rw c.in_default.keys3
+
+pub returns-in-3 : goal.returns-in-3
+unfolding mask_of digit
+returns-in-3 c = rw c.in_default.keys4
+
+pub returns-in_default : goal.returns-in_default
+returns-in_default c = single_none c.args.v (omega arith)

@@ -1,0 +1,12 @@
+-- `modes::next_mode` meets its contract. Assumes nothing.
+use Prim.Native.Nat.{◌+◌, ◌*◌}
+use native.Mathlib.Omega.{arith}
+use Rattle.spelling.specs.Codes.{kinds, nexts, next_mode}
+use Rattle.spelling.proofs.TableLaws.{mode_lt}
+use mathlib.Core.Path.{refl}
+use borrow.Author.Rules.{rules}
+use Rattle.spelling.proofs.modes.next_mode.Goals as goal
+
+pub returns : goal.returns
+unfolding nexts next_mode
+returns c = (rw (← c.kind_of.ensures.0), mode_lt (c.args.mode * 10 + c.kind_of.result) (omega arith))

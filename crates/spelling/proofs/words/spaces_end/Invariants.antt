@@ -1,0 +1,13 @@
+-- `words::spaces_end` meets its contract. The loop's invariant: the words from the place on stay. Assumes nothing.
+use Prim.Native.Nat.{◌-◌}
+use native.Mathlib.Omega.{arith}
+use lib.ListN.{length}
+use borrow.Author.Rules.{rules}
+use Rattle.spelling.proofs.FirstLaws.{Skipped, skip_none, skip_more, skip_stops, skip_ends}
+use Rattle.spelling.proofs.words.spaces_end.Given as goal
+
+abbrev pub invariant-loop-i : goal.invariant-loop-i
+invariant-loop-i l = Skipped l.text l.at l.i
+
+abbrev pub decreases-loop-i : goal.decreases-loop-i
+decreases-loop-i l = length l.text - l.i

@@ -1,0 +1,14 @@
+-- `words::value_of` meets its contract. The loop's invariant: the digits left, read after the value, give the value of all. Assumes nothing.
+use Prim.Native.Nat.{◌-◌}
+use native.Mathlib.Omega.{arith}
+use mathlib.Core.Logic.{⊎_elim}
+use lib.ListN.{length}
+use borrow.Author.Rules.{rules}
+use Rattle.spelling.proofs.RunLaws.{Valued, valued_none, valued_more, valued_all}
+use Rattle.spelling.proofs.words.value_of.Given as goal
+
+abbrev pub invariant-loop-i : goal.invariant-loop-i
+invariant-loop-i l = Valued l.digits l.i l.value
+
+abbrev pub decreases-loop-i : goal.decreases-loop-i
+decreases-loop-i l = length l.digits - l.i

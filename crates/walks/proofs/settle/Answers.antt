@@ -1,0 +1,7 @@
+-- `settle` meets its contract. Assumes nothing.
+use Rattle.walks.proofs.SettleLaws.{in_order}
+use borrow.Author.Rules.{rules}
+use Rattle.walks.proofs.settle.Goals as goal
+
+pub returns : goal.returns
+returns c = in_order _ _ _ (rw (c.lesser.ensures, c.greater.ensures) at c.settle_ordered.ensures)
