@@ -11,7 +11,7 @@ pub commas-requires : goal.commas-requires
 commas-requires c = arguments_lexed _ _ _ _ _ c.next_word-w.ensures c.requires c.if-w-ne14.false
 
 pub overflow_add-result : goal.overflow_add-result
-overflow_add-result c = omega (arith, c.commas.ensures.few, c.well-formed)
+overflow_add-result c = omega (arith, c.commas.ensures.few, c.well_formed)
 
 pub returns : goal.returns
 returns c = arguments_yes _ _ _ _ _ c.next_word-w.ensures _ c.if-w-ne14.false c.commas.ensures
