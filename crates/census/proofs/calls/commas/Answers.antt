@@ -1,8 +1,5 @@
-use Prim.Native.Nat.{◌-◌}
 use native.Mathlib.Omega.{arith}
-use lib.ListN.{length}
-use borrow.Author.Rules.{rules}
-use Rattle.census.proofs.CommaLaws.{Counting, count_begins, count_over, count_ends, count_shut, count_inside, count_past, count_more}
+use Rattle.census.proofs.CommaLaws.{count_begins, count_over, count_ends, count_shut, count_inside, count_past, count_more}
 use Rattle.census.proofs.calls.commas.Goals as goal
 
 pub loop-at-init : goal.loop-at-init

@@ -1,7 +1,6 @@
 -- `calls::count_arguments` meets its contract. Assumes nothing.
 use native.Mathlib.Omega.{arith}
 use Rattle.census.proofs.CommaLaws.{arguments_no, arguments_lexed, arguments_yes}
-use borrow.Author.Rules.{rules}
 use Rattle.census.proofs.calls.count_arguments.Goals as goal
 
 pub returns-then-w-ne14 : goal.returns-then-w-ne14

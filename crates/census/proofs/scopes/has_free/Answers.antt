@@ -1,7 +1,5 @@
-use Prim.Native.Nat.{◌-◌}
 use native.Mathlib.Omega.{arith}
-use lib.ListN.{length}
-use Rattle.census.proofs.FreePass.{Scoping, scope_begins, scope_over, scope_ends, scope_within, scope_grows, scope_word, scope_number, scope_loose, scope_more}
+use Rattle.census.proofs.FreePass.{scope_begins, scope_over, scope_ends, scope_within, scope_grows, scope_word, scope_number, scope_loose, scope_more}
 use Rattle.census.proofs.scopes.has_free.Goals as goal
 
 pub loop-at-init : goal.loop-at-init
