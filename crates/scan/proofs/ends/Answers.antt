@@ -9,7 +9,7 @@ pub returns-then-pending-eq0 : goal.returns-then-pending-eq0
 returns-then-pending-eq0 c = gap_ends _ _ _ _ _ _ c.if-pending-eq0.true c.may_end.ensures
 
 pub give-s-requires : goal.give-s-requires
-give-s-requires c = (c.requires.low, rw c.word_of-word.ensures (code_lt _), omega (arith, c.requires.shallow, c.well-formed))
+give-s-requires c = (c.requires.low, rw c.word_of-word.ensures (code_lt _), omega (arith, c.requires.shallow, c.well_formed))
 
 pub returns-then-pending-eq1 : goal.returns-then-pending-eq1
 returns-then-pending-eq1 c = letters_ends _ _ _ _ _ _ _ _ _ c.if-pending-eq1.true c.word_of-word.ensures c.give-s.ensures c.may_end-then-pending-eq1.ensures
