@@ -30,7 +30,7 @@ sizes_right-requires c =
 
 pub returns : goal.returns
 returns c =
-    let found = c.sizes_right_law in
+    let found = c.sizes_right in
     let checked = c.check in
     let s = c in
     let good = turned_false checked.result c.if-not-check.false-raw in
