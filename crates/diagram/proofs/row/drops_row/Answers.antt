@@ -1,9 +1,6 @@
-use Prim.Native.Nat.{◌*◌, ◌≤◌}
-use mathlib.Core.Path.{◌≡◌, refl, ◌∙◌}
+use mathlib.Core.Path.{refl, ◌∙◌}
 use native.Mathlib.Omega.{arith}
-use lib.ListN.{length}
-use borrow.Author.Rules.{rules}
-use Rattle.diagram.proofs.RemovalLaws.{Removing, removing_none, removing_more, removing_short, removing_all}
+use Rattle.diagram.proofs.RemovalLaws.{removing_none, removing_more, removing_short, removing_all}
 use Rattle.diagram.proofs.RowLaws.{removal_short, removal_done}
 use Rattle.diagram.proofs.row.drops_row.Goals as goal
 

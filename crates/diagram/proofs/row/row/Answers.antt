@@ -1,7 +1,6 @@
 -- `row::row` meets its contract: one law for each instruction. Assumes nothing.
 use native.Mathlib.Omega.{arith}
 use Rattle.diagram.proofs.RowLaws.{within_no, leads_to, row_yes, row_and, row_not, row_since, row_old, row_drop}
-use borrow.Author.Rules.{rules}
 use Rattle.diagram.proofs.row.row.Goals as goal
 
 pub since_walk-requires : goal.since_walk-requires

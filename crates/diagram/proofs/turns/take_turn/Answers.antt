@@ -1,6 +1,4 @@
 -- `turns::take_turn` meets its contract: a turn that misses adds nothing, and one that hits goes into the diagram. Assumes nothing.
-use native.Mathlib.Omega.{arith}
-use borrow.Author.Rules.{rules}
 use Rattle.nodes.proofs.ReadLaws.{stays}
 use Rattle.making.proofs.NodesLaws.{shelved_same}
 use Rattle.diagram.proofs.TurnLaws.{miss_tree}
