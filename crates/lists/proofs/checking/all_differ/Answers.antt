@@ -23,17 +23,17 @@ searchable c =
       place = omega arith;
       more = omega (arith, z.more);
       few = z.few;
-      inside = omega (arith, z.inside, l.loop-j.invariant.2, l.clear.auto.0, t.requires.0.inside);
+      inside = omega (arith, z.inside, l.loop-j.invariant.2, l.clear.auto.work, t.requires.0.inside);
     }
 
 -- what lies beyond the room is as it was at entry
 beyond : (l : At-loop-j) → let s = l in
-    drop s.args.room l.loop.work ≡ drop s.args.room s.args.work.now
+    drop s.args.room l.loop-j.work ≡ drop s.args.room s.args.work.now
 beyond l =
     let t = l in
     let a = t.args in
-    l.loop.invariant.3
-    ∙ (ap (drop a.room) l.clear.ensures ∙ clear_beyond t.slots.result a.room a.work.now t.slots.ensures.inside)
+    l.loop-j.invariant.3
+    ∙ (ap (drop a.room) l.clear.ensures ∙ clear_beyond t.slots-size.result a.room a.work.now t.slots-size.ensures.inside)
 
 pub loop-j-init : goal.loop-j-init
 loop-j-init c =

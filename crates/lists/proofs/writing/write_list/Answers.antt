@@ -32,7 +32,7 @@ overflow_cast-many c = let s = c in omega (arith, s.requires.few)
 pub loop-j-init : goal.loop-j-init
 loop-j-init c =
     let a = c.args in
-    (omega arith, refl, written_none a.m a.b a.v (bare a.t4) a.values.now)
+    (omega arith, refl, written_none a.m a.b a.v (bare a.fresh) a.values.now)
 
 pub overflow_add-y : goal.overflow_add-y
 overflow_add-y c = let s = c in omega (arith, s.requires.variable, s.requires.few, c.loop-j-test.true)
@@ -68,7 +68,7 @@ loop-j-preserved c =
     let l = c.loop-j in (
       omega (arith, c.loop-j-test.true),
       length-set l.values _ _ ∙ l.invariant.1,
-      written_more a.m a.b a.v l.j a.t4 a.values.now l.values l.invariant.2,
+      written_more a.m a.b a.v l.j a.fresh a.values.now l.values l.invariant.2,
     )
 
 pub shape_of-values : goal.shape_of-values

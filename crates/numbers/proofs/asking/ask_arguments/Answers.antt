@@ -15,7 +15,7 @@ loop-j-init c =
     let s = c in
     let a = s.args in (
       omega arith,
-      arguments_none a (part_of a.m a a.values.now) (fact_of a.fact).values a.rows.now a.i (arguments_of a.rows.now a.i a.fact.count) (sheet a.asked.counts a.fresh.now a.asked.numbers) s.requires.0,
+      arguments_none a.before (part_of a.m a.before a.values.now) (fact_of a.fact).values a.rows.now a.i (arguments_of a.rows.now a.i a.fact.count) (sheet a.asked.counts a.fresh.now a.asked.numbers) s.requires.0,
     )
 
 pub ask_argument-a-requires : goal.ask_argument-a-requires
@@ -29,7 +29,7 @@ loop-j-preserved c =
     let a = s.args in
     let l = c.loop-j in (
       omega arith,
-      arguments_more a (part_of a.m a a.values.now) a.rows.now a.i a.fact s.requires.2.readable l.j _ _ _ (omega arith) l.invariant.1 c.ask_argument-a.ensures,
+      arguments_more a.before (part_of a.m a.before a.values.now) a.rows.now a.i a.fact s.requires.2.readable l.j _ _ _ (omega arith) l.invariant.1 c.ask_argument-a.ensures,
     )
 
 pub shape_of-fresh : goal.shape_of-fresh
@@ -43,4 +43,4 @@ returns c =
     let s = c in
     let a = s.args in
     let l = c.loop-j in
-    arguments_all a (part_of a.m a a.values.now) a.rows.now a.i a.fact s.requires.2.readable l.j _ _ (omega arith) l.invariant.1
+    arguments_all a.before (part_of a.m a.before a.values.now) a.rows.now a.i a.fact s.requires.2.readable l.j _ _ (omega arith) l.invariant.1
