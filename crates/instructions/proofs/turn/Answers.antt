@@ -12,11 +12,11 @@ returns-in-True c = rw c.in-True.is refl
 
 pub returns-then-matched : goal.returns-then-matched
 unfolding row_of row_turn
-returns-then-matched c = row_is _ _ _ c.row-1.given.1 (hit_yes _ c.args.matched _ _ c.if-matched.true c.place_of.ensures c.place_of-y.ensures c.place_of-z.ensures c.place_of-w.ensures)
+returns-then-matched c = row_is _ _ _ c.in-Atom.is (hit_yes _ c.args.matched _ _ c.if-matched.true c.place_of.ensures c.place_of-y.ensures c.place_of-z.ensures c.place_of-w.ensures)
 
 pub returns-else-matched : goal.returns-else-matched
 unfolding row_of row_turn
-returns-else-matched c = row_is _ _ _ c.row-1.given.1 (hit_no _ c.args.matched _ _ c.if-matched.false)
+returns-else-matched c = row_is _ _ _ c.in-Atom.is (hit_no _ c.args.matched _ _ c.if-matched.false)
 
 pub returns-in-And : goal.returns-in-And
 unfolding row_of row_turn

@@ -25,10 +25,10 @@ pub loop-v-init : goal.loop-v-init
 loop-v-init c = (omega arith, refl, refl, λ w h. absurd (omega arith))
 
 pub overflow_mul-at : goal.overflow_mul-at
-overflow_mul-at c = omega (arith, inside c, c.requires.1)
+overflow_mul-at c = omega (arith, part_inside c.loop-v.v c.args.m c.args.m (omega arith) (omega arith), c.requires.1)
 
 pub overflow_add-end : goal.overflow_add-end
-overflow_add-end c = omega (arith, inside c, c.requires.1)
+overflow_add-end c = omega (arith, part_inside c.loop-v.v c.args.m c.args.m (omega arith) (omega arith), c.requires.1)
 
 pub offset_bounds-values-at : goal.offset_bounds-values-at
 offset_bounds-values-at c = omega (arith, inside c, c.requires.1)
@@ -41,7 +41,7 @@ list_right-requires c =
     let z : l.loop-v.v * a.m + a.m - l.loop-v.v * a.m ≡ a.m = omega arith in (
       record { some = s.requires.0.some; inside = omega (arith, l.loop-v.invariant.1, s.requires.0.inside) },
       s.requires.1,
-      rw z (length-take-le a.m (drop (l.loop-v.v * a.m) a.values.now) (rw (length-drop, s.requires.2) (omega (arith, inside c)))),
+      rw z (length-take-le a.m (drop (l.loop-v.v * a.m) a.values.now) (rw (length-drop, s.requires.2) (omega (arith, inside (goal.at.list_right-requires c).In-loop-v)))),
     )
 
 pub returns-then-not-list_right : goal.returns-then-not-list_right

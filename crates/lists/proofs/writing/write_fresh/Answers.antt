@@ -31,7 +31,7 @@ loop-v-init c =
     let a = s.args in (
       omega arith,
       refl,
-      sym (fresh_none a.k a.before a.asked.counts (bare a.asked.fresh) (list_of a.k (with_counts a.before) a.values.now) (size s) (start s) s.requires.few s.requires.room s.requires.grown ∙ s.requires.laid),
+      sym (fresh_none a.k a.before a.asked.counts (bare a.asked.fresh) (list_of a.k (with_counts a.before) a.values.now) (size (goal.at.loop-v-init c).Start) (start (goal.at.loop-v-init c).Start) s.requires.few s.requires.room s.requires.grown ∙ s.requires.laid),
     )
 
 pub write_list-requires : goal.write_list-requires
@@ -52,7 +52,7 @@ loop-v-preserved c =
     let v : l.v < 4 = omega (arith, c.loop-v-test.true) in (
       omega arith,
       w.auto.values ∙ l.invariant.1,
-      w.ensures ∙ rw m (fresh_more a.k a.before a.asked.counts (bare a.asked.fresh) (list_of a.k (with_counts a.before) a.values.now) (size s) (start s) s.requires.few s.requires.room s.requires.grown l.v l.values v l.invariant.2),
+      w.ensures ∙ rw m (fresh_more a.k a.before a.asked.counts (bare a.asked.fresh) (list_of a.k (with_counts a.before) a.values.now) (size (goal.at.loop-v-preserved c).Start) (start (goal.at.loop-v-preserved c).Start) s.requires.few s.requires.room s.requires.grown l.v l.values v l.invariant.2),
     )
 
 pub shape_of-values : goal.shape_of-values
@@ -64,4 +64,4 @@ returns c =
     let a = s.args in
     let l = c.loop-v in
     let z : l.v ≡ 4 = omega (arith, c.loop-v-test.false) in
-    l.invariant.2 ∙ fresh_all a.k a.before a.asked.counts (bare a.asked.fresh) (list_of a.k (with_counts a.before) a.values.now) (size s) (start s) s.requires.few s.requires.room s.requires.grown l.v z
+    l.invariant.2 ∙ fresh_all a.k a.before a.asked.counts (bare a.asked.fresh) (list_of a.k (with_counts a.before) a.values.now) (size (goal.at.returns c).Start) (start (goal.at.returns c).Start) s.requires.few s.requires.room s.requires.grown l.v z

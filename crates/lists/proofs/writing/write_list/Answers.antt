@@ -48,18 +48,18 @@ bounds-fresh-from c =
 pub overflow_add-values : goal.overflow_add-values
 overflow_add-values c =
     let s = c in
-    omega (arith, inside s, s.requires.small, s.requires.grown, c.loop-j-test.true)
+    omega (arith, inside (goal.at.overflow_add-values c).Start, s.requires.small, s.requires.grown, c.loop-j-test.true)
 
 pub offset_bounds-values-at : goal.offset_bounds-values-at
 offset_bounds-values-at c =
     let s = c in
-    omega (arith, inside s, s.requires.small, s.requires.grown, c.loop-j-test.true)
+    omega (arith, inside (goal.at.offset_bounds-values-at c).Start, s.requires.small, s.requires.grown, c.loop-j-test.true)
 
 pub bounds-values-at : goal.bounds-values-at
 bounds-values-at c =
     let s = c in
     let l = c.loop-j in
-    omega (arith, inside s, s.requires.grown, s.requires.parts, l.invariant.1, c.loop-j-test.true)
+    omega (arith, inside (goal.at.bounds-values-at c).Start, s.requires.grown, s.requires.parts, l.invariant.1, c.loop-j-test.true)
 
 pub loop-j-preserved : goal.loop-j-preserved
 loop-j-preserved c =
