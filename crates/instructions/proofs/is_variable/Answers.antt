@@ -8,8 +8,8 @@ use Rattle.instructions.proofs.is_variable.Goals as goal
 
 pub returns-in-Variable : goal.returns-in-Variable
 unfolding argument_of names
-returns-in-Variable c = argument_is _ c.in-Variable.is refl
+returns-in-Variable c = argument_is _ c.a-1.given.1 refl
 
 pub returns-in-Constant : goal.returns-in-Constant
 unfolding argument_of names
-returns-in-Constant c = argument_is _ c.in-Constant.is refl
+returns-in-Constant c = argument_is _ c.enum_told-1.given.1 refl

@@ -14,7 +14,7 @@ returns-then-count-eq0 c =
 pub returns-then-is_variable : goal.returns-then-is_variable
 returns-then-is_variable c =
     let q = c.args.count in
-    place_here _ 0 _ _ q _ _ (omega arith) (sym c.is_variable.ensures ∙ c.if-is_variable.true) c.number_of.ensures
+    place_here _ 0 _ _ q _ _ (omega arith) (sym c.is_variable.ensures ∙ c.if-is_variable.true) c.number_of_law.ensures
 
 pub returns-then-count-eq1 : goal.returns-then-count-eq1
 returns-then-count-eq1 c =

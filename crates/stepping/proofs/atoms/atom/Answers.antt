@@ -20,7 +20,7 @@ overflow_cast-count c = omega (arith, c.requires.1)
 pub loop-f-init : goal.loop-f-init
 loop-f-init c =
     let s = c in
-    (s.requires.1, omega arith, omega arith, refl, turning_none _ _ s.requires.3)
+    (s.requires.1, omega arith, sym (length-map s.args.event.facts _) ∙ s.well-formed.1.1.1.1.1.1.1.0.1.1.1.0.1.0.1, refl, turning_none _ _ s.requires.3)
 
 pub offset_bounds-facts-f : goal.offset_bounds-facts-f
 offset_bounds-facts-f c = omega (arith, c.loop-f.invariant.0)

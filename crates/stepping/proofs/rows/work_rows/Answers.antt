@@ -58,7 +58,7 @@ returns-in_default c =
     let s = c in
     let l = c.loop-i in
     let h : l.i < length s.args.rows.now / 9 = omega (arith, l.invariant.0, c.loop-i-test.true) in
-    let x = reads s.args.rows.now s.args.event s.args.given.now l.i h c.row_at.ensures.whole in
+    let x = reads s.args.rows.now s.args.event s.args.given.now l.i h c.row_at_law.ensures.whole in
     through_short s.args.k (planned s.args.rows.now s.args.event s.args.given.now) _ s.args.nodes.now s.args.kept l.invariant.3 (count_of_rows s.args.rows.now) (omega (arith, count_is s.args.rows.now)) (rw (c.enum_told-1.given.1, x) at c.one_row.ensures)
 
 pub offset_bounds-news-i : goal.offset_bounds-news-i
@@ -72,7 +72,7 @@ overflow_add-visits c =
     let s = c in
     let l = c.loop-i in
     let h : l.i < length s.args.rows.now / 9 = omega (arith, l.invariant.0, c.loop-i-test.true) in
-    let x = reads s.args.rows.now s.args.event s.args.given.now l.i h c.row_at.ensures.whole in
+    let x = reads s.args.rows.now s.args.event s.args.given.now l.i h c.row_at_law.ensures.whole in
     let g = rw (c.m-1.given.1, x) at c.one_row.ensures in
     let t = through_more s.args.k (planned s.args.rows.now s.args.event s.args.given.now) _ s.args.nodes.now s.args.kept l.invariant.3 g.0 (omega (arith, few_rows _ s.requires.k_bound.1)) _ g.1 g.2 in
     omega (arith, t.tally.small, few_rows _ s.requires.k_bound.1)
@@ -88,7 +88,7 @@ loop-i-preserved c =
     let s = c in
     let l = c.loop-i in
     let h : l.i < length s.args.rows.now / 9 = omega (arith, l.invariant.0, c.loop-i-test.true) in
-    let x = reads s.args.rows.now s.args.event s.args.given.now l.i h c.row_at.ensures.whole in
+    let x = reads s.args.rows.now s.args.event s.args.given.now l.i h c.row_at_law.ensures.whole in
     let g = rw (c.m-1.given.1, x) at c.one_row.ensures in
     let t = through_more s.args.k (planned s.args.rows.now s.args.event s.args.given.now) _ s.args.nodes.now s.args.kept l.invariant.3 g.0 (omega (arith, few_rows _ s.requires.k_bound.1)) _ g.1 g.2 in
     (l.invariant.0, omega (arith, c.loop-i-test.true), c.one_row.auto.1.0 ∙ l.invariant.2, t)
