@@ -1,14 +1,13 @@
-use Prim.Native.Nat.{ℕ, ◌-◌, ◌≤◌, ◌<◌}
-use mathlib.Core.Path.{◌≡◌, sym, ◌∙◌}
+use Prim.Native.Nat.{ℕ, ◌≤◌, ◌<◌}
+use mathlib.Core.Path.{◌≡◌}
 use native.Mathlib.Omega.{arith}
-use lib.ListN.{length, get_or, length-map}
+use lib.ListN.{length, get_or}
 use Rattle.meaning.specs.Rows.{rule_of}
 use Rattle.numbers.specs.Asking.{Parted, part_of}
 use Rattle.numbers.proofs.PartLaws.{part_size}
 use Rattle.numbers.proofs.StartLaws.{most_le}
-use Rattle.numbers.proofs.FactsLaws.{Going, going_none, going_steady, going_next}
+use Rattle.numbers.proofs.FactsLaws.{going_none, going_steady, going_next}
 use Rattle.numbers.proofs.AskedLaws.{eight, three, facts_inside, fact_is, asks_all}
-use borrow.Author.Rules.{rules}
 use Rattle.numbers.proofs.asking.ask.Goals as goal
 use Rattle.numbers.proofs.asking.ask.Goals.{After-most-m, Start}
 

@@ -4,7 +4,6 @@ use lib.ListN.{get_or}
 use Rattle.meaning.specs.Outcome.{fact_of}
 use Rattle.numbers.specs.Asking.{sheet, part_of}
 use Rattle.numbers.proofs.WalkLaws.{one_constant, one_variable}
-use borrow.Author.Rules.{rules}
 use Rattle.numbers.proofs.asking.ask_argument.Goals as goal
 
 pub returns-then-rows-i-ne0 : goal.returns-then-rows-i-ne0

@@ -1,16 +1,12 @@
-use Prim.Native.Nat.{◌/◌, ◌-◌, ◌≤◌, ◌<◌}
+use Prim.Native.Nat.{◌/◌, ◌<◌}
 use mathlib.Core.Path.{◌≡◌, sym, ◌∙◌}
-use mathlib.Core.Bool.{true}
 use native.Mathlib.Omega.{arith}
 use lib.ListN.{length}
-use Rattle.meaning.specs.Rows.{row_at, count_of_rows, rule_of}
-use Rattle.meaning.specs.Outcome.{fact_of}
-use Rattle.numbers.specs.Matching.{matches_row, Sized}
+use Rattle.meaning.specs.Rows.{count_of_rows, rule_of}
+use Rattle.numbers.specs.Matching.{Sized}
 use Rattle.numbers.specs.Asking.{sheet, nothing_given, part_of}
-use Rattle.numbers.proofs.MatchingLaws.{sized_of}
-use Rattle.numbers.proofs.WalkLaws.{Rows, rows_none, rows_to, rows_next, asking_of}
+use Rattle.numbers.proofs.WalkLaws.{rows_none, rows_to, rows_next, asking_of}
 use Rattle.numbers.proofs.StartLaws.{row_right_law}
-use borrow.Author.Rules.{rules}
 use Rattle.numbers.proofs.asking.ask_fact.Goals as goal
 use Rattle.numbers.proofs.asking.ask_fact.Goals.{Start}
 

@@ -4,7 +4,6 @@ use native.Mathlib.Omega.{arith}
 use lib.ListN.{length-take}
 use Rattle.numbers.proofs.PartLaws.{known_old, known_none, new_low, known_new}
 use Rattle.numbers.proofs.LookLaws.{told_is}
-use borrow.Author.Rules.{rules}
 use Rattle.numbers.proofs.asking.known.Goals as goal
 
 -- TODO no goal for slice-bounds-look-in-end

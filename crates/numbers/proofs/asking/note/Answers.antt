@@ -6,7 +6,6 @@ use lib.ListN.{get_or}
 use Rattle.meaning.specs.Outcome.{fact_of}
 use Rattle.numbers.specs.Asking.{part_of}
 use Rattle.numbers.proofs.SheetLaws.{noted_old, noted_known, new_inside, noted_new}
-use borrow.Author.Rules.{rules}
 use Rattle.numbers.proofs.asking.note.Goals as goal
 use Rattle.numbers.proofs.asking.note.Goals.{Else-found, Start}
 

@@ -1,6 +1,5 @@
 -- `number_told` meets its contract, arm by arm. Assumes nothing.
 use mathlib.Core.Path.{refl}
-use borrow.Author.Rules.{rules}
 use Rattle.numbers.specs.Looking.{number_told}
 use Rattle.numbers.proofs.asking.number_told.Goals as goal
 

@@ -1,9 +1,7 @@
 use native.Mathlib.Omega.{arith}
-use Prim.Native.Nat.{◌-◌}
-use mathlib.Core.Path.{◌≡◌, refl, sym, ◌∙◌}
-use lib.ListN.{length, length-map}
-use Rattle.numbers.proofs.CopyLaws.{Moved, moved_none, moved_more, moved_all}
-use borrow.Author.Rules.{rules}
+use mathlib.Core.Path.{◌≡◌, refl}
+use lib.ListN.{length}
+use Rattle.numbers.proofs.CopyLaws.{moved_none, moved_more, moved_all}
 use Rattle.numbers.proofs.asking.tell.Goals as goal
 use Rattle.numbers.proofs.asking.tell.Goals.{Start}
 

@@ -7,7 +7,6 @@ use lib.ListN.{get_or, length-take}
 use Rattle.numbers.specs.Looking.{looked_up}
 use Rattle.numbers.proofs.PartLaws.{part_inside}
 use Rattle.numbers.proofs.LookLaws.{piece}
-use borrow.Author.Rules.{rules}
 use Rattle.numbers.proofs.looking.look_part.Goals as goal
 use Rattle.numbers.proofs.looking.look_part.Goals.{Start}
 

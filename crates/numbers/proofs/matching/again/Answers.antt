@@ -1,6 +1,5 @@
 -- `again` meets its contract. Assumes nothing.
 use Rattle.numbers.proofs.FitLaws.{again_other, again_same, again_constant}
-use borrow.Author.Rules.{rules}
 use Rattle.numbers.proofs.matching.again.Goals as goal
 
 pub returns-then-v-w : goal.returns-then-v-w

@@ -1,7 +1,6 @@
 -- `first_fits` meets its contract: an argument is a variable or a constant. Assumes nothing.
 use mathlib.Core.Path.{◌∙◌}
 use Rattle.numbers.proofs.FitLaws.{first_variable, first_constant}
-use borrow.Author.Rules.{rules}
 use Rattle.numbers.proofs.matching.first_fits.Goals as goal
 
 pub repeats-requires : goal.repeats-requires

@@ -2,11 +2,9 @@
 use mathlib.Core.Path.{◌≡◌, refl, ap, sym, ◌∙◌}
 use native.Mathlib.Omega.{arith}
 use lib.ListN.{length}
-use Rattle.meaning.specs.Rows
 use Rattle.rule.specs.Decoded.{row_of}
 use Rattle.numbers.specs.Matching.{matches_row}
 use Rattle.numbers.proofs.FitLaws.{no_atom, match_predicate, match_count, match_fits}
-use borrow.Author.Rules.{rules}
 use Rattle.numbers.proofs.matching.matches.Goals as goal
 use Rattle.numbers.proofs.matching.matches.Goals.{Start}
 
