@@ -5,12 +5,10 @@ use borrow.Author.Rules.{rules}
 use Rattle.linked_rule.proofs.packing.five_of.Lts as lts
 use Rattle.linked_rule.proofs.packing.five_of.Goals as goal
 
--- src/packing.rt:15:1
 pub returns-in-Refused : goal.returns-in-Refused
 unfolding wrapped_told
 returns-in-Refused c = rw c.told-1.given.1 refl
 
--- src/packing.rt:15:1
 pub returns-in-Rows : goal.returns-in-Rows
 unfolding wrapped_told
 returns-in-Rows c = rw c.told-in-Rows-1.given.1 refl
