@@ -1,6 +1,5 @@
 -- `instruction` meets its contract: each kind of row by its own arm. Assumes nothing.
 use mathlib.Core.Path.{refl}
-use borrow.Author.Rules.{rules}
 use Rattle.rule.specs.Decoded.{row_of}
 use Rattle.instructions.specs.Read.{instruction_read}
 use Rattle.instructions.proofs.instruction.Goals as goal

@@ -1,6 +1,5 @@
 -- `is_atom` meets its contract: each kind of row by its own arm. Assumes nothing.
 use mathlib.Core.Path.{refl}
-use borrow.Author.Rules.{rules}
 use Rattle.rule.specs.Decoded.{row_of}
 use Rattle.instructions.specs.Read.{is_atom}
 use Rattle.instructions.proofs.is_atom.Goals as goal

@@ -1,6 +1,5 @@
 -- `plan::is_variable` meets its contract: a variable is compared, a constant is none. Assumes nothing.
 use mathlib.Core.Path.{refl}
-use borrow.Author.Rules.{rules}
 use Rattle.rule.specs.Decoded.{argument_of}
 use Rattle.instructions.specs.Read.{names}
 use Rattle.instructions.proofs.ReadLaws.{argument_is}

@@ -2,7 +2,6 @@
 use Prim.Native.Nat.{◌-◌}
 use mathlib.Core.Path.{sym, ◌∙◌}
 use native.Mathlib.Omega.{arith}
-use borrow.Author.Rules.{rules}
 use Rattle.instructions.proofs.ReadLaws.{place_none, place_end, place_here, place_next}
 use Rattle.instructions.proofs.place_of.Goals as goal
 

@@ -1,6 +1,5 @@
 -- `turn` meets its contract: an atom that matches has four places, and any other row nothing. Assumes nothing.
 use mathlib.Core.Path.{refl}
-use borrow.Author.Rules.{rules}
 use Rattle.rule.specs.Decoded.{row_of}
 use Rattle.instructions.specs.Read.{row_turn}
 use Rattle.instructions.proofs.ReadLaws.{row_is, hit_yes, hit_no}
