@@ -3,8 +3,6 @@ use native.Mathlib.Omega.{arith}
 use mathlib.Core.Path.{refl, ap, ◌∙◌}
 use lib.ListN.{length}
 use Rattle.linked_rule.proofs.RulingLaws.{told_length}
-use borrow.Author.Rules.{rules}
-use Rattle.linked_rule.proofs.packing.put_told.Lts as lts
 use Rattle.linked_rule.proofs.packing.put_told.Goals as goal
 
 pub put_numbers-requires : goal.put_numbers-requires

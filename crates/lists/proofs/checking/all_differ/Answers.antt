@@ -1,11 +1,10 @@
-use Prim.Native.Nat.{ℕ, ◌+◌, ◌≤◌, ◌-◌}
+use Prim.Native.Nat.{ℕ, ◌+◌}
 use mathlib.Core.Path.{◌≡◌, refl, ap, ◌∙◌}
 use mathlib.Core.List.{List}
 use native.Mathlib.Omega.{arith}
-use lib.ListN.{length, get_or, drop, length-set}
+use lib.ListN.{get_or, drop, length-set}
 use lib.Seq.{drop-set-lt}
-use borrow.Author.Rules.{rules}
-use Rattle.lists.specs.Slots.{Table, Searchable, Apart}
+use Rattle.lists.specs.Slots.{Searchable}
 use Rattle.lists.proofs.ListsLaws.{clear_zero, clear_beyond}
 use Rattle.lists.proofs.SlotsLaws.{table_none, table_more, apart_more, apart_distinct, twice_distinct}
 use Rattle.lists.proofs.checking.all_differ.Goals as goal

@@ -1,15 +1,13 @@
 use native.Mathlib.Omega.{arith}
-use Prim.Native.Nat.{ℕ, ◌+◌, ◌*◌, ◌≤◌, ◌<◌, ◌-◌}
+use Prim.Native.Nat.{◌+◌, ◌*◌, ◌≤◌, ◌-◌}
 use mathlib.Core.Path.{◌≡◌, refl, sym, ◌∙◌}
-use mathlib.Core.Bool.{true}
-use lib.ListN.{length, get_or, take, drop, length-drop}
+use lib.ListN.{get_or, take, drop, length-drop}
 use lib.Seq.{length-take-le}
 use borrow.Author.Count.{below_more}
 use borrow.Author.Tests.{not-true, not-false}
 use Rattle.lists.specs.Slots.{part_right}
 use Rattle.numbers.proofs.PartLaws.{part_inside}
 use Rattle.lists.proofs.ListsLaws.{all_false, all_true}
-use borrow.Author.Rules.{rules}
 use Rattle.lists.proofs.checking.all_right.Goals as goal
 use Rattle.lists.proofs.checking.all_right.Goals.{In-loop-v}
 

@@ -1,7 +1,5 @@
 use native.Mathlib.Omega.{arith}
-use Prim.Native.Nat.{ℕ, ◌≤◌, ◌<◌, ◌-◌}
-use mathlib.Core.Bool.{false}
-use mathlib.Core.Path.{◌≡◌, sym}
+use mathlib.Core.Path.{sym}
 use lib.Dec.{ltb}
 use lib.ListN.{get_or}
 use borrow.Author.Count.{below_more}
@@ -9,7 +7,6 @@ use borrow.Author.Tests.{lt-ltb, le-ltb}
 use Rattle.meaning.specs.Tables
 use Rattle.numbers.proofs.StartLaws.{most_le}
 use Rattle.lists.proofs.WritingLaws.{first_is}
-use borrow.Author.Rules.{rules}
 use Rattle.lists.proofs.writing.shortest.Goals as goal
 
 pub overflow_add-numbers : goal.overflow_add-numbers

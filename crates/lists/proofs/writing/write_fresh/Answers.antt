@@ -1,13 +1,12 @@
 use native.Mathlib.Omega.{arith}
-use Prim.Native.Nat.{ℕ, ◌*◌, ◌≤◌, ◌<◌, ◌-◌}
+use Prim.Native.Nat.{ℕ, ◌<◌}
 use mathlib.Core.Path.{◌≡◌, refl, sym, ◌∙◌}
 use lib.ListN.{length, get_or, length-map}
 use Rattle.meaning.specs.declared.Value.{Value}
-use Rattle.meaning.specs.Tables.{list_of, lay_values}
+use Rattle.meaning.specs.Tables.{list_of}
 use Rattle.numbers.specs.Asking.{bare, with_counts}
 use Rattle.numbers.proofs.StartLaws.{most_le, list_length}
-use Rattle.lists.proofs.WritingLaws.{first_fresh, fresh_none, fresh_more, fresh_all}
-use borrow.Author.Rules.{rules}
+use Rattle.lists.proofs.WritingLaws.{fresh_none, fresh_more, fresh_all}
 use Rattle.lists.proofs.writing.write_fresh.Goals as goal
 use Rattle.lists.proofs.writing.write_fresh.Goals.{Start}
 

@@ -1,12 +1,10 @@
 use native.Mathlib.Omega.{arith}
 use Prim.Native.Nat.{◌+◌, ◌-◌, ◌*◌, ◌≤◌}
 use mathlib.Core.Path.{◌≡◌, refl, ◌∙◌}
-use lib.ListN.{length, length-set}
-use Rattle.lists.specs.Writing.{written}
+use lib.ListN.{length-set}
 use Rattle.numbers.specs.Asking.{bare}
 use Rattle.numbers.proofs.PartLaws.{part_inside}
 use Rattle.lists.proofs.WritingLaws.{written_none, written_more}
-use borrow.Author.Rules.{rules}
 use Rattle.lists.proofs.writing.write_list.Goals as goal
 use Rattle.lists.proofs.writing.write_list.Goals.{Start}
 
