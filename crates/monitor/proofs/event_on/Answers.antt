@@ -22,7 +22,7 @@ returns-then-work-w c =
     let told = c in
     let s = told in
     let m = machine (whole s.args.figures s.args.refs.now s.args.sizes.now) s.args.nodes.now s.args.values.now s.args.work.now in
-    record { happens = too_short _ m _ (passed _ m s.args.event _ _ told.check-rule.ensures.found told.judge-decision.ensures told.enum_told-1.given.1) _ _ _ _ c.if-work-w.true (kept_turn _ _ _ _ _ _ _ _ c.refused-then-work-w.ensures refl refl) refl refl refl; looks = kept_looks _ m _ _ _ _ _ c.refused-then-work-w.ensures; numbers = kept_numbers _ m _ _ _ _ _ c.refused-then-work-w.ensures }
+    record { happens = too_short _ m _ (passed _ m s.args.event _ _ told.check-rule.ensures.found told.judge-decision.ensures told.in_default.is) _ _ _ _ c.if-work-w.true (kept_turn _ _ _ _ _ _ _ _ c.refused-then-work-w.ensures refl refl) refl refl refl; looks = kept_looks _ m _ _ _ _ _ c.refused-then-work-w.ensures; numbers = kept_numbers _ m _ _ _ _ _ c.refused-then-work-w.ensures }
 
 pub lists_right-requires : goal.lists_right-requires
 lists_right-requires c =
@@ -30,7 +30,7 @@ lists_right-requires c =
     let told = long in
     let s = told in
     let m = machine (whole s.args.figures s.args.refs.now s.args.sizes.now) s.args.nodes.now s.args.values.now s.args.work.now in
-    record { k_bound = sizes _ m s.args.event (passed _ m s.args.event _ _ told.check-rule.ensures.found told.judge-decision.ensures told.enum_told-1.given.1); le_w = (omega arith, omega (arith, long.if-work-w.false)) }
+    record { k_bound = sizes _ m s.args.event (passed _ m s.args.event _ _ told.check-rule.ensures.found told.judge-decision.ensures told.in_default.is); le_w = (omega arith, omega (arith, long.if-work-w.false)) }
 
 pub returns-then-not-lists_right : goal.returns-then-not-lists_right
 returns-then-not-lists_right c =
@@ -40,8 +40,8 @@ returns-then-not-lists_right c =
     let long = lists in
     let told = long in
     let s = told in
-    let m = machine (whole s.args.figures s.args.refs.now s.args.sizes.now) s.args.nodes.now s.args.values.now s.args.work.now in record { happens = bad_lists _ m _ (passed _ m s.args.event _ _ told.check-rule.ensures.found told.judge-decision.ensures told.enum_told-1.given.1) _ _ _ _ long.if-work-w.false (lists_same s.args.figures _ [] _ [] _ _ ∙ sym lists.lists_right.ensures.value ∙ not-true _ test.if-not-lists_right.true-raw) (kept_turn _ _ _ _ _ _ _ _ c.refused-then-not-lists_right.ensures refl refl) refl refl
-          (clears s.args.nodes.now _ _ _ _ refl long.if-work-w.false lists.lists_right.ensures.beyond zero.zero.ensures); looks = (kept_looks _ m _ _ _ _ _ c.refused-then-not-lists_right.ensures, kept_numbers _ m _ _ _ _ _ c.refused-then-not-lists_right.ensures); numbers =  }
+    let m = machine (whole s.args.figures s.args.refs.now s.args.sizes.now) s.args.nodes.now s.args.values.now s.args.work.now in record { happens = bad_lists _ m _ (passed _ m s.args.event _ _ told.check-rule.ensures.found told.judge-decision.ensures told.in_default.is) _ _ _ _ long.if-work-w.false (lists_same s.args.figures _ [] _ [] _ _ ∙ sym lists.lists_right.ensures.value ∙ not-true _ test.if-not-lists_right.true-raw) (kept_turn _ _ _ _ _ _ _ _ c.refused-then-not-lists_right.ensures refl refl) refl refl
+          (clears s.args.nodes.now _ _ _ _ refl long.if-work-w.false lists.lists_right.ensures.beyond zero.zero.ensures); looks = kept_looks _ m _ _ _ _ _ c.refused-then-not-lists_right.ensures; numbers = kept_numbers _ m _ _ _ _ _ c.refused-then-not-lists_right.ensures }
 
 pub judged-requires : goal.judged-requires
 judged-requires c =
@@ -51,7 +51,7 @@ judged-requires c =
     let told = long in
     let s = told in
     let m = machine (whole s.args.figures s.args.refs.now s.args.sizes.now) s.args.nodes.now s.args.values.now s.args.work.now in
-    listed _ m s.args.event (passed _ m s.args.event _ _ told.check-rule.ensures.found told.judge-decision.ensures told.enum_told-1.given.1) _ _ lists.lists_right.ensures.beyond long.if-work-w.false (lists_same s.args.figures _ [] _ [] _ _ ∙ sym lists.lists_right.ensures.value ∙ not-false _ test.if-not-lists_right.false-raw) told.check-rule.ensures.masks
+    listed _ m s.args.event (passed _ m s.args.event _ _ told.check-rule.ensures.found told.judge-decision.ensures told.in_default.is) _ _ lists.lists_right.ensures.beyond long.if-work-w.false (lists_same s.args.figures _ [] _ [] _ _ ∙ sym lists.lists_right.ensures.value ∙ not-false _ test.if-not-lists_right.false-raw) told.check-rule.ensures.masks
     s.requires.0 s.requires.1 s.requires.2
 
 pub returns : goal.returns
@@ -63,5 +63,5 @@ returns c =
     let told = long in
     let s = told in
     let m = machine (whole s.args.figures s.args.refs.now s.args.sizes.now) s.args.nodes.now s.args.values.now s.args.work.now in
-    let p = passed _ m s.args.event _ _ told.check-rule.ensures.found told.judge-decision.ensures told.enum_told-1.given.1 in
+    let p = passed _ m s.args.event _ _ told.check-rule.ensures.found told.judge-decision.ensures told.in_default.is in
     record { happens = happens_same _ _ _ _ _ _ _ lists.lists_right.ensures.beyond p.0 p.1 (lengths_right _ m s.args.event p long.if-work-w.false) _ _ _ _ judged.judged.ensures.happens; looks = looks_same _ _ _ _ _ _ _ _ _ _ judged.judged.ensures.looks; numbers = numbers_same _ _ _ _ _ _ _ _ _ judged.judged.ensures.numbers }

@@ -11,7 +11,7 @@ pub overflow_cast-rows : goal.overflow_cast-rows
 overflow_cast-rows c =
     let d = c in
     let j = d in
-    omega (arith, few_rows _ (right_rule _ _ _ _ _ _ j.check-checked.ensures.found j.judge-decision.ensures d.enum_told-1.given.1))
+    omega (arith, few_rows _ (right_rule _ _ _ _ _ _ j.check-checked.ensures.found j.judge-decision.ensures d.in_default.is))
 
 pub returns : goal.returns
 returns c =
@@ -19,4 +19,4 @@ returns c =
     let z = y in
     let d = z in
     let j = d in
-    starts _ _ _ _ _ _ _ _ _ j.check-checked.ensures.found j.judge-decision.ensures d.enum_told-1.given.1 c.started.ensures z.zero.ensures y.zero-2.ensures
+    starts _ _ _ _ _ _ _ _ _ j.check-checked.ensures.found j.judge-decision.ensures d.in_default.is c.started.ensures z.zero.ensures y.zero-2.ensures

@@ -15,7 +15,7 @@ write_fresh-requires c =
     let told = c in
     let step = told in
     let did = step.step-stepped.ensures in
-    writes _ _ _ _ _ step.requires _ _ _ _ _ did.0 _ _ told.told-1.given.1
+    writes _ _ _ _ _ step.requires _ _ _ _ _ did.0 _ _ c.in-Done.is
 
 pub newly-numbered-requires : goal.newly-numbered-requires
 newly-numbered-requires c = grown _ _ _ _ _ c.requires
@@ -29,22 +29,21 @@ returns-in-Done c =
     let step = told in
     let s = step in
     let did = step.step-stepped.ensures in
-    let four : length s.args.asked.counts ≡ 4 = omega arith in record { happens = takes _ _ _ _ _ s.requires _ _ _ _ _ did.0 _ _ told.told-1.given.1 four _ _
-          (taken_turn _ _ _ _ _ _ _ _ _ _ _ _ _ c.taken.ensures) c.write_fresh.ensures; looks = (taken_looks _ _ _ _ _ _ _ _ _ _ _ _ c.taken.ensures (looks _ _ _ _ _ s.requires _ _ _ _ _ did.0 _ _ told.told-1.given.1 _ _ did.1), taken_numbers _ _ _ _ _ s.requires _ _ _ _ _ _ _ _ _ c.taken.ensures c.newly-numbered.ensures); numbers =  }
+    let four : length s.args.asked.counts ≡ 4 = omega arith in record { happens = takes _ _ _ _ _ s.requires _ _ _ _ _ did.0 _ _ c.in-Done.is four _ _
+          (taken_turn _ _ _ _ _ _ _ _ _ _ _ _ _ c.taken.ensures) c.write_fresh.ensures; looks = taken_looks _ _ _ _ _ _ _ _ _ _ _ _ c.taken.ensures (looks _ _ _ _ _ s.requires _ _ _ _ _ did.0 _ _ c.in-Done.is _ _ did.1); numbers = taken_numbers _ _ _ _ _ s.requires _ _ _ _ _ _ _ _ _ c.taken.ensures c.newly-numbered.ensures }
 
 pub returns-in-Full : goal.returns-in-Full
 returns-in-Full c =
     let step = c in
-    let did = step.step-stepped.ensures in record { happens = refuses_full _ _ _ _ _ step.requires _ _ _ _ _ did.0 _ _ c.in-Full.is (kept_turn _ _ _ _ _ _ _ _ c.refused.ensures) refl; looks = (kept_looks _ _ _ _ _ _ _ c.refused.ensures, kept_numbers _ _ _ _ _ _ _ c.refused.ensures); numbers =  }
+    let did = step.step-stepped.ensures in record { happens = refuses_full _ _ _ _ _ step.requires _ _ _ _ _ did.0 _ _ c.in-Full.is (kept_turn _ _ _ _ _ _ _ _ c.refused.ensures) refl; looks = kept_looks _ _ _ _ _ _ _ c.refused.ensures; numbers = kept_numbers _ _ _ _ _ _ _ c.refused.ensures }
 
 pub returns-in-Bad : goal.returns-in-Bad
 returns-in-Bad c =
     let step = c in
-    let did = step.step-stepped.ensures in record { happens = refuses_bad _ _ _ _ _ step.requires _ _ _ _ _ did.0 _ _ c.in-Bad.is (kept_turn _ _ _ _ _ _ _ _ c.refused-in-Bad.ensures) refl; looks = (kept_looks _ _ _ _ _ _ _ c.refused-in-Bad.ensures, kept_numbers _ _ _ _ _ _ _ c.refused-in-Bad.ensures); numbers =  }
+    let did = step.step-stepped.ensures in record { happens = refuses_bad _ _ _ _ _ step.requires _ _ _ _ _ did.0 _ _ c.in-Bad.is (kept_turn _ _ _ _ _ _ _ _ c.refused-in-Bad.ensures) refl; looks = kept_looks _ _ _ _ _ _ _ c.refused-in-Bad.ensures; numbers = kept_numbers _ _ _ _ _ _ _ c.refused-in-Bad.ensures }
 
--- TODO record of ['happens', 'looks', 'numbers']
 pub returns-in-Unfit : goal.returns-in-Unfit
 returns-in-Unfit c =
     let step = c in
     let did = step.step-stepped.ensures in
-    never_unfit _ _ _ _ _ step.requires _ _ _ _ _ did.0 c.in-Unfit.is
+    absurd (never_unfit _ _ _ _ _ step.requires _ _ _ _ _ did.0 c.in-Unfit.is)
