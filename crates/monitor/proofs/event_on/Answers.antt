@@ -41,7 +41,7 @@ returns-then-not-lists_right c =
     let told = long in
     let s = told in
     let m = machine (whole s.args.figures s.args.refs.now s.args.sizes.now) s.args.nodes.now s.args.values.now s.args.work.now in record { happens = bad_lists _ m _ (passed _ m s.args.event _ _ told.check-rule.ensures.found told.judge-decision.ensures told.enum_told-1.given.1) _ _ _ _ long.if-work-w.false (lists_same s.args.figures _ [] _ [] _ _ ∙ sym lists.lists_right.ensures.value ∙ not-true _ test.if-not-lists_right.true-raw) (kept_turn _ _ _ _ _ _ _ _ c.refused-then-not-lists_right.ensures refl refl) refl refl
-          (clears s.args.nodes.now _ _ _ _ refl long.if-work-w.false lists.lists_right.ensures.beyond zero.zero.ensures); looks = (kept_looks _ m _ _ _ _ _ c.refused-then-not-lists_right.ensures, kept_numbers _ m _ _ _ _ _ c.refused-then-not-lists_right.ensures); numbers =  }
+          (clears s.args.nodes.now _ _ _ _ refl long.if-work-w.false lists.lists_right.ensures.beyond zero.zero.ensures); looks = kept_looks _ m _ _ _ _ _ c.refused-then-not-lists_right.ensures; numbers = kept_numbers _ m _ _ _ _ _ c.refused-then-not-lists_right.ensures }
 
 pub judged-requires : goal.judged-requires
 judged-requires c =

@@ -15,7 +15,7 @@ returns-then-not-agrees c =
     let test = refused in
     let first = test in
     let s = first in record { happens = refuses_5 _ _ _ _ s.requires (sym first.agrees.ensures ∙ not-true _ test.if-not-agrees.true-raw) _ _ _ _
-          (formed_turn _ _ _ _ _ _ _ refused.refused_formed.ensures.value) refused.refused_formed.ensures.work_after refl refl; looks = (formed_looks _ _ _ _ _ _ _ _ refused.refused_formed.ensures.value, formed_numbers _ _ _ _ _ _ _ _ refused.refused_formed.ensures.value); numbers =  }
+          (formed_turn _ _ _ _ _ _ _ refused.refused_formed.ensures.value) refused.refused_formed.ensures.work_after refl refl; looks = formed_looks _ _ _ _ _ _ _ _ refused.refused_formed.ensures.value; numbers = formed_numbers _ _ _ _ _ _ _ _ refused.refused_formed.ensures.value }
 
 pub ask-asked-requires : goal.ask-asked-requires
 ask-asked-requires c =
@@ -35,7 +35,7 @@ returns-then-v-lt4 c =
     let test = ask in
     let first = test in
     let s = first in record { happens = refuses_6 _ _ _ _ s.requires _ ask.ask-asked.ensures (sym first.agrees.ensures ∙ not-false _ test.if-not-agrees.false-raw) _ short.shortest-v.ensures short.if-v-lt4.true _ _ _ _
-          (formed_turn _ _ _ _ _ _ _ refused.refused_formed-then-v-lt4.ensures.value) refused.refused_formed-then-v-lt4.ensures.work_after refl refl; looks = (formed_looks _ _ _ _ _ _ _ _ refused.refused_formed-then-v-lt4.ensures.value, formed_numbers _ _ _ _ _ _ _ _ refused.refused_formed-then-v-lt4.ensures.value); numbers =  }
+          (formed_turn _ _ _ _ _ _ _ refused.refused_formed-then-v-lt4.ensures.value) refused.refused_formed-then-v-lt4.ensures.work_after refl refl; looks = formed_looks _ _ _ _ _ _ _ _ refused.refused_formed-then-v-lt4.ensures.value; numbers = formed_numbers _ _ _ _ _ _ _ _ refused.refused_formed-then-v-lt4.ensures.value }
 
 pub work_on-requires : goal.work_on-requires
 work_on-requires c =

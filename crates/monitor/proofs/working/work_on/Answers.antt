@@ -30,17 +30,17 @@ returns-in-Done c =
     let s = step in
     let did = step.step-stepped.ensures in
     let four : length s.args.asked.counts ≡ 4 = sym (length-map s.args.asked.counts _) ∙ s.well-formed.1.1.1.1.1.1.1.1.1.0.1.1.0.1.0.1 in record { happens = takes _ _ _ _ _ s.requires _ _ _ _ _ did.0 _ _ told.told-1.given.1 four _ _
-          (taken_turn _ _ _ _ _ _ _ _ _ _ _ _ _ c.taken.ensures) c.write_fresh.ensures; looks = (taken_looks _ _ _ _ _ _ _ _ _ _ _ _ c.taken.ensures (looks _ _ _ _ _ s.requires _ _ _ _ _ did.0 _ _ told.told-1.given.1 _ _ did.1), taken_numbers _ _ _ _ _ s.requires _ _ _ _ _ _ _ _ _ c.taken.ensures c.newly-numbered.ensures); numbers =  }
+          (taken_turn _ _ _ _ _ _ _ _ _ _ _ _ _ c.taken.ensures) c.write_fresh.ensures; looks = taken_looks _ _ _ _ _ _ _ _ _ _ _ _ c.taken.ensures (looks _ _ _ _ _ s.requires _ _ _ _ _ did.0 _ _ told.told-1.given.1 _ _ did.1); numbers = taken_numbers _ _ _ _ _ s.requires _ _ _ _ _ _ _ _ _ c.taken.ensures c.newly-numbered.ensures }
 
 pub returns-in-Full : goal.returns-in-Full
 returns-in-Full c =
     let step = c in
-    let did = step.step-stepped.ensures in record { happens = refuses_full _ _ _ _ _ step.requires _ _ _ _ _ did.0 _ _ c.enum_told-1.given.1 (kept_turn _ _ _ _ _ _ _ _ c.refused.ensures) refl; looks = (kept_looks _ _ _ _ _ _ _ c.refused.ensures, kept_numbers _ _ _ _ _ _ _ c.refused.ensures); numbers =  }
+    let did = step.step-stepped.ensures in record { happens = refuses_full _ _ _ _ _ step.requires _ _ _ _ _ did.0 _ _ c.enum_told-1.given.1 (kept_turn _ _ _ _ _ _ _ _ c.refused.ensures) refl; looks = kept_looks _ _ _ _ _ _ _ c.refused.ensures; numbers = kept_numbers _ _ _ _ _ _ _ c.refused.ensures }
 
 pub returns-in-Bad : goal.returns-in-Bad
 returns-in-Bad c =
     let step = c in
-    let did = step.step-stepped.ensures in record { happens = refuses_bad _ _ _ _ _ step.requires _ _ _ _ _ did.0 _ _ c.enum_told-in-Bad-1.given.1 (kept_turn _ _ _ _ _ _ _ _ c.refused-in-Bad.ensures) refl; looks = (kept_looks _ _ _ _ _ _ _ c.refused-in-Bad.ensures, kept_numbers _ _ _ _ _ _ _ c.refused-in-Bad.ensures); numbers =  }
+    let did = step.step-stepped.ensures in record { happens = refuses_bad _ _ _ _ _ step.requires _ _ _ _ _ did.0 _ _ c.enum_told-in-Bad-1.given.1 (kept_turn _ _ _ _ _ _ _ _ c.refused-in-Bad.ensures) refl; looks = kept_looks _ _ _ _ _ _ _ c.refused-in-Bad.ensures; numbers = kept_numbers _ _ _ _ _ _ _ c.refused-in-Bad.ensures }
 
 -- TODO record of ['happens', 'looks', 'numbers']
 pub returns-in-Unfit : goal.returns-in-Unfit
