@@ -1,11 +1,11 @@
 -- No line is longer than 100 bytes, so a program that meets a longer one needs no more of it to answer `Bad`. Assumes nothing.
 use Prim.Native.Nat.{ℕ, zero, suc, ◌+◌, ◌*◌, ◌^◌, ◌<◌, ◌≤◌}
 use native.Mathlib.Omega.{arith}
-use mathlib.Core.Path.{◌≡◌, ap}
+use mathlib.Core.Path.{ap}
 use mathlib.Core.List.{List, [], ◌∷◌, ◌++◌}
 use lib.ListN.{length, take, length-append, length-take}
 use Rattle.lines.specs.Numeral.{numeral}
-use Rattle.lines.specs.Format.{Fits, Every, spaced, text, Right, Written, Reads}
+use Rattle.lines.specs.Format.{Fits, Every, spaced, text, Right, Reads}
 use Rattle.lines.specs.declared.Line.{Line}
 use Rattle.lines.specs.declared.Line.TheVariants.{Sizes, Row, Event, Bad}
 use Rattle.lines.proofs.Every.{every_take}

@@ -11,8 +11,7 @@ use meaning::Value;
 use monitor::Figures;
 
 // Start. False, with nothing written, where the state has not 135 numbers or the answer not 10.
-#[unsafe(no_mangle)]
-pub extern "C" fn moheguzari_start(
+pub fn moheguzari_start(
     k: u32,
     rows: &[u32],
     nodes: &mut [u32],
@@ -47,8 +46,7 @@ pub extern "C" fn moheguzari_start(
 
 // Event: its facts, five numbers each: a predicate, its count of values, and three values, of which those past the count are
 // ignored. False, with nothing written, where the facts are no fives, the state has not 135 numbers or the answer not 10.
-#[unsafe(no_mangle)]
-pub extern "C" fn moheguzari_event(
+pub fn moheguzari_event(
     rows: &[u32],
     nodes: &mut [u32],
     values: &mut [u32],
@@ -85,8 +83,7 @@ pub extern "C" fn moheguzari_event(
 
 // Lookup: "Is this lot new to the rule?" Whether a variable of the state has a number for a value, and whether one is left where it has
 // none. False, with nothing written, where the state has not 135 numbers or the answer not 2.
-#[unsafe(no_mangle)]
-pub extern "C" fn moheguzari_lookup(
+pub fn moheguzari_lookup(
     values: &[u32],
     state: &[u32],
     variable: u32,

@@ -9,8 +9,7 @@ ghost use Rattle.linked_rule.specs.Ruling.{LinkedRule};
 use translate::translate;
 
 // Translates a text. False, with nothing written, where the answer has not 141 numbers.
-#[unsafe(no_mangle)]
-pub extern "C" fn moheguzari_rule(text: &[u8], rows: &mut [u32], answer: &mut [u32]) -> bool
+pub fn moheguzari_rule(text: &[u8], rows: &mut [u32], answer: &mut [u32]) -> bool
     ensures { LinkedRule text.now rows.old answer.old result rows.new answer.new }
 {
     if answer.len() != 141 {

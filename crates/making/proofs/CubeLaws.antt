@@ -1,5 +1,5 @@
 -- A fact's numbers put into a diagram over the same variables: the tree along their bits is the one of the or. Assumes nothing.
-use Prim.Native.Nat.{ℕ, zero, suc, ◌+◌, ◌*◌, ◌-◌, ◌/◌, ◌%◌, ◌^◌, ◌≤◌, ◌<◌}
+use Prim.Native.Nat.{ℕ, zero, suc, ◌+◌, ◌*◌, ◌/◌, ◌%◌, ◌^◌, ◌≤◌, ◌<◌}
 use mathlib.Core.Path.{◌≡◌, refl, sym, ap, ◌∙◌}
 use mathlib.Core.Bool.{Bool, true, false, cond, ◌&&◌, ◌||◌, and-true, or-true, or-false}
 use mathlib.Core.List.{List}
@@ -67,8 +67,8 @@ levels_below p q lo hi on f e h = refl
 levels_below p q lo hi (node l a b) f e h =
     let g = node_fine lo hi l a b f in
     let rest = tests.and_true_r (p l) (levels p a && levels p b) h in
-    tests.and-true (q l) (levels q a && levels q b) (sym (e l g.1) ∙ tests.and_true_l (p l) (levels p a && levels p b) h)
-    (tests.and-true (levels q a) (levels q b)
+    tests.and_true (q l) (levels q a && levels q b) (sym (e l g.1) ∙ tests.and_true_l (p l) (levels p a && levels p b) h)
+    (tests.and_true (levels q a) (levels q b)
     (levels_below p q (suc l) hi a g.2 e (tests.and_true_l (levels p a) (levels p b) rest))
     (levels_below p q (suc l) hi b g.3 e (tests.and_true_r (levels p a) (levels p b) rest)))
 

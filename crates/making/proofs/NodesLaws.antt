@@ -8,7 +8,7 @@ use native.Mathlib.Omega.{arith}
 use lib.ListN.{length, get_or, length-append, length-set}
 use lib.Seq.{take_at}
 use Rattle.trees.specs.Tree.{Tree, node, mk}
-use Rattle.trees.specs.Table.{mem, push, add_tree, at, node_at, trees_of, Ref, NodeIs}
+use Rattle.trees.specs.Table.{mem, push, add_tree, at, node_at, trees_of}
 use Rattle.trees.proofs.Tests.{bool}
 use Rattle.trees.proofs.TreeLaws.{mk_same, mk_differ}
 use Rattle.trees.proofs.TableLaws.{Has, Closed, at_index, mem_place, push_out, add_in}

@@ -60,7 +60,7 @@ no_fault raw i r a = rw (r, a)
 -- and one that is no fault agrees with those before it
 pub agreed : (raw : List ℕ) (i : ℕ) → row_fault raw i ≡ false → agrees_before raw i ≡ true
 unfolding row_fault agrees_before
-agreed raw i e = and_true_r (row_right raw i) (all_below i (λ j. not (disagree raw i j))) (Tests.not_false (row_right raw i && all_below i (λ j. not (disagree raw i j))) e)
+agreed raw i e = and_true_r (row_right raw i) (all_below i (λ j. not (disagree raw i j))) (Tests.not-false (row_right raw i && all_below i (λ j. not (disagree raw i j))) e)
 
 -- a row that is not right is a fault
 pub fault_row : (raw : List ℕ) (i : ℕ) → row_right raw i ≡ false → row_fault raw i ≡ true

@@ -1,7 +1,7 @@
 -- Laws of the row rules: a row is right exactly if the tests that the code makes of its numbers say so. Assumes nothing.
 use Prim.Native.Nat.{ℕ, min, ◌+◌, ◌*◌, ◌≤◌, ◌<◌}
 use mathlib.Core.Path.{◌≡◌, refl, ap, sym, ◌∙◌}
-use mathlib.Core.Bool.{Bool, true, false, cond, not, ◌&&◌, and-false}
+use mathlib.Core.Bool.{Bool, true, false, not, ◌&&◌, and-false}
 use mathlib.Core.List.{List}
 use mathlib.Core.Logic.{⊎_elim}
 use native.Mathlib.Omega.{arith}
@@ -68,7 +68,7 @@ differ_of raw i j e =
       one = eqb-true (field raw i 0) 2 (and_true_l k l kinds);
       two = eqb-true (field raw j 0) 2 (and_true_r k l kinds);
       same = eqb-true (field raw i 1) (field raw j 1) (and_true_l p (not q) rest);
-      counts = eqb-false (field raw i 2) (field raw j 2) (Tests.not_true q (and_true_r p (not q) rest));
+      counts = eqb-false (field raw i 2) (field raw j 2) (Tests.not-true q (and_true_r p (not q) rest));
     }
 
 of_differ : (raw : List ℕ) (i j : ℕ) → Differ raw i j → disagree raw i j ≡ true

@@ -1,5 +1,4 @@
 -- `lines::event_line` meets its contract, by the laws of a line that begins with `e`. Assumes nothing.
-use borrow.Author.Rules.{rules}
 use native.Mathlib.Omega.{arith}
 use borrow.Author.Tests.{not-true, not-false}
 use Rattle.lines.proofs.Event.{event_no_run, event_no_predicate, event_too_many, event_written}

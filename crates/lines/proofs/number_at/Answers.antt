@@ -1,9 +1,6 @@
-use borrow.Author.Rules.{rules}
 use native.Mathlib.Omega.{arith}
-use Prim.Native.Nat.{◌-◌}
-use lib.ListN.{length}
 use Rattle.lines.proofs.Opens.{none_past, none_first}
-use Rattle.lines.proofs.Begun.{Begun, begun_first, begun_more, begun_stops, begun_ends, begun_zero, begun_over}
+use Rattle.lines.proofs.Begun.{begun_first, begun_more, begun_stops, begun_ends, begun_zero, begun_over}
 use Rattle.lines.proofs.number_at.Goals as goal
 
 pub returns-then-line-at : goal.returns-then-line-at

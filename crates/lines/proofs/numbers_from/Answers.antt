@@ -1,9 +1,6 @@
-use borrow.Author.Rules.{rules}
 use native.Mathlib.Omega.{arith}
-use Prim.Native.Nat.{◌-◌}
-use lib.ListN.{length}
 use Rattle.lines.proofs.Run.{found_run, found_none}
-use Rattle.lines.proofs.Running.{Running, running_start, running_more, running_whole, running_gap, running_tenth, running_none}
+use Rattle.lines.proofs.Running.{running_start, running_more, running_whole, running_gap, running_tenth, running_none}
 use Rattle.lines.proofs.numbers_from.Goals as goal
 
 pub loop-i-init : goal.loop-i-init
@@ -23,11 +20,11 @@ returns-in_default c =
     (running_none
     c.loop-i.invariant
     (omega arith)
-    (rw c.enum_told-1.given.1 at c.number_at.ensures))
+    c.in_default.ensures)
 
 pub loop-i-smaller : goal.loop-i-smaller
 loop-i-smaller c =
-    let took = rw c.n-1.given.1 at c.number_at.ensures in
+    let took = c.in-Number.ensures in
     omega (arith, took.past, took.inside)
 
 pub loop-i-preserved : goal.loop-i-preserved
@@ -37,7 +34,7 @@ loop-i-preserved c =
     (omega arith)
     (omega arith)
     (omega arith)
-    (rw c.n-1.given.1 at c.number_at.ensures)
+    c.in-Number.ensures
 
 pub returns : goal.returns
 returns c = found_run (running_whole c.loop-i.invariant (omega arith))

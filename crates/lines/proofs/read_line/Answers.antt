@@ -1,5 +1,4 @@
 -- `lines::read_line` meets its contract: no line is empty, and the first byte says which part reads the line. Assumes nothing.
-use borrow.Author.Rules.{rules}
 use Rattle.lines.proofs.Text.{empty_none}
 use Rattle.lines.proofs.read_line.Goals as goal
 

@@ -1,5 +1,4 @@
 -- `lines::row_line` meets its contract, by the laws of a line that begins with `r`. Assumes nothing.
-use borrow.Author.Rules.{rules}
 use native.Mathlib.Omega.{arith}
 use borrow.Author.Tests.{not-true, not-false}
 use Rattle.lines.proofs.Row.{row_no_run, row_count, row_written}

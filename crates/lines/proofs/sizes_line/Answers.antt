@@ -1,7 +1,5 @@
 -- `lines::sizes_line` meets its contract, by the laws of a line that begins with a number. Assumes nothing.
-use borrow.Author.Rules.{rules}
 use native.Mathlib.Omega.{arith}
-use borrow.Author.Tests.{not-true, not-false}
 use Rattle.lines.proofs.Sizes.{sizes_no_number, sizes_no_run, sizes_count, sizes_large, sizes_written}
 use Rattle.lines.proofs.sizes_line.Goals as goal
 
@@ -9,39 +7,39 @@ pub returns-in_default : goal.returns-in_default
 returns-in_default c =
     sizes_no_number
     c.requires
-    (rw c.enum_told-1.given.1 at c.number_at.ensures)
+    c.in_default.ensures
 
 pub numbers_from-rest-requires : goal.numbers_from-rest-requires
-numbers_from-rest-requires c = (rw c.k-1.given.1 at c.number_at.ensures).inside
+numbers_from-rest-requires c = c.in-Number.ensures.inside
 
 pub returns-then-not-rest : goal.returns-then-not-rest
 returns-then-not-rest c =
     sizes_no_run
     c.requires
-    (rw c.k-1.given.1 at c.number_at.ensures)
-    (c.numbers_from-rest.ensures.none (not-true _ c.if-not-rest.true-raw))
+    c.in-Number.ensures
+    (c.numbers_from-rest.ensures.none c.if-not-rest.true)
 
 pub returns-then-rest-ne1 : goal.returns-then-rest-ne1
 returns-then-rest-ne1 c =
     sizes_count
     c.requires
-    (rw c.k-1.given.1 at c.number_at.ensures)
-    (c.numbers_from-rest.ensures.run (not-false _ c.if-not-rest.false-raw))
+    c.in-Number.ensures
+    (c.numbers_from-rest.ensures.run c.if-not-rest.false)
     (omega arith)
 
 pub returns-then-c-gt512 : goal.returns-then-c-gt512
 returns-then-c-gt512 c =
     sizes_large
     c.requires
-    (rw c.k-1.given.1 at c.number_at.ensures)
-    (c.numbers_from-rest.ensures.run (not-false _ c.if-not-rest.false-raw))
+    c.in-Number.ensures
+    (c.numbers_from-rest.ensures.run c.if-not-rest.false)
     (omega arith)
     (omega arith)
 
 pub returns : goal.returns
 returns c =
     sizes_written
-    (rw c.k-1.given.1 at c.number_at.ensures)
-    (c.numbers_from-rest.ensures.run (not-false _ c.if-not-rest.false-raw))
+    c.in-Number.ensures
+    (c.numbers_from-rest.ensures.run c.if-not-rest.false)
     (omega arith)
     (omega arith)

@@ -1,13 +1,8 @@
-use Prim.Native.Nat.{ℕ, ◌-◌, ◌≤◌, ◌<◌}
-use mathlib.Core.Path.{◌≡◌, refl, sym, ◌∙◌}
-use mathlib.Core.Bool.{true}
+use mathlib.Core.Path.{refl, sym, ◌∙◌}
 use native.Mathlib.Omega.{arith}
-use lib.ListN.{length, get_or, length-map}
 use borrow.Author.Count.{below_more}
 use borrow.Author.Tests.{not-true, not-false}
-use Rattle.meaning.specs.Rows.{rule_of}
-use Rattle.meaning.specs.Outcome.{fact_right}
-use Rattle.rule.proofs.AgreesLaws.{no_fact, event_high, event_wrong, event_right}
+use Rattle.rule.proofs.AgreesLaws.{event_high, event_wrong, event_right}
 use Rattle.rule.proofs.agrees.Goals as goal
 
 pub returns-then-event-gt8 : goal.returns-then-event-gt8
@@ -16,7 +11,7 @@ returns-then-event-gt8 c = event_high _ _ (omega arith)
 pub loop-i-init : goal.loop-i-init
 loop-i-init c =
     let s = c in
-    (omega arith, omega arith, sym (length-map s.args.event.facts _) ∙ s.well-formed.1.0.1.1.1.0.1.0.1, λ j h. absurd (omega arith))
+    (omega arith, omega arith, omega arith, λ j h. absurd (omega arith))
 
 pub fact_agrees-requires : goal.fact_agrees-requires
 fact_agrees-requires c = tt

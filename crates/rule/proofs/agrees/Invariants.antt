@@ -1,14 +1,11 @@
 -- `rule::agrees` meets its contract. The loop keeps that the facts before i are right; the facts left are the measure. Assumes nothing.
 use Prim.Native.Nat.{ℕ, ◌-◌, ◌≤◌, ◌<◌}
-use mathlib.Core.Path.{◌≡◌, refl, sym, ◌∙◌}
+use mathlib.Core.Path.{◌≡◌}
 use mathlib.Core.Bool.{true}
-use native.Mathlib.Omega.{arith}
-use lib.ListN.{length, get_or, length-map}
-use borrow.Author.Count.{below_more}
-use borrow.Author.Tests.{not-true, not-false}
+use lib.ListN.{length, get_or}
 use Rattle.meaning.specs.Rows.{rule_of}
 use Rattle.meaning.specs.Outcome.{fact_right}
-use Rattle.rule.proofs.AgreesLaws.{no_fact, event_high, event_wrong, event_right}
+use Rattle.rule.proofs.AgreesLaws.{no_fact}
 use Rattle.rule.proofs.agrees.Given as goal
 
 abbrev pub invariant-loop-i : goal.invariant-loop-i

@@ -1,10 +1,8 @@
-use Prim.Native.Nat.{◌-◌, ◌/◌, ◌%◌, ◌≤◌, ◌<◌}
-use mathlib.Core.Path.{◌≡◌, refl, sym, ◌∙◌}
+use mathlib.Core.Path.{refl, sym, ◌∙◌}
 use native.Mathlib.Omega.{arith}
-use lib.ListN.{length}
 use borrow.Author.Tests.{not-true, not-false}
 use Rattle.meaning.specs.Rows.{count_of_rows}
-use Rattle.rule.proofs.CheckingLaws.{shaped, Walked, walk_start, walk_more, walk_all, agreed, fault_row, fault_count, parts_left, no_rows, many_rows, found_fault, found_open, found_right}
+use Rattle.rule.proofs.CheckingLaws.{shaped, walk_start, walk_more, walk_all, agreed, fault_row, fault_count, parts_left, no_rows, many_rows, found_fault, found_open, found_right}
 use Rattle.rule.proofs.check.Goals as goal
 
 pub returns-then-rows-ne0 : goal.returns-then-rows-ne0
@@ -25,7 +23,7 @@ pub returns-then-not-row_right : goal.returns-then-not-row_right
 unfolding count_of_rows
 returns-then-not-row_right c =
     rw c.refused-then-not-row_right.ensures (found_fault _ (shaped _ _ c.loop-i.invariant.0 c.loop-i.invariant.1 c.loop-i.invariant.2 c.loop-i.invariant.3) _ (omega arith) c.loop-i.invariant.5.none
-    (fault_row _ _ (sym c.row_right_law.ensures ∙ not-true _ c.if-not-row_right.true-raw)))
+    (fault_row _ _ (sym c.row_right.ensures ∙ not-true _ c.if-not-row_right.true-raw)))
 
 pub counts_agree-requires : goal.counts_agree-requires
 counts_agree-requires c = (omega arith, λ j h. agreed _ j (c.loop-i.invariant.5.none j h))
@@ -49,8 +47,8 @@ loop-i-preserved c =
       l.invariant.3,
       omega arith,
       walk_more _ _ _ _ l.invariant.5 (omega arith) (omega arith)
-          (sym c.row_right_law.ensures ∙ not-false _ c.if-not-row_right.false-raw) (sym c.counts_agree.ensures ∙ not-false _ c.if-not-counts_agree.false-raw)
-          (rw c.row_at_law.ensures.says at c.of_row-m.ensures),
+          (sym c.row_right.ensures ∙ not-false _ c.if-not-row_right.false-raw) (sym c.counts_agree.ensures ∙ not-false _ c.if-not-counts_agree.false-raw)
+          (rw c.row_at.ensures.says at c.of_row-m.ensures),
     )
 
 pub returns-then-free-n-ne0 : goal.returns-then-free-n-ne0

@@ -1,11 +1,8 @@
 -- `rule::check` meets its contract. The loop keeps that no row before i is a fault and that their masks are right; the rows left are the measure. Assumes nothing.
 use Prim.Native.Nat.{◌-◌, ◌/◌, ◌%◌, ◌≤◌, ◌<◌}
-use mathlib.Core.Path.{◌≡◌, refl, sym, ◌∙◌}
-use native.Mathlib.Omega.{arith}
+use mathlib.Core.Path.{◌≡◌}
 use lib.ListN.{length}
-use borrow.Author.Tests.{not-true, not-false}
-use Rattle.meaning.specs.Rows.{count_of_rows}
-use Rattle.rule.proofs.CheckingLaws.{shaped, Walked, walk_start, walk_more, walk_all, agreed, fault_row, fault_count, parts_left, no_rows, many_rows, found_fault, found_open, found_right}
+use Rattle.rule.proofs.CheckingLaws.{Walked}
 use Rattle.rule.proofs.check.Given as goal
 
 abbrev pub invariant-loop-i : goal.invariant-loop-i

@@ -1,11 +1,7 @@
-use Prim.Native.Nat.{ℕ, ◌-◌, ◌/◌, ◌≤◌, ◌<◌}
-use mathlib.Core.Bool.{false}
-use mathlib.Core.Path.{◌≡◌, refl, sym, ◌∙◌}
+use mathlib.Core.Path.{refl, sym, ◌∙◌}
 use native.Mathlib.Omega.{arith}
-use lib.ListN.{length}
 use borrow.Author.Count.{below_more}
 use Rattle.meaning.specs.Rows.{count_of_rows}
-use Rattle.rule.specs.Checking.{other_count}
 use Rattle.rule.proofs.AgreesLaws.{counts_high, counts_other, counts_right}
 use Rattle.rule.proofs.fact_agrees.Goals as goal
 
@@ -17,12 +13,12 @@ loop-i-init c = (refl, omega arith, omega arith, λ j h. absurd (omega arith))
 
 pub returns-then-other_count : goal.returns-then-other_count
 unfolding count_of_rows
-returns-then-other_count c = counts_other _ _ _ _ (omega arith) (sym c.other_count_law.ensures ∙ c.if-other_count.true)
+returns-then-other_count c = counts_other _ _ _ _ (omega arith) (sym c.other_count.ensures ∙ c.if-other_count.true)
 
 pub loop-i-preserved : goal.loop-i-preserved
 loop-i-preserved c =
     let s = c in
-    (s.loop-i.invariant.0, omega arith, s.loop-i.invariant.2, below_more _ _ s.loop-i.invariant.3 (sym c.other_count_law.ensures ∙ c.if-other_count.false))
+    (s.loop-i.invariant.0, omega arith, s.loop-i.invariant.2, below_more _ _ s.loop-i.invariant.3 (sym c.other_count.ensures ∙ c.if-other_count.false))
 
 pub returns : goal.returns
 unfolding count_of_rows

@@ -1,13 +1,9 @@
 -- `rule::fact_agrees` meets its contract. The loop keeps that no row before i is an atom of the predicate with another count; the rows left are the measure. Assumes nothing.
 use Prim.Native.Nat.{ℕ, ◌-◌, ◌/◌, ◌≤◌, ◌<◌}
 use mathlib.Core.Bool.{false}
-use mathlib.Core.Path.{◌≡◌, refl, sym, ◌∙◌}
-use native.Mathlib.Omega.{arith}
+use mathlib.Core.Path.{◌≡◌}
 use lib.ListN.{length}
-use borrow.Author.Count.{below_more}
-use Rattle.meaning.specs.Rows.{count_of_rows}
 use Rattle.rule.specs.Checking.{other_count}
-use Rattle.rule.proofs.AgreesLaws.{counts_high, counts_other, counts_right}
 use Rattle.rule.proofs.fact_agrees.Given as goal
 
 abbrev pub invariant-loop-i : goal.invariant-loop-i

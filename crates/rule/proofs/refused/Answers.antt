@@ -1,6 +1,5 @@
 -- `rule::refused` meets its contract: the rule made is the one of a fault. Assumes nothing.
 use mathlib.Core.Path.{refl}
-use borrow.Author.Rules.{rules}
 use Rattle.rule.specs.Checking.{refused_at}
 use Rattle.rule.proofs.refused.Goals as goal
 

@@ -15,68 +15,6 @@ use borrow.Author.Rules.{rules}
 use Prim.Native.Nat.{ℕ, ◌<◌}
 use Rattle.walks.proofs.+drop_walk.Goals as goal
 
-abbrev μ : Measures 2 kinds.ps ℕ
-μ κs a = a.1.1.1.1.1.1.0
-
-abbrev now-at : ℕ → In 2 kinds.ps
-now-at t = and 2 kinds.ps (is 2 kinds.ps μ t) own.Pre
-
-abbrev below : ℕ → In 2 kinds.ps
-below t = and 2 kinds.ps (falls 2 kinds.ps ◌<◌ μ t) own.Pre
-
--- the calls, at the measure t
-module _ (t : ℕ) where
-
-abbrev calls : lts.Claims
-calls = (read-reads.Asked, read-reads.Learnt, since-walk-reads.Asked, since-walk-reads.Learnt, spot-reads.Asked, spot-reads.Learnt, recall-reads.Asked, recall-reads.Learnt, below t, own.Post, keep-reads.Asked, keep-reads.Learnt)
-
-abbrev start : lts.After-read calls (now-at t) own.Post → lts.Start calls (now-at t) own.Post
-start c = c
-
--- what the node gives
-abbrev stepped : (c : lts.After-read calls (now-at t) own.Post)
-    → let a = (start c).args in
-    let x = c.read-x.result in
-    Step a.nodes.now a.n a.levels a.left a.p x.level x.low x.high
-stepped c = steps (start c).requires.1.1.0 (start c).requires.1.1.1 c.read-x.ensures
-
--- what is left to do before the level is reached
-abbrev early : (c : lts.Else3 calls (now-at t) own.Post)
-    → let at_split = c in
-    let a = (start at_split).args in
-    let x = at_split.read-x.result in
-    let ts = trees_of a.nodes.now a.n in
-    drop_t a.levels a.v (at ts a.p) ≡ mk x.level (drop_t a.levels a.v (at ts x.low)) (drop_t a.levels a.v (at ts x.high))
-early c =
-    let a = (start c).args in
-    drop_node a.levels a.v (stepped c) (omega (arith, c.if-x-v.false, c.if-v-x.false))
-
--- what the low side gives, and the high side
-low-done : (c : lts.After-n1 calls (now-at t) own.Post)
-    → let after = c in
-    let at_split = after in
-    let a = (start at_split).args in
-    let x = at_split.read-x.result in
-    let v = c.n1-1.given.0 in
-    Grown a.nodes.now after.drop_walk.new.0 a.n v.0 v.1.0 (drop_t a.levels a.v (at (trees_of a.nodes.now a.n) x.low))
-    × Remembered a.work.now after.drop_walk.new.0 v.0 a.levels after.drop_walk.new.1.0 a.c a.slots
-low-done c = rw c.n1-1.given.1 at c.drop_walk.ensures
-
-high-done : (c : lts.After-n2 calls (now-at t) own.Post)
-    → let after2 = c in
-    let at-n1 = after2 in
-    let after = at-n1 in
-    let at_split = after in
-    let a = (start at_split).args in
-    let x = at_split.read.result in
-    let v = c.n2-1.given.0 in
-    Grown after.drop-walk.new.0 after2.drop_walk-2.new.0 at-n1.n1.given.0.0 v.0 v.1.0 (drop_t a.levels a.v (at (trees_of a.nodes.now a.n) x.high))
-    × Remembered after.drop-walk.new.1.0 after2.drop_walk-2.new.0 v.0 a.levels after2.drop_walk-2.new.1.0 a.c a.slots
-high-done c =
-    let after2 = c in
-    let at-n1 = after2 in
-    rw (c.n2-1.given.1, kept (low-done at-n1).0 _ (stepped at-n1).high.below) at after2.drop_walk-2.ensures
-
 pub returns-then-p-lt2 : goal.returns-then-p-lt2
 returns-then-p-lt2 t c =
     let s = c in

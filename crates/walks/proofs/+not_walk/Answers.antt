@@ -14,60 +14,6 @@ use borrow.Author.Rules.{rules}
 use Prim.Native.Nat.{ℕ, ◌-◌, ◌<◌}
 use Rattle.walks.proofs.+not_walk.Goals as goal
 
-abbrev μ : Measures 2 kinds.ps ℕ
-μ κs a = a.1.1.1.1.1.1.0
-
-abbrev now-at : ℕ → In 2 kinds.ps
-now-at t = and 2 kinds.ps (is 2 kinds.ps μ t) own.Pre
-
-abbrev below : ℕ → In 2 kinds.ps
-below t = and 2 kinds.ps (falls 2 kinds.ps ◌<◌ μ t) own.Pre
-
--- the calls, at the measure t
-module _ (t : ℕ) where
-abbrev calls : lts.Claims
-calls = (read-reads.Asked, read-reads.Learnt, below t, own.Post, keep-not-reads.Asked, keep-not-reads.Learnt)
-
-abbrev start : lts.After-read calls (now-at t) own.Post → lts.Start calls (now-at t) own.Post
-start c = c
-
--- what the node gives
-abbrev stepped : (c : lts.After-read calls (now-at t) own.Post)
-    → let a = (start c).args in
-    let x = c.read-x.result in
-    Step a.nodes.now a.n a.levels a.left a.p x.level x.low x.high
-stepped c = steps (start c).requires.1.1.0 (start c).requires.1.1.1 c.read-x.ensures
-
--- what the low side gives, and the high side
-low-done : (c : lts.After-n1 calls (now-at t) own.Post)
-    → let after = c in
-    let a = (start after).args in
-    let x = after.read-x.result in
-    let v = c.n1-1.given.0 in
-    Complemented a.nodes.now after.not_walk.new.0 a.n a.levels (a.left - 1) x.low a.work.now after.not_walk.new.1.0 a.c a.slots (At v.0 v.1.0 v.1.1.0)
-low-done c = rw c.n1-1.given.1 at c.not_walk.ensures
-
-high-done : (c : lts.After-n2 calls (now-at t) own.Post)
-    → let after2 = c in
-    let at-n1 = after2 in
-    let after = at-n1 in
-    let a = (start after).args in
-    let x = after.read.result in
-    let v = c.n2-1.given.0 in
-    Complemented after.not-walk.new.0 after2.not_walk-2.new.0 at-n1.n1.given.0.0 a.levels (a.left - 1) x.high after.not-walk.new.1.0 after2.not_walk-2.new.1.0 a.c a.slots (At v.0 v.1.0 v.1.1.0)
-high-done c = rw c.n2-1.given.1 at c.not_walk-2.ensures
-
--- the high side's complement, as it stands in the table of before
-high-grown : (c : lts.After-n2 calls (now-at t) own.Post)
-    → let after2 = c in
-    let at-n1 = after2 in
-    let after = at-n1 in
-    let a = (start after).args in
-    let x = after.read.result in
-    let v = c.n2-1.given.0 in
-    Grown after.not-walk.new.0 after2.not_walk-2.new.0 at-n1.n1.given.0.0 v.0 v.1.0 (not_t a.levels (at (trees_of a.nodes.now a.n) x.high))
-high-grown c = rw (kept (low-done c).0 _ (stepped c).high.below) at (high-done c).0
-
 pub returns-then-p-lt2 : goal.returns-then-p-lt2
 returns-then-p-lt2 t c = complement_leaf c.requires.left_le_levels.0 _ _ c.if-p-lt2.true
 

@@ -2,15 +2,14 @@
 use mathlib.Core.Path.{refl}
 use Rattle.nodes.proofs.ReadLaws.{stays}
 use Rattle.making.proofs.NodesLaws.{shelved_same}
-use borrow.Author.Rules.{rules}
 use Rattle.making.proofs.into.place_over.Goals as goal
 
 pub returns-in-Any : goal.returns-in-Any
 returns-in-Any c =
     let s = c in
-    rw c.enum_told-1.given.1 (stays _ _ _ _ s.requires.shelf.table s.requires.p_bound.1 refl, shelved_same s.requires.shelf)
+    rw c.in-Any.is (stays _ _ _ _ s.requires.shelf.table s.requires.p_bound.1 refl, shelved_same s.requires.shelf)
 
 pub returns-in-Is : goal.returns-in-Is
 returns-in-Is c =
     let done = c in
-    rw done.place-1.given.1 done.bits_over.ensures
+    rw done.in-Is.is done.bits_over.ensures

@@ -1,7 +1,6 @@
 -- `note` meets its contract. Assumes nothing.
 use native.Mathlib.Omega.{arith}
 use lib.ListN.{length-set}
-use borrow.Author.Rules.{rules}
 use Rattle.making.proofs.memory.note.Goals as goal
 
 pub bounds-work-i-2 : goal.bounds-work-i-2

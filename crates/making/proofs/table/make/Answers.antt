@@ -3,7 +3,6 @@ use native.Mathlib.Omega.{arith}
 use lib.ListN.{length-set}
 use Rattle.nodes.proofs.ReadLaws.{grown_ref}
 use Rattle.making.proofs.NodesLaws.{make_side, make_walk, make_found, make_stuck, make_new}
-use borrow.Author.Rules.{rules}
 use Rattle.making.proofs.table.make.Goals as goal
 
 pub returns-then-low-high : goal.returns-then-low-high

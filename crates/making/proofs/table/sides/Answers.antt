@@ -1,5 +1,4 @@
 -- `sides` meets its contract. Assumes nothing.
-use borrow.Author.Rules.{rules}
 use Rattle.making.proofs.SideLaws.{sides_leaf, sides_later, sides_own}
 use Rattle.making.proofs.table.sides.Goals as goal
 

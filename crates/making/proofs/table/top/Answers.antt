@@ -1,5 +1,4 @@
 -- `top` meets its contract. Assumes nothing.
-use borrow.Author.Rules.{rules}
 use Rattle.making.proofs.SideLaws.{top_leaf, top_node}
 use Rattle.making.proofs.table.top.Goals as goal
 

@@ -3,7 +3,6 @@ use Prim.Native.Nat.{◌≤◌}
 use mathlib.Core.Path.{sym}
 use native.Mathlib.Omega.{arith}
 use lib.ListN.{length, get_or-eq_default}
-use borrow.Author.Rules.{rules}
 use Rattle.rule.specs.Masks.{mask_of, digit, has_bit}
 use Rattle.rule.proofs.MasksLaws.{mask_has}
 use Rattle.rule.proofs.masks.at.Goals as goal

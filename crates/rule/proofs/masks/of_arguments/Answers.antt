@@ -1,6 +1,5 @@
 -- `rule::masks::of_arguments` meets its contract: the masks of the arguments that the count takes, joined. Assumes nothing.
 use native.Mathlib.Omega.{arith}
-use borrow.Author.Rules.{rules}
 use Rattle.meaning.specs.Qtl.{free_arguments}
 use Rattle.rule.specs.Masks.{mask_of, digit}
 use Rattle.rule.specs.Decoded.{argument_of}

@@ -2,7 +2,6 @@
 use native.Mathlib.Omega.{arith}
 use lib.Dec.{eqb}
 use Rattle.rule.proofs.MasksLaws.{mask_and, mask_small}
-use borrow.Author.Rules.{rules}
 use Rattle.rule.proofs.masks.without.Goals as goal
 
 pub overflow_sub-result : goal.overflow_sub-result

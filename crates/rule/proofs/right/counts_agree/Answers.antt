@@ -1,11 +1,8 @@
-use Prim.Native.Nat.{ℕ, ◌-◌, ◌≤◌, ◌<◌}
+use Prim.Native.Nat.{◌-◌}
 use mathlib.Core.Path.{◌≡◌, sym, ◌∙◌}
-use mathlib.Core.Bool.{false}
 use mathlib.Core.Logic.{⊎_elim}
 use native.Mathlib.Nat.{eq-or-lt_of_le}
 use native.Mathlib.Omega.{arith}
-use borrow.Author.Rules.{rules}
-use Rattle.rule.specs.Checking.{atom_of}
 use Rattle.rule.proofs.RightLaws.{no_atom, first_atom, nearest_atom}
 use Rattle.rule.proofs.right.counts_agree.Goals as goal
 

@@ -1,14 +1,9 @@
 -- `rule::right::counts_agree` meets its contract. The loop's invariant: no row from j on, before the row at place i, is an atom of its predicate. The
 -- measure is j. Assumes nothing.
-use Prim.Native.Nat.{ℕ, ◌-◌, ◌≤◌, ◌<◌}
-use mathlib.Core.Path.{◌≡◌, sym, ◌∙◌}
+use Prim.Native.Nat.{ℕ, ◌≤◌, ◌<◌}
+use mathlib.Core.Path.{◌≡◌}
 use mathlib.Core.Bool.{false}
-use mathlib.Core.Logic.{⊎_elim}
-use native.Mathlib.Nat.{eq-or-lt_of_le}
-use native.Mathlib.Omega.{arith}
-use borrow.Author.Rules.{rules}
 use Rattle.rule.specs.Checking.{atom_of}
-use Rattle.rule.proofs.RightLaws.{no_atom, first_atom, nearest_atom}
 use Rattle.rule.proofs.right.counts_agree.Given as goal
 
 abbrev pub invariant-loop-j : goal.invariant-loop-j

@@ -1,7 +1,6 @@
 -- `rule::right::is_atom_of` meets its contract: each return by the tests that led there. Assumes nothing.
 use borrow.Author.Tests.{eq-eqb, ne_eqb}
 use Rattle.rule.specs.Checking.{atom_of}
-use borrow.Author.Rules.{rules}
 use Rattle.rule.proofs.right.is_atom_of.Goals as goal
 
 pub returns-then-field_of-ne2 : goal.returns-then-field_of-ne2

@@ -4,7 +4,6 @@ use mathlib.Core.Path.{◌≡◌, refl, sym, ◌∙◌}
 use native.Mathlib.Omega.{arith}
 use borrow.Author.Tests.{not-true, not-false}
 use Rattle.rule.proofs.RightLaws.{other_parts}
-use borrow.Author.Rules.{rules}
 use Rattle.rule.proofs.right.other_count.Goals as goal
 
 pub returns-then-not-is_atom_of : goal.returns-then-not-is_atom_of

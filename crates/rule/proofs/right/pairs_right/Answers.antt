@@ -1,7 +1,6 @@
 -- `rule::right::pairs_right` meets its contract: the three pairs, one after the other. Assumes nothing.
 use mathlib.Core.Path.{refl, sym, ◌∙◌}
 use borrow.Author.Tests.{not-true, not-false}
-use borrow.Author.Rules.{rules}
 use Rattle.rule.proofs.RightLaws.{pair_read, pairs_are}
 use Rattle.rule.proofs.right.pairs_right.Goals as goal
 

@@ -1,6 +1,5 @@
 -- `rule::right::pairs_used` meets its contract: by the code of the pairs. Assumes nothing.
 use mathlib.Core.Path.{sym, ◌∙◌}
-use borrow.Author.Rules.{rules}
 use native.Mathlib.Omega.{arith}
 use Rattle.rule.proofs.TableLaws.{pairs_unused, pairs_used}
 use Rattle.rule.proofs.right.pairs_used.Goals as goal

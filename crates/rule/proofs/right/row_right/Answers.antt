@@ -2,7 +2,6 @@
 use mathlib.Core.Path.{refl, sym, ◌∙◌}
 use native.Mathlib.Omega.{arith}
 use borrow.Author.Tests.{not-true, not-false}
-use borrow.Author.Rules.{rules}
 use Rattle.rule.proofs.RightLaws.{field_read, row_low, row_high, row_parts}
 use Rattle.rule.proofs.right.row_right.Goals as goal
 

@@ -1,6 +1,5 @@
 -- `rule::right::use_of` meets its contract: the constant is the table of specs/Table. Assumes nothing.
 use mathlib.Core.Path.{refl}
-use borrow.Author.Rules.{rules}
 use Rattle.rule.specs.Table.{table, code_of}
 use Rattle.rule.proofs.right.use_of.Goals as goal
 
