@@ -10,7 +10,7 @@ use lib.Dec.{eqb}
 use lib.ListN.{length, get_or, set, length-set}
 use lib.Seq.{get_or-set_same, get_or-set_other}
 use Rattle.trees.specs.Bits.{bit}
-use Rattle.trees.specs.Tree.{Tree, node}
+use Rattle.trees.specs.Tree.{Tree}
 use Rattle.trees.specs.Table.{at, trees_of}
 use Rattle.nodes.specs.Nodes.{Table, Splits}
 use Rattle.nodes.proofs.ReadLaws.{read_below}

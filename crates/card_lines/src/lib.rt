@@ -6,7 +6,10 @@ mod parsing; // parsing.rt: numbers and facts of a line
 
 use crate::parsing::{Parsed, Token, fact_from, number_at};
 use card_records::Fact;
-use card_text::{fail, say, say_number};
+use card_text::{create, fail, say, say_number, unlink, write_all};
+use std::fs::File;
+use std::io::{Read, Stderr, Stdin};
+use std::rt::Files;
 
 // The block under way: its number, the count of its records, the count of lines, the count of bytes of the line that is held, and whether all
 // went well.
@@ -21,30 +24,30 @@ struct Sheet {
 }
 
 // The sheet where something is wrong: what, and in which line.
-fn refused(s: Sheet, what: &[u8]) -> Sheet {
-    say(b"card: line ");
-    say_number(s.line);
-    say(what);
+fn refused(stderr: Stderr, s: Sheet, what: &[u8]) -> Sheet {
+    say(stderr, b"card: line ");
+    say_number(stderr, s.line);
+    say(stderr, what);
     let mut r = s;
     r.good = false;
     r
 }
 
 // Ends the block and writes it.
-fn write_block(fd: i32, block: &mut [u8; 512]) -> bool {
+fn write_block(to: &mut File, block: &mut [u8; 512]) -> bool {
     card_writer::end_block(block);
-    io::write_all(fd, block)
+    write_all(to, block)
 }
 
 // One record more in a block that has room.
-fn add_in(block: &mut [u8; 512], s: Sheet, f: Fact) -> Sheet {
+fn add_in(stderr: Stderr, block: &mut [u8; 512], s: Sheet, f: Fact) -> Sheet {
     let i = s.records;
     if 21 <= i {
-        return refused(s, b": the card cannot be written\n");
+        return refused(stderr, s, b": the card cannot be written\n");
     }
     let number = s.number;
     if 4294967295 < number {
-        return refused(s, b": the card has more than 2^32 blocks\n");
+        return refused(stderr, s, b": the card has more than 2^32 blocks\n");
     }
     let mut r = s;
     r.records = i + 1;
@@ -58,22 +61,23 @@ fn add_in(block: &mut [u8; 512], s: Sheet, f: Fact) -> Sheet {
 }
 
 // One record more; a block with 21 is written first.
-fn add(fd: i32, block: &mut [u8; 512], s: Sheet, f: Fact) -> Sheet {
+fn add(to: &mut File, stderr: Stderr, block: &mut [u8; 512], s: Sheet, f: Fact) -> Sheet {
     if s.records < 21 {
-        return add_in(block, s, f);
+        return add_in(stderr, block, s, f);
     }
-    if !write_block(fd, block) {
-        return refused(s, b": the card cannot be written\n");
+    if !write_block(to, block) {
+        return refused(stderr, s, b": the card cannot be written\n");
     }
     let mut r = s;
     r.records = 0;
-    r.number = std::num::wrapping_add_u64(s.number, 1);
-    add_in(block, r, f)
+    r.number = s.number.wrapping_add(1);
+    add_in(stderr, block, r, f)
 }
 
 // The facts of a moment, from the place past its stamp on: 1 to 8.
 fn add_facts(
-    fd: i32,
+    to: &mut File,
+    stderr: Stderr,
     line: &[u8],
     from: usize,
     stamp: u32,
@@ -85,9 +89,9 @@ fn add_facts(
     let mut left: usize = 8;
     while 0 < left {
         let Parsed::Fact(f, next) = fact_from(line, at, stamp) else {
-            return refused(s, b" is no moment\n");
+            return refused(stderr, s, b" is no moment\n");
         };
-        s = add(fd, block, s, f);
+        s = add(to, stderr, block, s, f);
         if !s.good {
             return s;
         }
@@ -97,50 +101,63 @@ fn add_facts(
         at = next;
         left -= 1;
     }
-    refused(s, b" has more than 8 facts\n")
+    refused(stderr, s, b" has more than 8 facts\n")
 }
 
 // A line: a stamp, a colon and a space, and the facts.
-fn add_line(fd: i32, line: &[u8], block: &mut [u8; 512], s: Sheet) -> Sheet {
+fn add_line(to: &mut File, stderr: Stderr, line: &[u8], block: &mut [u8; 512], s: Sheet) -> Sheet {
     let Token::Number(stamp, at) = number_at(line, 0) else {
-        return refused(s, b" is no moment\n");
+        return refused(stderr, s, b" is no moment\n");
     };
     if line.len() <= at {
-        return refused(s, b" is no moment\n");
+        return refused(stderr, s, b" is no moment\n");
     }
     if line[at] != b':' {
-        return refused(s, b" is no moment\n");
+        return refused(stderr, s, b" is no moment\n");
     }
     if line.len() - at < 3 {
-        return refused(s, b" is no moment\n");
+        return refused(stderr, s, b" is no moment\n");
     }
     if line[at + 1] != b' ' {
-        return refused(s, b" is no moment\n");
+        return refused(stderr, s, b" is no moment\n");
     }
-    add_facts(fd, line, at + 2, stamp, block, s)
+    add_facts(to, stderr, line, at + 2, stamp, block, s)
 }
 
 // The line that is held is whole.
-fn end_line(fd: i32, line: &[u8; 512], block: &mut [u8; 512], s: Sheet) -> Sheet {
+fn end_line(
+    to: &mut File,
+    stderr: Stderr,
+    line: &[u8; 512],
+    block: &mut [u8; 512],
+    s: Sheet,
+) -> Sheet {
     let all: &[u8] = line;
     let held = s.held;
     if 512 < held {
-        return refused(s, b" is too long\n");
+        return refused(stderr, s, b" is too long\n");
     }
-    let mut r = add_line(fd, &all[0..held], block, s);
+    let mut r = add_line(to, stderr, &all[0..held], block, s);
     r.held = 0;
-    r.line = std::num::wrapping_add_u64(r.line, 1);
+    r.line = r.line.wrapping_add(1);
     r
 }
 
 // One byte of the input.
-fn add_byte(fd: i32, b: u8, line: &mut [u8; 512], block: &mut [u8; 512], s: Sheet) -> Sheet {
+fn add_byte(
+    to: &mut File,
+    stderr: Stderr,
+    b: u8,
+    line: &mut [u8; 512],
+    block: &mut [u8; 512],
+    s: Sheet,
+) -> Sheet {
     if b == b'\n' {
-        return end_line(fd, line, block, s);
+        return end_line(to, stderr, line, block, s);
     }
     let held = s.held;
     if 512 <= held {
-        return refused(s, b" is too long\n");
+        return refused(stderr, s, b" is too long\n");
     }
     line[held] = b;
     let mut r = s;
@@ -150,7 +167,8 @@ fn add_byte(fd: i32, b: u8, line: &mut [u8; 512], block: &mut [u8; 512], s: Shee
 
 // A part of the input.
 fn add_part(
-    fd: i32,
+    to: &mut File,
+    stderr: Stderr,
     part: &[u8],
     line: &mut [u8; 512],
     block: &mut [u8; 512],
@@ -159,7 +177,7 @@ fn add_part(
     let mut s = first;
     let mut i: usize = 0;
     while i < part.len() {
-        s = add_byte(fd, part[i], line, block, s);
+        s = add_byte(to, stderr, part[i], line, block, s);
         if !s.good {
             return s;
         }
@@ -169,10 +187,16 @@ fn add_part(
 }
 
 // What is left at the end of the input: a line without its line end, and a block that is not full.
-fn add_end(fd: i32, line: &[u8; 512], block: &mut [u8; 512], first: Sheet) -> Sheet {
+fn add_end(
+    to: &mut File,
+    stderr: Stderr,
+    line: &[u8; 512],
+    block: &mut [u8; 512],
+    first: Sheet,
+) -> Sheet {
     let mut s = first;
     if s.held != 0 {
-        s = end_line(fd, line, block, s);
+        s = end_line(to, stderr, line, block, s);
     }
     s.more = false;
     if !s.good {
@@ -181,28 +205,33 @@ fn add_end(fd: i32, line: &[u8; 512], block: &mut [u8; 512], first: Sheet) -> Sh
     if s.records == 0 {
         return s;
     }
-    if write_block(fd, block) {
+    if write_block(to, block) {
         return s;
     }
-    refused(s, b": the card cannot be written\n")
+    refused(stderr, s, b": the card cannot be written\n")
 }
 
 // The next part of the input.
-fn add_some(fd: i32, line: &mut [u8; 512], block: &mut [u8; 512], s: Sheet) -> Sheet {
-    let mut part = io::large_buffer();
-    let got = libc::read(libc::STDIN_FILENO, &mut part);
-    if got < 0 {
-        return refused(s, b": standard input cannot be read\n");
+fn add_some(
+    mut stdin: Stdin,
+    to: &mut File,
+    stderr: Stderr,
+    line: &mut [u8; 512],
+    block: &mut [u8; 512],
+    s: Sheet,
+) -> Sheet {
+    let mut part = [0u8; 65536];
+    let Ok(n) = stdin.read(&mut part) else {
+        return refused(stderr, s, b": standard input cannot be read\n");
+    };
+    if n == 0 {
+        return add_end(to, stderr, line, block, s);
     }
-    if got == 0 {
-        return add_end(fd, line, block, s);
-    }
-    let n = io::count(got, &part);
-    add_part(fd, &part[..n], line, block, s)
+    add_part(to, stderr, &part[..n], line, block, s)
 }
 
 // The whole input.
-fn write_all(fd: i32) -> bool {
+fn write_lines(stdin: Stdin, to: &mut File, stderr: Stderr) -> bool {
     let mut line = [0u8; 512];
     let mut block = [0u8; 512];
     let mut s = Sheet {
@@ -221,29 +250,39 @@ fn write_all(fd: i32) -> bool {
         if !s.more {
             return true;
         }
-        s = add_some(fd, &mut line, &mut block, s);
+        s = add_some(stdin, to, stderr, &mut line, &mut block, s);
         turns -= 1;
     }
     false
 }
 
-// Writes the card of this name.
-pub fn write(name: &[u8]) -> bool {
-    let fd = os::create(name);
-    if fd < 0 {
-        os::fail(name);
+// Writes the lines into the open file of this name; what is wrong is said.
+fn write_into(stdin: Stdin, to: &mut File, stderr: Stderr, name: &[u8]) -> bool {
+    if !write_lines(stdin, to, stderr) {
         return false;
     }
-    let good = write_all(fd);
-    let closed = libc::close(fd);
-    if !good {
-        os::unlink(name);
-        return false;
-    }
-    if closed == 0 {
+    // The system may tell only now that what was written found no room.
+    if to.sync_all().is_ok() {
         return true;
     }
-    fail(name, b" cannot be written\n");
-    os::unlink(name);
+    fail(stderr, name, b" cannot be written\n");
     false
+}
+
+// Writes the card of this name.
+pub fn write<R: Files<File = File>>(rt: &R, stdin: Stdin, stderr: Stderr, name: &[u8]) -> bool {
+    match create(rt, name) {
+        Err(why) => {
+            card_text::refused(stderr, name, why);
+            false
+        }
+        Ok(made) => {
+            let mut to = made;
+            if write_into(stdin, &mut to, stderr, name) {
+                return true;
+            }
+            let _ = unlink(rt, name);
+            false
+        }
+    }
 }

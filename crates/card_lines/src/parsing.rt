@@ -4,14 +4,14 @@ ghost use Rattle.std.specs.Prelude.{◌<◌};
 use card_records::Fact;
 
 // A number and the place past it, or no number.
-#[derive(Drop)]
+#[derive(Clone, Copy)]
 pub enum Token {
     Number(u32, usize),
     Nothing,
 }
 
 // A fact and the place past it, or none.
-#[derive(Drop)]
+#[derive(Clone, Copy)]
 pub enum Parsed {
     Fact(Fact, usize),
     Bad,

@@ -5,11 +5,18 @@
 use card_block::{Carried, Reason};
 use card_mender::looking::Looked;
 use card_mender::{Held, Weighed};
-use card_text::{fail, flush, progress, progress_end, put, put_byte, put_number};
+use card_text::{
+    create, fail, flush, open_read, progress, progress_end, put, put_byte, put_number, read_full,
+    refused, unlink, write_all,
+};
+use std::fs::File;
+use std::io::{Read, Stderr, Stdout};
+use std::os::unix::fs::FileExt;
+use std::rt::Files;
 
 // Mending under way: what is carried, whether the stretch has begun, the place of the next piece, the bytes of the list that wait, and whether
 // all went well.
-#[derive(Drop)]
+#[derive(Clone, Copy)]
 struct State {
     carried: Carried,
     begun: bool,
@@ -35,29 +42,27 @@ enum Look {
     Failed,
 }
 
-fn look_once(fd: i32, place: u64, carried: Carried) -> Look {
+fn look_once(file: &File, place: u64, carried: Carried) -> Look {
     if 1099511627776 <= place {
         return Look::End;
     }
     let mut piece = [0u8; 512];
-    let got = libc::pread(fd, &mut piece, (place * 512) as i64);
-    if got < 0 {
+    let Ok(n) = file.read_at(&mut piece, place * 512) else {
         return Look::Failed;
-    }
-    if got == 0 {
+    };
+    if n == 0 {
         return Look::End;
     }
-    let n = io::count(got, &piece);
     Look::At(card_mender::looking::look(&piece[..n], carried))
 }
 
 // Whether a flagged record comes from a piece of the file on, before a gap.
-fn flagged_ahead(fd: i32, from: u64, carried: Carried) -> Ahead {
+fn flagged_ahead(file: &File, from: u64, carried: Carried) -> Ahead {
     let mut carries = carried;
     let mut place = from;
     let mut turns = u64::MAX;
     while 0 < turns {
-        match look_once(fd, place, carries) {
+        match look_once(file, place, carries) {
             Look::Failed => {
                 return Ahead::Failed;
             }
@@ -76,19 +81,19 @@ fn flagged_ahead(fd: i32, from: u64, carried: Carried) -> Ahead {
                 }
             },
         }
-        place = std::num::wrapping_add_u64(place, 1);
+        place = place.wrapping_add(1);
         turns -= 1;
     }
     Ahead::Failed
 }
 
 // How far the records of a block stay, or 22 where the file cannot be read ahead.
-fn stay_to(fd: i32, place: u64, held: Held) -> usize {
+fn stay_to(file: &File, place: u64, held: Held) -> usize {
     if held.last == held.records {
         return held.records;
     }
     let carried = held.carried;
-    match flagged_ahead(fd, std::num::wrapping_add_u64(place, 1), carried) {
+    match flagged_ahead(file, place.wrapping_add(1), carried) {
         Ahead::Comes => held.records,
         Ahead::Ends => held.last,
         Ahead::Failed => 22,
@@ -113,7 +118,7 @@ fn list_gone(out: &mut [u8], from: usize, place: u64, why: Reason) -> usize {
 }
 
 // Writes a block with its records from one place up to another; false where that cannot be done.
-fn write_kept(to: i32, piece: &[u8], from: usize, end: usize) -> bool {
+fn write_kept(to: &mut File, piece: &[u8], from: usize, end: usize) -> bool {
     if piece.len() != 512 {
         return false;
     }
@@ -125,7 +130,7 @@ fn write_kept(to: i32, piece: &[u8], from: usize, end: usize) -> bool {
     }
     let mut block = [0u8; 512];
     card_mender::put_kept(piece, from, end, &mut block);
-    io::write_all(to, &block)
+    write_all(to, &block)
 }
 
 // The count of records that are dropped.
@@ -140,10 +145,17 @@ fn dropped(records: usize, from: usize, end: usize) -> u64 {
 }
 
 // One piece: weighed, written where it stays, and listed.
-fn mend_piece(fd: i32, to: i32, piece: &[u8], s: State, out: &mut [u8]) -> State {
+fn mend_piece(
+    file: &File,
+    to: &mut File,
+    stderr: Stderr,
+    piece: &[u8],
+    s: State,
+    out: &mut [u8],
+) -> State {
     let carried = s.carried;
-    let next = std::num::wrapping_add_u64(s.place, 1);
-    progress(s.place);
+    let next = s.place.wrapping_add(1);
+    progress(stderr, s.place);
     match card_mender::weigh(piece, carried, s.begun) {
         Weighed::Gone(why) => State {
             carried,
@@ -154,7 +166,7 @@ fn mend_piece(fd: i32, to: i32, piece: &[u8], s: State, out: &mut [u8]) -> State
             more: s.more,
         },
         Weighed::Kept(held) => {
-            let end = stay_to(fd, s.place, held);
+            let end = stay_to(file, s.place, held);
             let after = held.carried;
             let from = held.from;
             State {
@@ -176,12 +188,12 @@ fn mend_piece(fd: i32, to: i32, piece: &[u8], s: State, out: &mut [u8]) -> State
 }
 
 // The list is written out before its buffer is full.
-fn emptied(s: State, out: &[u8]) -> State {
+fn emptied(stdout: Stdout, stderr: Stderr, s: State, out: &[u8]) -> State {
     if s.at < 60000 {
         return s;
     }
     let carried = s.carried;
-    if flush(out, s.at) {
+    if flush(stdout, stderr, out, s.at) {
         return State {
             carried,
             begun: s.begun,
@@ -202,25 +214,40 @@ fn emptied(s: State, out: &[u8]) -> State {
 }
 
 // The pieces of a part of the file, up to the first that cannot be written.
-fn mend_pieces(fd: i32, to: i32, part: &[u8], first: State, out: &mut [u8]) -> State {
+fn mend_pieces(
+    file: &File,
+    to: &mut File,
+    stdout: Stdout,
+    stderr: Stderr,
+    part: &[u8],
+    first: State,
+    out: &mut [u8],
+) -> State {
     let mut s = first;
     let mut at: usize = 0;
     while at < part.len() {
         let end = card_block::end_of(part.len(), at);
-        s = mend_piece(fd, to, &part[at..end], s, out);
+        s = mend_piece(file, to, stderr, &part[at..end], s, out);
         if !s.good {
             return s;
         }
-        s = emptied(s, out);
+        s = emptied(stdout, stderr, s, out);
         at = end;
     }
     s
 }
 
 // The next part of the file.
-fn mend_some(fd: i32, to: i32, s: State, out: &mut [u8]) -> State {
-    let mut part = io::large_buffer();
-    let n = io::read_full(fd, &mut part);
+fn mend_some(
+    file: &mut File,
+    to: &mut File,
+    stdout: Stdout,
+    stderr: Stderr,
+    s: State,
+    out: &mut [u8],
+) -> State {
+    let mut part = [0u8; 65536];
+    let n = read_full(file, &mut part);
     if n == 0 {
         let mut one = [0u8; 1];
         let carried = s.carried;
@@ -229,15 +256,21 @@ fn mend_some(fd: i32, to: i32, s: State, out: &mut [u8]) -> State {
             begun: s.begun,
             place: s.place,
             at: s.at,
-            good: 0 <= libc::read(fd, &mut one),
+            good: file.read(&mut one).is_ok(),
             more: false,
         };
     }
-    mend_pieces(fd, to, &part[..n], s, out)
+    mend_pieces(file, to, stdout, stderr, &part[..n], s, out)
 }
 
 // All parts of the file; the list's last lines come at the end.
-fn mend_parts(fd: i32, to: i32, out: &mut [u8]) -> bool {
+fn mend_parts(
+    file: &mut File,
+    to: &mut File,
+    stdout: Stdout,
+    stderr: Stderr,
+    out: &mut [u8],
+) -> bool {
     let nothing = card_block::begun();
     let mut s = State {
         carried: nothing,
@@ -253,44 +286,75 @@ fn mend_parts(fd: i32, to: i32, out: &mut [u8]) -> bool {
             return false;
         }
         if !s.more {
-            return flush(out, s.at);
+            return flush(stdout, stderr, out, s.at);
         }
-        s = mend_some(fd, to, s, out);
+        s = mend_some(file, to, stdout, stderr, s, out);
         turns -= 1;
     }
     false
 }
 
 // The whole file.
-fn mend_all(fd: i32, to: i32) -> bool {
-    let mut out = io::large_buffer();
-    mend_parts(fd, to, &mut out)
+fn mend_all(file: &mut File, to: &mut File, stdout: Stdout, stderr: Stderr) -> bool {
+    let mut out = [0u8; 65536];
+    mend_parts(file, to, stdout, stderr, &mut out)
+}
+
+// Mends an open file into another; where that goes well, the mended card is in its place.
+fn mend_into(file: &mut File, to: &mut File, stdout: Stdout, stderr: Stderr) -> bool {
+    let good = mend_all(file, to, stdout, stderr);
+    progress_end(stderr);
+    // The system may tell only now that what was written found no room.
+    let kept = to.sync_all().is_ok();
+    good && kept
+}
+
+// Mends an open file into that of the name, which must not be there yet.
+fn mend_from<R: Files<File = File>>(
+    rt: &R,
+    file: &mut File,
+    stdout: Stdout,
+    stderr: Stderr,
+    from: &[u8],
+    into: &[u8],
+) -> bool {
+    match create(rt, into) {
+        Err(why) => {
+            refused(stderr, into, why);
+            false
+        }
+        Ok(made) => {
+            let mut to = made;
+            if mend_into(file, &mut to, stdout, stderr) {
+                return true;
+            }
+            fail(
+                stderr,
+                from,
+                b" cannot be mended: it must be a file that can be read twice, and the mended card must find room\n",
+            );
+            let _ = unlink(rt, into);
+            false
+        }
+    }
 }
 
 // Mends one file into another.
-pub fn mend(from: &[u8], into: &[u8]) -> bool {
-    let fd = os::open_read(from);
-    if fd < 0 {
-        os::fail(from);
-        return false;
+pub fn mend<R: Files<File = File>>(
+    rt: &R,
+    stdout: Stdout,
+    stderr: Stderr,
+    from: &[u8],
+    into: &[u8],
+) -> bool {
+    match open_read(rt, from) {
+        Err(why) => {
+            refused(stderr, from, why);
+            false
+        }
+        Ok(opened) => {
+            let mut file = opened;
+            mend_from(rt, &mut file, stdout, stderr, from, into)
+        }
     }
-    let to = os::create(into);
-    if to < 0 {
-        os::fail(into);
-        libc::close(fd);
-        return false;
-    }
-    let good = mend_all(fd, to);
-    progress_end();
-    libc::close(fd);
-    let closed = libc::close(to);
-    if good && closed == 0 {
-        return true;
-    }
-    fail(
-        from,
-        b" cannot be mended: it must be a file that can be read twice, and the mended card must find room\n",
-    );
-    os::unlink(into);
-    false
 }

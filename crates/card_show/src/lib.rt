@@ -8,11 +8,14 @@ use crate::checking::fine;
 use card_block::Carried;
 use card_reader::Step;
 use card_records::fact_at;
-use card_text::{flush, put, put_byte, put_number};
+use card_text::{flush, open_read, put, put_byte, put_number, read_full, refused};
+use std::fs::File;
+use std::io::{Stderr, Stdout};
+use std::rt::Files;
 
 // The text under way: what is carried, whether a moment is open, how many bytes stand in the buffer, whether they could be written, and whether
 // more of the file may come.
-#[derive(Drop)]
+#[derive(Clone, Copy)]
 struct Showing {
     carried: Carried,
     open: bool,
@@ -99,7 +102,7 @@ fn show_records(
 }
 
 // One piece of a card that the reader takes.
-fn show_piece(out: &mut [u8], piece: &[u8], s: Showing) -> Showing {
+fn show_piece(stdout: Stdout, stderr: Stderr, out: &mut [u8], piece: &[u8], s: Showing) -> Showing {
     let carried = s.carried;
     let Step::On(onward) = card_reader::read_piece(piece, carried) else {
         return s;
@@ -121,27 +124,39 @@ fn show_piece(out: &mut [u8], piece: &[u8], s: Showing) -> Showing {
         carried: next,
         open,
         at: 0,
-        good: flush(out, past),
+        good: flush(stdout, stderr, out, past),
         more: true,
     }
 }
 
 // The pieces of a part of the card.
-fn show_pieces(out: &mut [u8], part: &[u8], first: Showing) -> Showing {
+fn show_pieces(
+    stdout: Stdout,
+    stderr: Stderr,
+    out: &mut [u8],
+    part: &[u8],
+    first: Showing,
+) -> Showing {
     let mut s = first;
     let mut at: usize = 0;
     while at < part.len() {
         let end = card_block::end_of(part.len(), at);
-        s = show_piece(out, &part[at..end], s);
+        s = show_piece(stdout, stderr, out, &part[at..end], s);
         at = end;
     }
     s
 }
 
 // The next part of the file, or none.
-fn show_some(fd: i32, out: &mut [u8], s: Showing) -> Showing {
-    let mut part = io::large_buffer();
-    let n = io::read_full(fd, &mut part);
+fn show_some(
+    file: &mut File,
+    stdout: Stdout,
+    stderr: Stderr,
+    out: &mut [u8],
+    s: Showing,
+) -> Showing {
+    let mut part = [0u8; 65536];
+    let n = read_full(file, &mut part);
     if n == 0 {
         let carried = s.carried;
         return Showing {
@@ -152,11 +167,11 @@ fn show_some(fd: i32, out: &mut [u8], s: Showing) -> Showing {
             more: false,
         };
     }
-    show_pieces(out, &part[..n], s)
+    show_pieces(stdout, stderr, out, &part[..n], s)
 }
 
 // All parts of the file; the last lines come at the end.
-fn show_parts(fd: i32, out: &mut [u8]) -> bool {
+fn show_parts(file: &mut File, stdout: Stdout, stderr: Stderr, out: &mut [u8]) -> bool {
     let nothing = card_block::begun();
     let mut s = Showing {
         carried: nothing,
@@ -171,38 +186,47 @@ fn show_parts(fd: i32, out: &mut [u8]) -> bool {
             return false;
         }
         if !s.more {
-            return flush(out, s.at);
+            return flush(stdout, stderr, out, s.at);
         }
-        s = show_some(fd, out, s);
+        s = show_some(file, stdout, stderr, out, s);
         turns -= 1;
     }
     false
 }
 
 // The whole file.
-fn show_all(fd: i32) -> bool {
-    let mut out = io::large_buffer();
-    show_parts(fd, &mut out)
+fn show_all(file: &mut File, stdout: Stdout, stderr: Stderr) -> bool {
+    let mut out = [0u8; 65536];
+    show_parts(file, stdout, stderr, &mut out)
+}
+
+// The card of this name is one that the reader takes; or what is wrong is said.
+fn taken<R: Files<File = File>>(rt: &R, stderr: Stderr, name: &[u8]) -> bool {
+    match open_read(rt, name) {
+        Err(why) => {
+            refused(stderr, name, why);
+            false
+        }
+        Ok(file) => {
+            let mut file = file;
+            fine(&mut file, stderr, name)
+        }
+    }
 }
 
 // Shows the card of this name.
-pub fn show(name: &[u8]) -> bool {
-    let fd = os::open_read(name);
-    if fd < 0 {
-        os::fail(name);
+pub fn show<R: Files<File = File>>(rt: &R, stdout: Stdout, stderr: Stderr, name: &[u8]) -> bool {
+    if !taken(rt, stderr, name) {
         return false;
     }
-    let taken = fine(fd, name);
-    libc::close(fd);
-    if !taken {
-        return false;
+    match open_read(rt, name) {
+        Err(why) => {
+            refused(stderr, name, why);
+            false
+        }
+        Ok(file) => {
+            let mut file = file;
+            show_all(&mut file, stdout, stderr)
+        }
     }
-    let again = os::open_read(name);
-    if again < 0 {
-        os::fail(name);
-        return false;
-    }
-    let shown = show_all(again);
-    libc::close(again);
-    shown
 }

@@ -1,15 +1,14 @@
 -- Names with counts, one after the other. Assumes nothing.
-use Prim.Native.Nat.{ℕ, zero, suc, ◌+◌, ◌-◌, ◌≤◌, ◌<◌}
+use Prim.Native.Nat.{ℕ, suc, ◌≤◌, ◌<◌}
 use native.Mathlib.Omega.{arith}
 use mathlib.Core.Path.{◌≡◌, refl, sym, ap, ◌∙◌}
 use mathlib.Core.Bool.{Bool, true, false, not, ◌&&◌, ◌||◌, or_assoc}
-use mathlib.Core.List.{List, [], ◌∷◌, ◌++◌, append_assoc, append-nil, map}
+use mathlib.Core.List.{List, [], ◌∷◌, ◌++◌, append-nil, map}
 use lib.Dec.{eqb}
 use lib.ListN.{length, get_or, get_or-append, length-append}
 use lib.Seq.{get_or-append_seam}
-use borrow.Author.Tests.{eq-eqb, ne_eqb}
-use Rattle.trees.proofs.Tests.{false_true, or_l, or_r, or_cases, lt_or_ge}
-use mathlib.Core.Logic.{◌⊎◌, inl, inr, ⊎_elim}
+use Rattle.trees.proofs.Tests.{false_true, or_r, or_cases, lt_or_ge}
+use mathlib.Core.Logic.{⊎_elim}
 use Rattle.text.specs.Words.{Word, name, number, constant, prefix, binary, quantifier, opening, closing, comma, dot, same, bytes_of}
 use Rattle.text.specs.Grammar.{Term, variable, digits, Reading, truth, atom, under, joined, quantified, grouped}
 use Rattle.text.specs.Unfold.{Atom, atoms, listed, number_in, uses_after, first_uses}

@@ -1,30 +1,28 @@
 -- The pass over counts, word by word. Assumes nothing.
-use Prim.Native.Nat.{ℕ, zero, suc, ◌+◌, ◌-◌, ◌≤◌, ◌<◌}
+use Prim.Native.Nat.{ℕ, ◌-◌, ◌≤◌, ◌<◌}
 use native.Mathlib.Omega.{arith}
 use mathlib.Core.Path.{◌≡◌, refl, sym, ap, ◌∙◌}
-use mathlib.Core.Bool.{Bool, true, false, not, ◌&&◌, ◌||◌}
+use mathlib.Core.Bool.{Bool, true, false, not}
 use mathlib.Core.List.{List, [], ◌∷◌, ◌++◌, append_assoc, append-nil, map}
 use lib.Dec.{eqb}
-use lib.ListN.{length, take, drop, get_or, set, length-set, replicate}
-use lib.Seq.{get_or-set_same, get_or-set_other}
-use borrow.Author.Tests.{ne_eqb, eq-eqb, eqb-true, eqb-false}
-use Rattle.trees.proofs.Tests.{bool, false_true, or_l, or_r, lt_or_ge, not_true}
-use mathlib.Core.Logic.{◌⊎◌, inl, inr, ⊎_elim}
-use Rattle.text.specs.Words.{Spelled, Word, bytes_of, same, wordy}
-use Rattle.text.specs.Grammar.{Reading, RuleText, HasReading}
-use Rattle.text.specs.Unfold.{Atom, listed, number_in, atoms, predicate_names, first_uses}
+use lib.ListN.{length, take, drop, get_or, set, length-set}
+use borrow.Author.Tests.{eq-eqb, eqb-true, eqb-false}
+use Rattle.trees.proofs.Tests.{bool, false_true, not_true}
+use mathlib.Core.Logic.{⊎_elim}
+use Rattle.text.specs.Words.{Spelled, Word, bytes_of, wordy}
+use Rattle.text.specs.Grammar.{Reading, HasReading}
+use Rattle.text.specs.Unfold.{Atom, listed, number_in, atoms, predicate_names}
 use Rattle.text.specs.Translate.{clashes}
-use Rattle.text.proofs.NameLaws.{Listed, first_uses_list, listed_left, listed_right, number_lt, number_at, number_same, same_refl}
-use Rattle.text.proofs.ClassLaws.{same_true}
+use Rattle.text.proofs.NameLaws.{Listed, first_uses_list, listed_right, number_lt, number_at}
 use Rattle.spelling.specs.Codes.{code_of, next_mode, Next, mode_after, Spells}
 use Rattle.spelling.proofs.KindLaws.{code_lt, next_is}
-use Rattle.census.specs.Folds.{Event, Lexed, arguments_in, event_of, events, events_of, names_in}
-use Rattle.census.specs.Tables.{names_at, Table, Within, asked_for, name_code}
+use Rattle.census.specs.Folds.{Event, Lexed, arguments_in, events, events_of, names_in}
+use Rattle.census.specs.Tables.{names_at, Within, asked_for, name_code}
 use Rattle.census.specs.Clashes.{Call, calls_in, seen, count_in, any_clash, marking, mark_of, Compared, Settled, Predicates, ToldClash}
 use Rattle.census.proofs.NameLaws.{predicates_of, name_step}
 use Rattle.census.proofs.TableLaws.{table_length}
 use Rattle.census.specs.Scopes.{Distinct}
-use Rattle.census.proofs.CallLaws.{distinct_first, clash_of, calls_by, call_step, count_seen, count_unseen, mark_other, mark_seen, mark_unseen, mark_new, mark_old, any_append}
+use Rattle.census.proofs.CallLaws.{distinct_first, clash_of, calls_by, call_step, count_seen, count_unseen, mark_seen, mark_unseen}
 use Rattle.census.proofs.MarkLaws.{marks_set, marks_keep, small_more, agreed_more, clash_found}
 use Rattle.census.proofs.PassLaws.{Passing, Stepped, pass_begins, pass_over, pass_ends, pass_steps, pass_on, of_all, stepped_lexed}
 

@@ -1,16 +1,15 @@
 -- Counting the arguments after a name. Assumes nothing.
-use Prim.Native.Nat.{ℕ, suc, ◌+◌, ◌-◌, ◌≤◌, ◌<◌}
+use Prim.Native.Nat.{ℕ, ◌+◌, ◌≤◌, ◌<◌}
 use native.Mathlib.Omega.{arith}
 use mathlib.Core.Path.{◌≡◌, refl, sym, ap, ◌∙◌}
 use mathlib.Core.Bool.{Bool, true, false, ◌&&◌}
-use mathlib.Core.List.{List, [], ◌∷◌, ◌++◌}
+use mathlib.Core.List.{List, [], ◌∷◌}
 use lib.Dec.{eqb, ltb}
-use lib.ListN.{length, take, drop}
+use lib.ListN.{length, drop}
 use borrow.Author.Tests.{ne_eqb, eq-eqb}
 use Rattle.text.specs.Words.{Word, wordy, Spelled}
-use Rattle.spelling.specs.Codes.{code_of, kind_of, Spells, First, Next}
+use Rattle.spelling.specs.Codes.{code_of, Spells, Next}
 use Rattle.spelling.proofs.KindLaws.{code_lt, opening_kind, closing_kind, comma_kind}
-use Rattle.spelling.proofs.NextLaws.{no_words}
 use Rattle.census.specs.Folds.{Lexed, comma_of, commas_in, arguments_in}
 use Rattle.census.specs.Told.{comma_code, Commas, Counts, Wide}
 use Rattle.census.proofs.PassLaws.{nothing_left}

@@ -3,10 +3,10 @@ use Prim.Native.Nat.{ℕ, zero, suc, ◌+◌, ◌-◌, ◌≤◌, ◌<◌}
 use native.Mathlib.Omega.{arith}
 use native.Mathlib.Numerals.{add-one}
 use mathlib.Core.Path.{◌≡◌, refl, sym, ap, ◌∙◌}
-use mathlib.Core.Bool.{Bool, true, false, not, ◌&&◌, ◌||◌}
-use mathlib.Core.List.{List, [], ◌∷◌, ◌++◌}
-use mathlib.Core.Logic.{◌⊎◌, inl, inr, ⊎_elim}
-use lib.Dec.{eqb, ltb}
+use mathlib.Core.Bool.{true, false}
+use mathlib.Core.List.{List, [], ◌∷◌}
+use mathlib.Core.Logic.{◌⊎◌, inl, inr}
+use lib.Dec.{eqb}
 use lib.ListN.{length, get_or, set, length-set}
 use lib.Seq.{get_or-set_same, get_or-set_other}
 use borrow.Author.Tests.{ne_eqb, lt-ltb, le-ltb}
@@ -17,7 +17,7 @@ use Rattle.text.proofs.NameLaws.{number_at, same_refl}
 use Rattle.text.proofs.ClassLaws.{same_true}
 use Rattle.census.specs.Folds.{Event, uses, binds, opens, closes}
 use Rattle.census.specs.Tables.{name_code}
-use Rattle.census.specs.Scopes.{lowered, binding_at, bind_in, close_in, loose_in, name_event, chosen, scope_event, Distinct, Lowered, Scoped, After, Enters}
+use Rattle.census.specs.Scopes.{lowered, binding_at, bind_in, close_in, loose_in, name_event, chosen, scope_event, Distinct, Lowered, Scoped, Enters}
 
 -- what the word is, way by way
 module _ (mode word : ℕ) (x : List ℕ) where

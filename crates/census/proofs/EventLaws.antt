@@ -1,17 +1,13 @@
 -- The events of the words of a reading are the reading's. Assumes nothing.
-use Prim.Native.Nat.{ℕ, zero, suc, ◌+◌, ◌≤◌, ◌<◌}
+use Prim.Native.Nat.{◌+◌}
 use native.Mathlib.Omega.{arith}
 use mathlib.Core.Path.{◌≡◌, refl, sym, ap, ◌∙◌}
-use mathlib.Core.Bool.{Bool, true, false, ◌&&◌, ◌||◌, or_assoc}
 use mathlib.Core.List.{List, [], ◌∷◌, ◌++◌, append_assoc, append-nil}
-use lib.Dec.{eqb, ltb}
 use lib.ListN.{length}
-use Rattle.text.specs.Words.{Word, name, number, constant, prefix, binary, quantifier, opening, closing, comma, dot, Binary, bytes_of}
+use Rattle.text.specs.Words.{Word, name, prefix, binary, quantifier, opening, closing, comma, dot, Binary}
 use Rattle.text.specs.Grammar.{Term, variable, digits, Reading, truth, atom, under, joined, quantified, grouped, term_word, terms_words, argument_words, words}
-use Rattle.text.specs.Unfold.{Atom, atoms, term_variables, variables, value_after}
-use Rattle.text.specs.Translate.{any_atom, too_large, too_many}
 use Rattle.spelling.specs.Codes.{kind_of, nexts, mode_after}
-use Rattle.census.specs.Folds.{comma_of, commas_in, arguments_in, Event, call, uses, value, binds, opens, closes, named, event_of, events, term_events, events_of, large, large_in, many_in}
+use Rattle.census.specs.Folds.{comma_of, commas_in, arguments_in, Event, call, binds, opens, closes, named, event_of, events, term_events, events_of}
 
 -- what follows an operand: an operator, `)` or nothing
 pub data Follows : List Word → Type 0 where

@@ -2,21 +2,21 @@
 use Prim.Native.Nat.{ℕ, zero, suc, ◌+◌, ◌-◌, ◌≤◌, ◌<◌}
 use native.Mathlib.Omega.{arith}
 use mathlib.Core.Path.{◌≡◌, refl, sym, ap, ◌∙◌}
-use mathlib.Core.Bool.{Bool, true, false, not, ◌&&◌, ◌||◌}
-use mathlib.Core.List.{List, [], ◌∷◌, ◌++◌, map}
+use mathlib.Core.Bool.{Bool, true, false, ◌||◌}
+use mathlib.Core.List.{List, [], ◌∷◌, ◌++◌}
 use lib.Dec.{eqb}
 use lib.ListN.{length, take, drop, get_or, replicate}
-use borrow.Author.Tests.{ne_eqb, eqb-true}
-use Rattle.trees.proofs.Tests.{bool, false_true}
+use borrow.Author.Tests.{eqb-true}
+use Rattle.trees.proofs.Tests.{false_true}
 use Rattle.text.specs.Words.{Spelled, Word, name, number, constant, prefix, binary, quantifier, opening, closing, comma, dot, bytes_of}
-use Rattle.text.specs.Grammar.{Reading, RuleText, HasReading}
-use Rattle.text.specs.Unfold.{listed, number_in, variables, variable_names, first_uses}
+use Rattle.text.specs.Grammar.{Reading, HasReading}
+use Rattle.text.specs.Unfold.{listed, number_in, variables, variable_names}
 use Rattle.text.specs.Scope.{loose}
 use Rattle.text.proofs.NameLaws.{Listed, first_uses_list, listed_right, number_lt}
 use Rattle.spelling.specs.Codes.{code_of, kind_of, next_mode, Next, mode_after}
 use Rattle.spelling.proofs.KindLaws.{code_lt, next_is, name_kind, opening_kind, closing_kind}
-use Rattle.census.specs.Folds.{Event, call, uses, value, binds, opens, closes, named, arguments_in, event_of, events, events_of, names_in}
-use Rattle.census.specs.Tables.{names_at, Table, Within, asked_for, name_code}
+use Rattle.census.specs.Folds.{Event, call, uses, binds, opens, closes, named, arguments_in, event_of, events, events_of, names_in}
+use Rattle.census.specs.Tables.{names_at, Within, asked_for, name_code}
 use Rattle.census.specs.Scopes.{loose_in, name_event, chosen, scope_event, Distinct, Scoped, After, Enters, Variables, ToldLoose}
 use Rattle.census.proofs.NameLaws.{variables_of, name_step}
 use Rattle.census.proofs.TableLaws.{table_length}

@@ -1,19 +1,19 @@
 -- Refusal 4, word by word. Assumes nothing.
-use Prim.Native.Nat.{ℕ, ◌+◌, ◌-◌, ◌≤◌, ◌<◌, min}
+use Prim.Native.Nat.{ℕ, ◌-◌, ◌≤◌, ◌<◌, min}
 use native.Mathlib.Omega.{arith}
 use mathlib.Core.Path.{◌≡◌, refl, sym, ap, ◌∙◌}
-use mathlib.Core.Bool.{Bool, true, false, ◌&&◌, ◌||◌}
-use mathlib.Core.List.{List, [], ◌∷◌, ◌++◌}
-use lib.Dec.{eqb, ltb}
+use mathlib.Core.Bool.{Bool, true, false, ◌||◌}
+use mathlib.Core.List.{List, []}
+use lib.Dec.{ltb}
 use lib.ListN.{length, take, drop}
 use borrow.Author.Tests.{ne_eqb, ltb-true, lt-ltb}
 use Rattle.trees.proofs.Tests.{iff_eq}
 use Rattle.text.specs.Words.{Spelled, Word, bytes_of}
-use Rattle.text.specs.Grammar.{Reading, RuleText, HasReading}
+use Rattle.text.specs.Grammar.{Reading, HasReading}
 use Rattle.text.specs.Unfold.{atoms, value_after}
 use Rattle.text.specs.Translate.{any_atom, too_large}
 use Rattle.spelling.specs.Codes.{code_of, Next, mode_after}
-use Rattle.census.specs.Folds.{Event, event_of, events, events_of, large, large_in}
+use Rattle.census.specs.Folds.{Event, events, large, large_in}
 use Rattle.census.specs.Told.{large_code, ToldLarge}
 use Rattle.census.proofs.TellLaws.{large_of, large_step}
 use Rattle.census.proofs.PassLaws.{Passing, Stepped, pass_begins, pass_over, pass_ends, pass_steps, pass_on, of_all}

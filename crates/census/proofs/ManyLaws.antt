@@ -1,18 +1,18 @@
 -- Refusal 5, word by word. Assumes nothing.
-use Prim.Native.Nat.{ℕ, ◌+◌, ◌-◌, ◌≤◌, ◌<◌}
+use Prim.Native.Nat.{ℕ, ◌≤◌, ◌<◌}
 use native.Mathlib.Omega.{arith}
-use mathlib.Core.Path.{◌≡◌, refl, sym, ap, ◌∙◌}
+use mathlib.Core.Path.{◌≡◌, sym, ap, ◌∙◌}
 use mathlib.Core.Bool.{Bool, true, false, ◌&&◌, ◌||◌}
-use mathlib.Core.List.{List, [], ◌∷◌, ◌++◌}
+use mathlib.Core.List.{List, []}
 use lib.Dec.{eqb, ltb}
-use lib.ListN.{length, take, drop}
+use lib.ListN.{length, drop}
 use Rattle.text.specs.Words.{Spelled, Word, wordy}
-use Rattle.text.specs.Grammar.{Reading, RuleText, HasReading}
+use Rattle.text.specs.Grammar.{Reading, HasReading}
 use Rattle.text.specs.Unfold.{atoms}
 use Rattle.text.specs.Translate.{any_atom, too_many}
-use Rattle.spelling.specs.Codes.{code_of, next_mode, Next, Spells, mode_after}
+use Rattle.spelling.specs.Codes.{code_of, next_mode, Next, mode_after}
 use Rattle.spelling.proofs.KindLaws.{code_lt, next_is}
-use Rattle.census.specs.Folds.{Event, Lexed, event_of, events, events_of, many_in, arguments_in}
+use Rattle.census.specs.Folds.{Event, Lexed, events, many_in, arguments_in}
 use Rattle.census.specs.Told.{Wide, ToldMany}
 use Rattle.census.proofs.TellLaws.{many_of, many_step}
 use Rattle.census.proofs.PassLaws.{Passing, Stepped, pass_begins, pass_over, pass_ends, pass_steps, pass_on, stepped_lexed, of_all}

@@ -1,22 +1,20 @@
 -- One call more, and what is noted of each name. Assumes nothing.
-use Prim.Native.Nat.{ℕ, ◌+◌, ◌-◌, ◌≤◌, ◌<◌}
-use native.Mathlib.Omega.{arith}
+use Prim.Native.Nat.{ℕ, ◌<◌}
 use mathlib.Core.Path.{◌≡◌, refl, sym, ap, ◌∙◌}
-use mathlib.Core.Bool.{Bool, true, false, not, ◌&&◌, ◌||◌}
+use mathlib.Core.Bool.{true, false}
 use mathlib.Core.List.{List, [], ◌∷◌, ◌++◌}
-use lib.Dec.{eqb}
 use lib.ListN.{length, get_or, set}
 use lib.Seq.{get_or-set_same, get_or-set_other}
 use borrow.Author.Tests.{ne_eqb, eq-eqb}
-use Rattle.trees.proofs.Tests.{false_true, bool, or_l, or_r, not_true}
-use mathlib.Core.Logic.{◌⊎◌, inl, inr, ⊎_elim}
+use Rattle.trees.proofs.Tests.{false_true, bool, or_r}
+use mathlib.Core.Logic.{⊎_elim}
 use Rattle.text.specs.Words.{same}
 use Rattle.text.specs.Unfold.{listed, number_in}
 use Rattle.text.proofs.NameLaws.{number_at, same_refl}
 use Rattle.text.proofs.ClassLaws.{same_true}
 use Rattle.census.specs.Clashes.{Call, seen, count_in, any_clash, mark_of}
 use Rattle.census.specs.Scopes.{Distinct}
-use Rattle.census.proofs.CallLaws.{count_seen, count_unseen, mark_other, mark_seen, mark_new, mark_old, any_append, seen_more}
+use Rattle.census.proofs.CallLaws.{count_seen, count_unseen, mark_other, mark_new, mark_old, any_append, seen_more}
 
 abbrev pub Marks : List (List ℕ) → List ℕ → List Call → Type 0
 Marks ns counts done = (j : ℕ) → j < length ns → get_or counts j 0 ≡ mark_of done (get_or ns j [])

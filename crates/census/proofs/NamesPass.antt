@@ -1,21 +1,19 @@
 -- The pass over names, word by word. Assumes nothing.
-use Prim.Native.Nat.{ℕ, ◌+◌, ◌-◌, ◌≤◌, ◌<◌}
+use Prim.Native.Nat.{ℕ, ◌-◌, ◌≤◌, ◌<◌}
 use native.Mathlib.Omega.{arith}
 use mathlib.Core.Path.{◌≡◌, refl, sym, ap, ◌∙◌}
-use mathlib.Core.Bool.{Bool, true, false, ◌&&◌, ◌||◌}
+use mathlib.Core.Bool.{Bool, true, false, ◌||◌}
 use mathlib.Core.List.{List, [], ◌∷◌, ◌++◌}
 use lib.Dec.{eqb}
 use lib.ListN.{length, take, drop, length-append}
 use borrow.Author.Tests.{ne_eqb}
-use Rattle.trees.proofs.Tests.{bool}
-use mathlib.Core.Logic.{◌⊎◌, inl, inr, ⊎_elim}
 use Rattle.text.specs.Words.{Spelled, Word, bytes_of}
-use Rattle.text.specs.Grammar.{Reading, RuleText, HasReading}
+use Rattle.text.specs.Grammar.{Reading, HasReading}
 use Rattle.text.specs.Unfold.{listed, uses_after, first_uses, predicate_names, variable_names}
 use Rattle.text.proofs.NameLaws.{uses_append}
 use Rattle.spelling.specs.Codes.{code_of, next_mode, Next, mode_after}
 use Rattle.spelling.proofs.KindLaws.{code_lt, next_is}
-use Rattle.census.specs.Folds.{Event, event_of, events, events_of, names_in}
+use Rattle.census.specs.Folds.{Event, events, events_of, names_in}
 use Rattle.census.specs.Tables.{names_of, names_at, Table, Within, asked_for, Noted, name_code, names_for, ToldNames}
 use Rattle.census.proofs.NameLaws.{variables_of, predicates_of, name_step}
 use Rattle.census.proofs.PassLaws.{Passing, Stepped, pass_begins, pass_over, pass_ends, pass_steps, pass_on, of_all}

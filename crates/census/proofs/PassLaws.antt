@@ -1,15 +1,15 @@
 -- A pass over the words of a rule text: what the words left are to tell, and one word more. Assumes nothing.
-use Prim.Native.Nat.{ℕ, suc, ◌+◌, ◌-◌, ◌≤◌, ◌<◌}
+use Prim.Native.Nat.{ℕ, ◌≤◌}
 use native.Mathlib.Omega.{arith}
-use mathlib.Core.Path.{◌≡◌, refl, sym, ap, ◌∙◌}
-use mathlib.Core.Bool.{Bool, true, false}
+use mathlib.Core.Path.{◌≡◌, refl, ap, ◌∙◌}
+use mathlib.Core.Bool.{Bool, false}
 use mathlib.Core.List.{List, [], ◌∷◌, ◌++◌}
-use lib.ListN.{length, take, drop}
+use lib.ListN.{length, drop}
 use lib.Seq.{drop-length}
 use Rattle.text.specs.Words.{Word, wordy, Spelled}
 use Rattle.text.specs.Grammar.{Reading, words, RuleText, HasReading}
 use Rattle.text.proofs.RuleTexts.{unique}
-use Rattle.spelling.specs.Codes.{code_of, mode_after, Spells, First, Next}
+use Rattle.spelling.specs.Codes.{mode_after, Spells, First, Next}
 use Rattle.spelling.proofs.KindLaws.{code_lt}
 use Rattle.spelling.proofs.NextLaws.{no_words}
 use Rattle.census.specs.Folds.{Event, event_of, events, events_of, Lexed}

@@ -1,7 +1,7 @@
 -- A name's count, noted or compared. Assumes nothing.
-use Prim.Native.Nat.{ℕ, ◌+◌, ◌-◌, ◌≤◌, ◌<◌}
+use Prim.Native.Nat.{ℕ, ◌-◌, ◌≤◌}
 use native.Mathlib.Omega.{arith}
-use mathlib.Core.Path.{◌≡◌, refl, sym, ap, ◌∙◌}
+use mathlib.Core.Path.{◌≡◌, refl}
 use mathlib.Core.Bool.{Bool, true, false, not}
 use mathlib.Core.List.{List}
 use lib.Dec.{eqb}
@@ -9,7 +9,7 @@ use lib.ListN.{length, take, drop, get_or, set}
 use Rattle.text.specs.Unfold.{number_in}
 use Rattle.census.specs.Told.{Counts}
 use Rattle.census.specs.Folds.{arguments_in}
-use Rattle.census.specs.Clashes.{Compared, Settled}
+use Rattle.census.specs.Clashes.{Settled}
 
 pub settled_no : (text : List ℕ) (names : List (List ℕ)) (asked : Bool) (from past : ℕ) (counts : List ℕ) → asked ≡ false → Settled text names asked from past counts counts false
 settled_no text names asked from past counts e = rw e (refl, refl)

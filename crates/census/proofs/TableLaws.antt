@@ -1,18 +1,18 @@
 -- Tables of names: finding one, and one more. Assumes nothing.
-use Prim.Native.Nat.{ℕ, zero, suc, ◌+◌, ◌-◌, ◌≤◌, ◌<◌}
+use Prim.Native.Nat.{ℕ, suc, ◌+◌, ◌-◌, ◌≤◌, ◌<◌}
 use native.Mathlib.Omega.{arith}
 use native.Mathlib.Numerals.{add-one}
 use mathlib.Core.Path.{◌≡◌, refl, sym, ap, ◌∙◌}
-use mathlib.Core.Bool.{Bool, true, false, ◌&&◌, ◌||◌}
-use mathlib.Core.List.{List, [], ◌∷◌, ◌++◌, append-nil}
+use mathlib.Core.Bool.{Bool, true, false, ◌||◌}
+use mathlib.Core.List.{List, [], ◌∷◌, ◌++◌}
 use lib.ListN.{length, take, drop, get_or, set, length-append, length-set}
 use lib.Seq.{drop-cons, drop-length, length-take-le, get_or-take, take-suc-set, get_or-set_same, get_or-set_other}
-use Rattle.trees.proofs.Tests.{false_true, not_true, or_l, or_r, lt_or_ge}
+use Rattle.trees.proofs.Tests.{not_true, lt_or_ge}
 use mathlib.Core.Logic.{◌⊎◌, inl, inr, ⊎_elim}
 use Rattle.text.specs.Words.{same}
 use Rattle.text.specs.Unfold.{listed, number_in, uses_after}
 use Rattle.text.proofs.NameLaws.{number_lt}
-use Rattle.census.specs.Tables.{names_of, names_at, Table, Within, asked_for, Noted}
+use Rattle.census.specs.Tables.{names_of, names_at, Table, asked_for, Noted}
 
 -- the number of a name is its place, and the count where it is not there
 pub number_listed : (ns : List (List ℕ)) (x : List ℕ) → number_in ns x < length ns → listed ns x ≡ true

@@ -1,5 +1,5 @@
 -- What the events of a reading tell is what the refusals ask of the reading. Assumes nothing.
-use Prim.Native.Nat.{ℕ, zero, suc, ◌+◌, ◌≤◌, ◌<◌}
+use Prim.Native.Nat.{ℕ}
 use mathlib.Core.Path.{◌≡◌, refl, sym, ap, ◌∙◌}
 use mathlib.Core.Bool.{Bool, true, false, ◌&&◌, ◌||◌, or_assoc}
 use mathlib.Core.List.{List, [], ◌∷◌, ◌++◌, append_assoc, append-nil}
@@ -7,11 +7,11 @@ use lib.Dec.{eqb, ltb}
 use lib.ListN.{length}
 use Rattle.text.specs.Words.{Word, name, number, constant, prefix, binary, quantifier, opening, closing, comma, dot, bytes_of}
 use Rattle.text.specs.Grammar.{Term, variable, digits, Reading, truth, atom, under, joined, quantified, grouped}
-use Rattle.text.specs.Unfold.{Atom, atoms, term_variables, variables, value_after}
+use Rattle.text.specs.Unfold.{Atom, atoms, value_after}
 use Rattle.text.specs.Translate.{any_atom, too_large, too_many}
 use Rattle.spelling.specs.Codes.{code_of, kind_of}
 use Rattle.spelling.proofs.KindLaws.{name_kind, number_kind}
-use Rattle.census.specs.Folds.{arguments_in, Event, call, uses, value, binds, opens, closes, named, event_of, term_events, events_of, large, large_in, many_in}
+use Rattle.census.specs.Folds.{arguments_in, Event, call, uses, binds, opens, closes, named, event_of, term_events, events_of, large, large_in, many_in}
 use Rattle.census.specs.Told.{large_code}
 
 any_append : (t : Atom → Bool) (xs ys : List Atom) → any_atom t (xs ++ ys) ≡ (any_atom t xs || any_atom t ys)

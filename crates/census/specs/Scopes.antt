@@ -1,5 +1,5 @@
 -- Free variables by events: for each name the depth at which it is bound, counted from 1, and 0 where it is not. Assumes nothing: these are definitions.
-use Rattle.std.specs.Prelude.{ℕ, suc, ◌+◌, ◌-◌, ◌≤◌, ◌<◌, ◌≡◌, Bool, true, false, not, ◌&&◌, ◌||◌, List, [], ◌∷◌, ◌++◌, eqb, ltb, length, take, drop, get_or}
+use Rattle.std.specs.Prelude.{ℕ, suc, ◌+◌, ◌-◌, ◌≤◌, ◌<◌, ◌≡◌, Bool, true, false, ◌||◌, List, [], ◌∷◌, ◌++◌, eqb, ltb, length, get_or}
 use Rattle.text.specs.Words.{same}
 use Rattle.text.specs.Grammar.{Reading, RuleText}
 use Rattle.text.specs.Unfold.{number_in, variable_names}

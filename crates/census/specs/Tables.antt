@@ -1,5 +1,5 @@
 -- Names by where they stand in the text, and what the passes over names answer. Assumes nothing: these are definitions.
-use Rattle.std.specs.Prelude.{ℕ, suc, ◌+◌, ◌-◌, ◌≤◌, ◌<◌, ◌≡◌, Bool, true, false, ◌&&◌, ◌||◌, List, [], ◌∷◌, eqb, length, take, drop, get_or}
+use Rattle.std.specs.Prelude.{ℕ, ◌+◌, ◌≤◌, ◌<◌, ◌≡◌, Bool, true, false, ◌&&◌, ◌||◌, List, [], ◌∷◌, eqb, length, take, drop, get_or}
 use Rattle.text.specs.Grammar.{Reading, RuleText}
 use Rattle.text.specs.Unfold.{uses_after, predicate_names, variable_names}
 

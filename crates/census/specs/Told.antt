@@ -1,5 +1,5 @@
 -- What the passes answer of a rule text, in the words of the crate text. Assumes nothing: these are definitions.
-use Rattle.std.specs.Prelude.{ℕ, ◌+◌, ◌≤◌, ◌<◌, ◌≡◌, Bool, true, false, ◌&&◌, List, eqb, ltb, drop, length}
+use Rattle.std.specs.Prelude.{ℕ, ◌+◌, ◌≤◌, ◌≡◌, Bool, true, false, ◌&&◌, List, eqb, ltb, drop, length}
 use Rattle.text.specs.Words.{Word}
 use Rattle.text.specs.Grammar.{Reading, RuleText}
 use Rattle.text.specs.Unfold.{atoms}

@@ -18,7 +18,7 @@ fn is_large(text: &[u8], word: u8, from: usize, past: usize) -> bool
 }
 
 // Whether some constant is.
-pub fn too_large_law(text: &[u8]) -> bool
+pub fn too_large(text: &[u8]) -> bool
     requires { HasReading text.now }
     ensures { ToldLarge text.now result }
 {

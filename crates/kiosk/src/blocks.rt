@@ -7,7 +7,7 @@ ghost use Rattle.kiosk.specs.Blocks.{Serves, Takes};
 use session::Session;
 
 // A session, how many bytes of a line are held, and how many bytes are put out.
-#[derive(Drop)]
+#[derive(Clone, Copy)]
 pub struct Fed {
     pub session: Session,
     pub held: usize,

@@ -9,25 +9,28 @@ ghost use Rattle.std.specs.Prelude.{◌≤◌, ◌<◌, take};
 ghost use Rattle.kiosk.specs.Reading.{Few, Left};
 ghost use Rattle.kiosk.specs.Runs.{Answers};
 
-use libc::{STDERR_FILENO, STDIN_FILENO, STDOUT_FILENO};
+use std::io::{Read, Stderr, Stdin, Stdout, Write};
 
 // What was read: so many bytes, of which 0 is the end of the input, or nothing that counts.
-#[derive(Drop)]
+#[derive(Clone, Copy)]
 enum Got {
     Bytes(usize),
     Stop,
 }
 
+// Writes to standard error.
+fn say(mut stderr: Stderr, words: &[u8]) {
+    let _ = stderr.write_all(words);
+}
+
 // Reads a block, of no more bytes than may still come.
-fn fill(block: &mut [u8; 1024], left: u64) -> Got
+fn fill(mut stdin: Stdin, stderr: Stderr, block: &mut [u8; 1024], left: u64) -> Got
     ensures { Few left result }
 {
-    let got = libc::read(STDIN_FILENO, block);
-    if got < 0 {
-        io::write_all(STDERR_FILENO, b"kiosk: the input cannot be read\n");
+    let Ok(n) = stdin.read(block) else {
+        say(stderr, b"kiosk: the input cannot be read\n");
         return Got::Stop;
-    }
-    let n = io::count(got, block);
+    };
     if left < n as u64 {
         return Got::Stop;
     }
@@ -35,14 +38,14 @@ fn fill(block: &mut [u8; 1024], left: u64) -> Got
 }
 
 // Writes the first `n` bytes of the answers, which are what a block puts out, and says so where it cannot.
-fn write_out(out: &[u8; 76800], n: usize) -> bool
+fn write_out(mut stdout: Stdout, stderr: Stderr, out: &[u8; 76800], n: usize) -> bool
     requires { (n ≤ 76800) × Answers (take n out.now) }
 {
     let all: &[u8] = out;
-    if io::write_all(STDOUT_FILENO, &all[0..n]) {
+    if stdout.write_all(&all[0..n]).is_ok() {
         return true;
     }
-    io::write_all(STDERR_FILENO, b"kiosk: the answers cannot be written\n");
+    say(stderr, b"kiosk: the answers cannot be written\n");
     false
 }
 
@@ -65,7 +68,10 @@ fn left_after(left: u64, n: usize, ended: bool, written: bool) -> u64
 
 // Reads block after block to the end of the input. A proved loop has to end, and nothing says that the input does: the bytes
 // are counted down from a number that no run uses up, which also keeps the count of events from running over.
-fn main() {
+fn main(rt: HostRuntime) {
+    let stdin = rt.stdin();
+    let stdout = rt.stdout();
+    let stderr = rt.stderr();
     let mut block = [0u8; 1024];
     let mut line = [0u8; 101];
     let mut rows = [0u32; 585];
@@ -77,7 +83,7 @@ fn main() {
     let mut held = 0;
     let mut left = u64::MAX - 1;
     while 0 < left {
-        let Got::Bytes(n) = fill(&mut block, left) else {
+        let Got::Bytes(n) = fill(stdin, stderr, &mut block, left) else {
             return;
         };
         let fed = blocks::lines_of(
@@ -94,6 +100,11 @@ fn main() {
         );
         s = fed.session;
         held = fed.held;
-        left = left_after(left, n, session::over(s), write_out(&out, fed.at));
+        left = left_after(
+            left,
+            n,
+            session::over(s),
+            write_out(stdout, stderr, &out, fed.at),
+        );
     }
 }

@@ -3,17 +3,16 @@ use Prim.Native.Nat.{ℕ, zero, suc, ◌+◌, ◌-◌, ◌*◌, ◌≤◌, ◌<�
 use native.Mathlib.Omega.{arith}
 use native.Mathlib.Numerals.{add-one}
 use mathlib.Core.Path.{◌≡◌, refl, sym, ap, ◌∙◌}
-use mathlib.Core.Bool.{Bool, true, false}
+use mathlib.Core.Bool.{true, false}
 use mathlib.Core.List.{List, [], ◌∷◌, ◌++◌}
-use mathlib.Core.Logic.{◌⊎◌, inl, inr, ⊎_elim}
-use lib.Dec.{ltb}
-use lib.ListN.{length, take, drop, get_or, set, length-set, length-append, length-drop, length-take, take-append-drop}
+use mathlib.Core.Logic.{⊎_elim}
+use lib.ListN.{length, take, drop, get_or, set, length-set, length-append, length-drop}
 use native.Mathlib.Nat.{zero-add, suc-add}
-use lib.Seq.{take-set-le, drop-set-add, take-suc-set, take-suc, take_all, take-take, take-nil, drop-nil, drop-drop, take-append_seam, drop-append_seam, length-take-le, take-add, take_at, drop_at, take-append-le, drop-append-le}
+use lib.Seq.{take-set-le, drop-set-add, take-suc-set, take-suc, take_all, take-take, take-nil, drop-nil, drop-drop}
 use borrow.Author.Tests.{lt-ltb, le-ltb}
 use Rattle.trees.proofs.Tests.{lt_or_ge}
 use Rattle.text.specs.Words.{same}
-use Rattle.text.specs.Emit.{find_row, Rowed, make_row}
+use Rattle.text.specs.Emit.{find_row, make_row}
 use Rattle.rowing.specs.Denoted.{chunks, Holds, fits, over, Denotes, Makes}
 
 pub chunks_length : (n : ℕ) (flat : List ℕ) → length (chunks n flat) ≡ n

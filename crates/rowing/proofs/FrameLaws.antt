@@ -1,15 +1,14 @@
 -- What each frame makes, by its number. Assumes nothing.
-use Prim.Native.Nat.{ℕ, ◌+◌, ◌*◌, ◌/◌, ◌%◌, ◌≤◌, ◌<◌}
+use Prim.Native.Nat.{ℕ, ◌/◌, ◌%◌, ◌≤◌}
 use native.Mathlib.Omega.{arith}
-use mathlib.Core.Path.{◌≡◌, refl, sym, ap, ◌∙◌}
-use mathlib.Core.List.{List, [], ◌∷◌}
-use lib.ListN.{length}
+use mathlib.Core.Path.{◌≡◌, refl, ◌∙◌}
+use mathlib.Core.List.{List}
 use Rattle.meaning.specs.Rows
 use Rattle.text.specs.Words.{Binary, sinces, ands, ors, implies, once, historically, previously, negation, universal, existential}
 use Rattle.text.specs.Parts.{nine, pairs_of}
 use Rattle.text.specs.Emit.{Rowed, make_row, negated, binary_rows, applied_rows, bound_rows}
 use Rattle.text.specs.Held.{Held, mark, applies, quantifies, joins, made, keeps}
-use Rattle.rowing.specs.Denoted.{Holds, Denotes, Makes}
+use Rattle.rowing.specs.Denoted.{Denotes, Makes}
 use Rattle.rowing.specs.Framing.{plain_nine, Turns, joined_row, notted_row, binary_kind, frame_kind, frame_held, Framed, Late, Early}
 
 -- a row found or made turns rows into rows

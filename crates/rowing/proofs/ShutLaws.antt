@@ -1,17 +1,16 @@
 -- `)` and the end, by frames that take their operand. Assumes nothing.
-use Prim.Native.Nat.{ℕ, zero, suc, ◌+◌, ◌-◌, ◌*◌, ◌≤◌, ◌<◌}
+use Prim.Native.Nat.{ℕ, zero, suc, ◌-◌, ◌<◌}
 use native.Mathlib.Omega.{arith}
-use mathlib.Core.Path.{◌≡◌, refl, sym, ap, ◌∙◌}
+use mathlib.Core.Path.{◌≡◌, refl}
 use mathlib.Core.Bool.{Bool, true, false, not}
 use mathlib.Core.List.{List, [], ◌∷◌}
 use lib.Dec.{ltb}
-use lib.ListN.{length, get_or}
+use lib.ListN.{get_or}
 use Rattle.trees.proofs.Tests.{false_true}
-use Rattle.text.specs.Words.{Binary, sinces, ands, ors, implies}
+use Rattle.text.specs.Words.{sinces, ands, ors, implies}
 use Rattle.text.specs.Grammar.{right_level}
 use Rattle.text.specs.Emit.{Rowed}
 use Rattle.text.specs.Held.{Held, mark, applies, quantifies, joins, room_for, made, is_mark, Shut, shut_rows, end_rows}
-use Rattle.rowing.specs.Denoted.{Denotes}
 use Rattle.rowing.specs.Stacking.{stack_of, AllFramed, room_in, fill_rows, Filled, Fills, Shuts, Finishes}
 use Rattle.rowing.proofs.StackLaws.{stack_top, stack_none}
 

@@ -2,7 +2,7 @@
 use Prim.Native.Nat.{ℕ, zero, suc, ◌+◌, ◌-◌, ◌*◌, ◌/◌, ◌%◌, ◌≤◌, ◌<◌}
 use native.Mathlib.Omega.{arith}
 use native.Mathlib.Numerals.{add-one}
-use mathlib.Core.Path.{◌≡◌, refl, sym, ap, ◌∙◌}
+use mathlib.Core.Path.{◌≡◌, refl, ap, ◌∙◌}
 use mathlib.Core.Bool.{Bool, true, false}
 use mathlib.Core.List.{List, [], ◌∷◌}
 use lib.Dec.{ltb}
@@ -14,8 +14,8 @@ use Rattle.text.specs.Words.{Binary, sinces, ands, ors, implies, once, historica
 use Rattle.text.specs.Grammar.{level, right_level}
 use Rattle.text.specs.Emit.{Rowed}
 use Rattle.text.specs.Held.{Held, mark, applies, quantifies, joins, room_for, made, keeps, Shut, Waiting, push_rows}
-use Rattle.rowing.specs.Denoted.{Holds, Denotes}
-use Rattle.rowing.specs.Framing.{Framed, frame_kind, frame_held, binary_kind, Late, Early}
+use Rattle.rowing.specs.Denoted.{Denotes}
+use Rattle.rowing.specs.Framing.{frame_kind, frame_held, binary_kind, Late, Early}
 use Rattle.rowing.specs.Stacking.{stack_of, AllFramed, room_in, RoomOf, fill_rows, Filled, Fills, Pushed, Pushes, Waited}
 
 unfoldable pub rooms : List ℕ

@@ -1,5 +1,5 @@
 -- A table of rows, nine numbers each, and the rows that it denotes: at most 64, or more. Assumes nothing: these are definitions.
-use Rattle.std.specs.Prelude.{ℕ, zero, suc, ◌+◌, ◌*◌, ◌≤◌, ◌<◌, ◌≡◌, List, [], ◌∷◌, ◌++◌, length, take, drop}
+use Rattle.std.specs.Prelude.{ℕ, zero, suc, ◌≤◌, ◌<◌, ◌≡◌, List, [], ◌∷◌, length, take, drop}
 use Rattle.text.specs.Emit.{Rowed, make_row}
 
 -- the first n rows of a table

@@ -1,5 +1,5 @@
 -- Frames by number, and what they make. Assumes nothing: these are definitions.
-use Rattle.std.specs.Prelude.{ℕ, ◌+◌, ◌*◌, ◌/◌, ◌%◌, ◌≤◌, ◌<◌, ◌≡◌, List, [], ◌∷◌, length}
+use Rattle.std.specs.Prelude.{ℕ, ◌/◌, ◌%◌, ◌≤◌, ◌≡◌, List, [], ◌∷◌, length}
 use Rattle.text.specs.Words.{Binary, sinces, ands, ors, implies, once, historically, previously, negation, universal, existential}
 use Rattle.text.specs.Emit.{Rowed, make_row, negated}
 use Rattle.text.specs.Held.{Held, mark, applies, quantifies, joins, made, keeps}

@@ -1,9 +1,9 @@
 -- The stack of frames by number. Assumes nothing: these are definitions.
-use Rattle.std.specs.Prelude.{ℕ, zero, suc, ◌+◌, ◌*◌, ◌≤◌, ◌<◌, ◌≡◌, Bool, true, false, List, [], ◌∷◌, ltb, length, get_or}
+use Rattle.std.specs.Prelude.{ℕ, zero, suc, ◌+◌, ◌≤◌, ◌≡◌, true, false, List, [], ◌∷◌, ltb, length, get_or}
 use Rattle.text.specs.Words.{Binary}
 use Rattle.text.specs.Grammar.{level}
 use Rattle.text.specs.Emit.{Rowed}
-use Rattle.text.specs.Held.{Held, mark, applies, quantifies, joins, room_for, made, keeps, Shut, Waiting, push_rows, shut_rows, end_rows}
+use Rattle.text.specs.Held.{Held, mark, applies, quantifies, joins, room_for, made, Shut, Waiting, push_rows, shut_rows, end_rows}
 use Rattle.rowing.specs.Denoted.{Holds, Denotes}
 use Rattle.rowing.specs.Framing.{Framed, frame_kind, frame_held}
 

@@ -8,9 +8,22 @@ mod refusals;
 
 ghost use Rattle.std.specs.Prelude.{◌≤◌, length};
 
-use card_text::{put_byte, put_number, say};
-use libc::{STDIN_FILENO, STDOUT_FILENO};
+use card_text::{
+    given, open_overwrite, open_read, put_byte, put_number, read_full, say, write_all,
+};
+use std::env::Env;
+use std::fs::File;
+use std::io::{Read, Stderr, Stdin, Stdout};
+use std::rt::Files;
 use translate::{Told, translate};
+
+// The program's three streams.
+#[derive(Clone, Copy)]
+struct Streams {
+    stdin: Stdin,
+    stdout: Stdout,
+    stderr: Stderr,
+}
 
 // A number of the rows, 0 past their end.
 fn number_at(rows: &[u32], i: usize) -> u32 {
@@ -49,16 +62,17 @@ fn put_rows(out: &mut [u8], rows: &[u32], n: usize) -> usize {
 }
 
 // Writes the lines of n rows, no line being longer than 101 bytes.
-fn write_rows(rows: &[u32], n: usize) -> bool {
+fn write_rows(streams: Streams, rows: &[u32], n: usize) -> bool {
     let mut out = [0u8; 8192];
     let at = put_rows(&mut out, rows, n);
     if 8192 < at {
         return false;
     }
-    if io::write_all(STDOUT_FILENO, &out[0..at]) {
+    let mut stdout = streams.stdout;
+    if write_all(&mut stdout, &out[0..at]) {
         return true;
     }
-    say(b"rule: standard output cannot be written\n");
+    say(streams.stderr, b"rule: standard output cannot be written\n");
     false
 }
 
@@ -76,38 +90,60 @@ fn without_end(text: &[u8]) -> usize
 }
 
 // Translates a text, and writes its rows, or its names where they are asked for.
-fn answer(text: &[u8], named: bool) -> bool {
+fn answer(streams: Streams, text: &[u8], named: bool) -> bool {
     let mut rows = [0u32; 576];
     let t = translate(text, &mut rows);
     let told = t.told;
     let Told::Rows(n, predicates, variables) = told else {
-        return refusals::explain(text, told);
+        return refusals::explain(streams.stderr, text, told);
     };
     if !named {
-        return write_rows(&rows, n);
+        return write_rows(streams, &rows, n);
     }
     let pstarts = t.pstarts;
     let plengths = t.plengths;
     let vstarts = t.vstarts;
     let vlengths = t.vlengths;
-    if names::write_names(b"predicate ", text, &pstarts, &plengths, predicates) {
-        return names::write_names(b"variable ", text, &vstarts, &vlengths, variables);
+    if names::write_names(
+        streams.stdout,
+        streams.stderr,
+        b"predicate ",
+        text,
+        &pstarts,
+        &plengths,
+        predicates,
+    ) {
+        return names::write_names(
+            streams.stdout,
+            streams.stderr,
+            b"variable ",
+            text,
+            &vstarts,
+            &vlengths,
+            variables,
+        );
     }
     false
 }
 
 // Reads a text; a longer one than any right text is known by its first bytes.
-fn from_file(fd: i32, named: bool) -> bool {
+fn from_file<R: Read>(file: &mut R, streams: Streams, named: bool) -> bool {
     let mut buf = [0u8; 8192];
-    let n = io::read_full(fd, &mut buf);
+    let n = read_full(file, &mut buf);
     let text: &[u8] = &buf[0..n];
     let m = without_end(text);
-    answer(&text[0..m], named)
+    answer(streams, &text[0..m], named)
+}
+
+// Reads the text of standard input.
+fn from_input(streams: Streams, named: bool) -> bool {
+    let mut stdin = streams.stdin;
+    from_file(&mut stdin, streams, named)
 }
 
 // How to use the program.
-fn usage() -> bool {
-    say(b"use: rule [-n] < TEXT | rule [-n] FILE\n");
+fn usage(stderr: Stderr) -> bool {
+    say(stderr, b"use: rule [-n] < TEXT | rule [-n] FILE\n");
     false
 }
 
@@ -123,66 +159,75 @@ fn is_option(word: &[u8]) -> bool {
 }
 
 // The file that an argument names.
-fn from_named(place: usize, named: bool) -> bool {
-    let mut name = io::buffer();
-    let n = os::arg(place, &mut name);
-    if os::errno() != 0 {
-        return usage();
+fn from_named<R: Env + Files<File = File>>(
+    rt: &R,
+    streams: Streams,
+    place: usize,
+    named: bool,
+) -> bool {
+    let mut name = [0u8; 4096];
+    let Ok(n) = rt.arg(place, &mut name) else {
+        return usage(streams.stderr);
+    };
+    match open_read(rt, &name[..n]) {
+        Err(_) => {
+            say(streams.stderr, b"rule: the file cannot be read\n");
+            false
+        }
+        Ok(opened) => {
+            let mut file = opened;
+            from_file(&mut file, streams, named)
+        }
     }
-    let fd = os::open_read(&name[..n]);
-    if fd < 0 {
-        say(b"rule: the file cannot be read\n");
-        return false;
-    }
-    let good = from_file(fd, named);
-    libc::close(fd);
-    good
 }
 
 // The file that the last argument names, or standard input; `-n` before it asks for the names.
-fn run() -> bool {
-    let count = os::arg_count();
-    if count == 2 {
-        return from_file(STDIN_FILENO, false);
+fn run<R: Env + Files<File = File>>(rt: &R, streams: Streams) -> bool {
+    if given(rt, 1) && !given(rt, 2) {
+        return from_input(streams, false);
     }
-    let mut word = io::buffer();
-    let n = os::arg(2, &mut word);
-    if os::errno() != 0 {
-        return usage();
-    }
+    let mut word = [0u8; 4096];
+    let Ok(n) = rt.arg(2, &mut word) else {
+        return usage(streams.stderr);
+    };
     let named = is_option(&word[..n]);
-    if count == 3 {
+    if !given(rt, 3) {
         if named {
-            return from_file(STDIN_FILENO, true);
+            return from_input(streams, true);
         }
-        return from_named(2, false);
+        return from_named(rt, streams, 2, false);
     }
-    if count != 4 {
-        return usage();
+    if given(rt, 4) {
+        return usage(streams.stderr);
     }
     if named {
-        return from_named(3, true);
+        return from_named(rt, streams, 3, true);
     }
-    usage()
+    usage(streams.stderr)
 }
 
 // Notes that all went well.
-fn done() {
-    let mut name = io::buffer();
-    let n = os::arg(1, &mut name);
-    if os::errno() != 0 {
+fn done<R: Env + Files<File = File>>(rt: &R) {
+    let mut name = [0u8; 4096];
+    let Ok(n) = rt.arg(1, &mut name) else {
         return;
+    };
+    match open_overwrite(rt, &name[..n]) {
+        Err(_) => {}
+        Ok(made) => {
+            let mut to = made;
+            write_all(&mut to, b"done\n");
+        }
     }
-    let fd = os::open_overwrite(&name[..n]);
-    if fd < 0 {
-        return;
-    }
-    io::write_all(fd, b"done\n");
-    libc::close(fd);
 }
 
-fn main() {
-    if run() {
-        done();
+fn main(rt: HostRuntime) {
+    let streams = Streams {
+        stdin: rt.stdin(),
+        stdout: rt.stdout(),
+        stderr: rt.stderr(),
+    };
+    if run(&rt, streams) {
+        done(&rt);
     }
 }

@@ -1,11 +1,10 @@
 -- The table of classes: its two rules, each a test at every entry that is computed. Assumes nothing.
 use Prim.Native.Nat.{ℕ, ◌<◌}
-use native.Mathlib.Omega.{arith}
-use mathlib.Core.Path.{◌≡◌, refl, sym, ap, ◌∙◌}
+use mathlib.Core.Path.{◌≡◌, refl}
 use mathlib.Core.Bool.{Bool, true, false, ◌||◌}
 use mathlib.Core.List.{List, [], ◌∷◌}
 use lib.Dec.{T, eqb, ltb, eqb→eq}
-use lib.ListN.{length, get_or}
+use lib.ListN.{get_or}
 use Rattle.text.specs.Words.{is_letter, is_digit, is_word_byte, same, bytes_of}
 use Rattle.text.specs.Reader.{class_of, sign_among, signs}
 use Rattle.spelling.specs.Codes.{class_number, code_of}

@@ -1,15 +1,15 @@
 -- The first word of a text that spells words: its first byte says what it is, and where it ends. Assumes nothing.
-use Prim.Native.Nat.{ℕ, zero, suc, ◌+◌, ◌-◌, ◌≤◌, ◌<◌}
+use Prim.Native.Nat.{ℕ, suc, ◌+◌, ◌≤◌, ◌<◌}
 use native.Mathlib.Omega.{arith}
 use native.Mathlib.Numerals.{add-one}
-use mathlib.Core.Path.{◌≡◌, refl, sym, ap, ◌∙◌}
-use mathlib.Core.Bool.{Bool, true, false, ◌&&◌}
+use mathlib.Core.Path.{◌≡◌, refl}
+use mathlib.Core.Bool.{Bool, true, false}
 use mathlib.Core.List.{List, [], ◌∷◌, ◌++◌}
-use lib.ListN.{length, take, drop, get_or}
-use lib.Seq.{drop-cons, drop-length}
-use Rattle.trees.proofs.Tests.{false_true, and_true_l, and_true_r}
-use Rattle.text.specs.Words.{is_letter, is_digit, is_word_byte, all, same, Word, name, number, constant, prefix, binary, quantifier, opening, closing, comma, dot, once, historically, previously, negation, sinces, ands, ors, implies, universal, existential, bytes_of, pick, word_of, led, Name, some, Digits, Proper, wordy, Spelled, nothing, space, word}
-use Rattle.spelling.specs.Codes.{code_of, class_number, Spells, Skips}
+use lib.ListN.{length, drop, get_or}
+use lib.Seq.{drop-cons}
+use Rattle.trees.proofs.Tests.{false_true, and_true_l}
+use Rattle.text.specs.Words.{is_letter, is_digit, all, Word, name, number, constant, prefix, binary, quantifier, opening, closing, comma, dot, once, historically, previously, negation, sinces, ands, ors, implies, universal, existential, bytes_of, led, some, Proper, Spelled, nothing, space, word}
+use Rattle.spelling.specs.Codes.{Spells, Skips}
 
 -- no word begins with a space
 no_space : (w : Word) (rest bs : List ℕ) → Proper w → bytes_of w ++ rest ≡ 32 ∷ bs → ⊥

@@ -1,17 +1,17 @@
 -- The next word: its first byte says what it is, and where it ends. Assumes nothing.
-use Prim.Native.Nat.{ℕ, zero, suc, ◌+◌, ◌-◌, ◌≤◌, ◌<◌}
+use Prim.Native.Nat.{ℕ, suc, ◌+◌, ◌-◌, ◌≤◌, ◌<◌}
 use native.Mathlib.Omega.{arith}
 use mathlib.Core.Path.{◌≡◌, refl, sym, ap, ◌∙◌}
-use mathlib.Core.Bool.{Bool, true, false, ◌&&◌}
+use mathlib.Core.Bool.{Bool, true, false}
 use mathlib.Core.List.{List, [], ◌∷◌, ◌++◌}
 use lib.ListN.{length, take, drop, get_or, length-append, length-drop}
 use lib.Seq.{drop-cons, drop-length, drop-drop, take-append_seam, drop-append_seam}
 use Rattle.trees.proofs.Tests.{false_true, and_true_l, and_true_r}
-use Rattle.text.specs.Words.{is_letter, is_digit, is_word_byte, all, same, Word, name, number, constant, prefix, binary, quantifier, opening, closing, comma, dot, once, historically, previously, negation, sinces, ands, ors, implies, universal, existential, bytes_of, pick, reserved, word_of, led, Name, some, Digits, Proper, wordy, Spelled, nothing, space, word}
+use Rattle.text.specs.Words.{is_letter, is_digit, is_word_byte, all, same, Word, name, number, constant, prefix, binary, quantifier, opening, closing, comma, dot, once, historically, previously, negation, sinces, ands, ors, implies, universal, existential, bytes_of, pick, reserved, word_of, led, some, Proper, wordy, Spelled, nothing, space, word}
 use Rattle.text.specs.Reader.{class_of, sign_among, signs}
 use Rattle.text.proofs.ClassLaws.{class_letter, class_digit, digit_in_word}
 use Rattle.text.proofs.LexLaws
-use Rattle.spelling.specs.Codes.{code_of, class_number, Stops, Ends, Spells, Skips, First, Next}
+use Rattle.spelling.specs.Codes.{code_of, class_number, Stops, Ends, Spells, Skips, Next}
 use Rattle.spelling.proofs.RunLaws.{run_same}
 
 -- what the first byte says: a word of letters, a constant, `->`, a word of one sign

@@ -1,9 +1,9 @@
 -- Which word letters spell: the reserved words one after the other, and else a name. Assumes nothing.
 use Prim.Native.Nat.{ℕ}
 use mathlib.Core.Path.{◌≡◌, refl, sym, ap, ◌∙◌}
-use mathlib.Core.Bool.{Bool, true, false}
+use mathlib.Core.Bool.{true, false}
 use mathlib.Core.List.{List, [], ◌∷◌}
-use Rattle.text.specs.Words.{same, Word, name, constant, prefix, binary, quantifier, once, historically, sinces, universal, existential, bytes_of, pick, reserved, word_of}
+use Rattle.text.specs.Words.{same, Word, constant, prefix, binary, quantifier, once, historically, sinces, universal, existential, bytes_of, pick, reserved, word_of}
 use Rattle.spelling.specs.Codes.{code_of}
 
 pick_here : (w : Word) (ws : List Word) (bs : List ℕ) → same bs (bytes_of w) ≡ true → pick (w ∷ ws) bs ≡ w

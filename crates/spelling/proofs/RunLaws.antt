@@ -2,13 +2,13 @@
 use Prim.Native.Nat.{ℕ, zero, suc, ◌+◌, ◌-◌, ◌≤◌, ◌<◌, min, ◌*◌}
 use native.Mathlib.Omega.{arith}
 use mathlib.Core.Path.{◌≡◌, refl, sym, ap, ◌∙◌}
-use mathlib.Core.Bool.{Bool, true, false, ◌&&◌}
+use mathlib.Core.Bool.{true, false}
 use mathlib.Core.List.{List, [], ◌∷◌, ◌++◌}
 use lib.ListN.{length, take, drop, get_or, length-drop}
 use lib.Seq.{drop-cons, drop-length, take-suc, get_or-drop}
 use native.Mathlib.Numerals.{add-one}
 use Rattle.trees.proofs.Tests.{false_true, and_true_l, and_true_r, lt_or_ge}
-use mathlib.Core.Logic.{◌⊎◌, inl, inr, ⊎_elim}
+use mathlib.Core.Logic.{⊎_elim}
 use Rattle.text.specs.Words.{is_word_byte, all}
 use Rattle.text.specs.Unfold.{value_after}
 use Rattle.text.proofs.LexLaws.{value_grows}

@@ -1,8 +1,8 @@
 -- The tables of kinds and of modes hold small numbers. Assumes nothing.
 use Prim.Native.Nat.{ℕ, ◌<◌}
 use mathlib.Core.Bool.{Bool}
-use lib.Dec.{T, ltb}
-use lib.ListN.{length, get_or}
+use lib.Dec.{ltb}
+use lib.ListN.{get_or}
 use lib.Dec.{ltb→lt}
 use Rattle.spelling.specs.Codes.{kinds, nexts}
 use Rattle.spelling.proofs.Tables.{at}

@@ -1,5 +1,5 @@
 -- Words, classes of bytes and modes by number, as the code has them, and what it is to find the next word of a text. Assumes nothing.
-use Rattle.std.specs.Prelude.{ℕ, suc, ◌+◌, ◌-◌, ◌*◌, ◌≤◌, ◌<◌, ◌≡◌, Bool, true, false, List, [], ◌∷◌, ◌++◌, length, take, drop, get_or}
+use Rattle.std.specs.Prelude.{ℕ, ◌+◌, ◌-◌, ◌*◌, ◌≤◌, ◌<◌, ◌≡◌, Bool, true, false, List, [], ◌∷◌, length, take, drop, get_or}
 use Rattle.text.specs.Words.{is_word_byte, all, Word, name, number, constant, prefix, binary, quantifier, opening, closing, comma, dot, once, historically, previously, negation, sinces, ands, ors, implies, universal, existential, bytes_of, wordy, Spelled}
 use Rattle.text.specs.Reader.{Class, blank, letter, digit, minus, sign, foreign}
 use Rattle.text.specs.Shape.{Mode, operand, operator, call, slot, point, argument, separator, nowhere}

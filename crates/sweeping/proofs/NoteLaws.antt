@@ -15,11 +15,11 @@ use Rattle.trees.proofs.TreeLaws.{node_fine}
 use Rattle.trees.proofs.TableLaws.{at_index, mem_place}
 use Rattle.trees.proofs.RoomLaws.{pigeon}
 use Rattle.trees.proofs.ReadLaws.{length_trees}
-use Rattle.nodes.specs.Nodes.{Table, Splits}
+use Rattle.nodes.specs.Nodes.{Splits}
 use Rattle.nodes.proofs.ReadLaws.{stays}
 use Rattle.visits.specs.Visits.{sweep}
 use Rattle.visits.proofs.VisitLaws.{walk_fits}
-use Rattle.visits.proofs.VisitSteps.{numbers_are, refines_leaf, refines_hit}
+use Rattle.visits.proofs.VisitSteps.{refines_leaf, refines_hit}
 use Rattle.sweeping.specs.Sweeps.{Ordered, Noted, notes_of, Emitted}
 
 -- a leaf's reference leads to the leaf in every table

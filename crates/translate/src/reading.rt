@@ -9,7 +9,7 @@ ghost use Rattle.translate.specs.Translated.{Limits, Translated};
 use crate::laying::{lay_places, lay_rows};
 use crate::{Told, Translation, refused};
 use census::calls::too_many;
-use census::constants::too_large_law;
+use census::constants::too_large;
 use census::counts::clashes;
 use census::names::names;
 use census::scopes::has_free;
@@ -20,7 +20,7 @@ pub fn limits(text: &[u8]) -> u32
     requires { HasReading text.now }
     ensures { Limits text.now result }
 {
-    if too_large_law(text) {
+    if too_large(text) {
         return 4;
     }
     if too_many(text) {

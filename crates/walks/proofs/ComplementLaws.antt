@@ -1,12 +1,12 @@
 -- The branches of the walk for a complement: each leaves, answers and counts what the definition says. Assumes nothing.
 use Prim.Native.Nat.{ℕ, ◌+◌, ◌*◌, ◌-◌, ◌≤◌, ◌<◌}
-use mathlib.Core.Path.{◌≡◌, sym, ◌∙◌}
+use mathlib.Core.Path.{◌≡◌, ◌∙◌}
 use mathlib.Core.List.{List}
 use native.Mathlib.Omega.{arith}
-use lib.ListN.{length, get_or, set, length-set}
+use lib.ListN.{get_or, set}
 use Rattle.trees.specs.Tree.{Tree, mk, not_t}
 use Rattle.trees.specs.Table.{at, trees_of}
-use Rattle.nodes.specs.Nodes.{Table, Splits, Grown}
+use Rattle.nodes.specs.Nodes.{Splits, Grown}
 use Rattle.visits.specs.Visits.{complement, Refines}
 use Rattle.visits.proofs.VisitLaws.{walk_fits}
 use Rattle.visits.proofs.VisitSteps.{refines_leaf, refines_hit, apart_refines}

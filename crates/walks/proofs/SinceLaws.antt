@@ -6,7 +6,7 @@ use mathlib.Core.List.{List}
 use mathlib.Core.Logic.{⊎_elim}
 use native.Mathlib.Omega.{arith}
 use Rattle.trees.specs.Bits.{Bits, Asks, put}
-use Rattle.trees.specs.Tree.{Tree, off, on, eval, Fine, mk, tree_of, since_t}
+use Rattle.trees.specs.Tree.{Tree, off, eval, Fine, mk, tree_of, since_t}
 use Rattle.trees.specs.Table.{at, trees_of}
 use Rattle.trees.proofs.Tests.{lt_or_ge}
 use Rattle.trees.proofs.TreeLaws.{side, fine_side, eval_side, eval_agree, fine_lower, fine_off, fine_on}

@@ -2,7 +2,6 @@
 use mathlib.Core.Path.{◌∙◌}
 use native.Mathlib.Omega.{arith}
 use Rattle.age_check.proofs.MarkLaws.{bits_last, bits_over, bits_leaf, bits_apart, bits_marked}
-use borrow.Author.Rules.{rules}
 use Rattle.age_check.proofs.bits_of.Goals as goal
 
 pub returns-then-p-eq1 : goal.returns-then-p-eq1

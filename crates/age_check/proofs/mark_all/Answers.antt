@@ -1,17 +1,15 @@
-use Prim.Native.Nat.{◌+◌, ◌-◌, ◌≤◌}
+use Prim.Native.Nat.{◌+◌}
 use mathlib.Core.Path.{◌≡◌, refl, ◌∙◌}
 use native.Mathlib.Omega.{arith}
 use lib.ListN.{length, set, length-set}
 use lib.Seq.{get_or-set_other}
-use Rattle.nodes.specs.Nodes.{Rest}
-use Rattle.age_check.specs.Marks.{Marked}
 use Rattle.age_check.proofs.MarkLaws.{marks_none, marks_more}
 use Rattle.age_check.proofs.mark_all.Goals as goal
 use Rattle.age_check.proofs.mark_all.Goals.{At-loop-r}
 
 -- the work slice keeps its length
-size : (l : At-loop-r) → length l.loop.work ≡ length l.args.work.now
-size l = l.loop.invariant.2 ∙ simp length-set
+size : (c : At-loop-r) → length c.loop-r.work ≡ length c.args.work.now
+size c = c.loop-r.invariant.2 ∙ simp length-set
 
 pub bounds-work-1 : goal.bounds-work-1
 bounds-work-1 c = simp length-set (omega arith)
@@ -27,13 +25,13 @@ weigh-x-requires c =
     let l = c in
     let s = l in
     let v = l.loop-r.invariant in
-    record { table = (s.requires.0, v.1, c.loop-r-test.true, omega (arith, size l, s.requires.1, c.loop-r-test.true)); base_bound = (s.requires.2, v.3) }
+    record { table = (s.requires.0, v.1, c.loop-r-test.true, omega (arith, size (goal.at.weigh-x-requires c).At-loop-r, s.requires.1, c.loop-r-test.true)); base_bound = (s.requires.2, v.3) }
 
 pub offset_bounds-work-i : goal.offset_bounds-work-i
-offset_bounds-work-i c = omega (arith, size c, c.requires.1)
+offset_bounds-work-i c = omega (arith, size (goal.at.offset_bounds-work-i c).At-loop-r, c.requires.1)
 
 pub bounds-work-i : goal.bounds-work-i
-bounds-work-i c = omega (arith, size c, c.requires.1, c.loop-r-test.true)
+bounds-work-i c = omega (arith, size (goal.at.bounds-work-i c).At-loop-r, c.requires.1, c.loop-r-test.true)
 
 pub overflow_add-r : goal.overflow_add-r
 overflow_add-r c = let t = c.requires.0 in omega (arith, t.fits, t.small, c.loop-r-test.true)
@@ -50,12 +48,9 @@ loop-r-preserved c =
       omega arith,
       omega (arith, v.1),
       length-set l.loop-r.work l.loop-r.r c.weigh-x.result ∙ v.2,
-      marks_more v.3 (omega (arith, size l, s.requires.1)) c.weigh-x.ensures,
+      marks_more v.3 (omega (arith, size (goal.at.loop-r-preserved c).At-loop-r, s.requires.1)) c.weigh-x.ensures,
       record { eq = λ i g. get_or-set_other l.loop-r.work l.loop-r.r i c.weigh-x.result 0 (omega arith) ∙ v.4.eq i g },
     )
-
-pub shape_of-work : goal.shape_of-work
-shape_of-work c = size c
 
 pub returns : goal.returns
 returns c =

@@ -1,13 +1,10 @@
 -- `mark_all` meets its contract. The loop's invariant: the references before r are marked, and nothing past the marks has changed. The
 -- measure is what is left. Assumes nothing.
 use Prim.Native.Nat.{◌+◌, ◌-◌, ◌≤◌}
-use mathlib.Core.Path.{◌≡◌, refl, ◌∙◌}
-use native.Mathlib.Omega.{arith}
-use lib.ListN.{length, set, length-set}
-use lib.Seq.{get_or-set_other}
+use mathlib.Core.Path.{◌≡◌}
+use lib.ListN.{length}
 use Rattle.nodes.specs.Nodes.{Rest}
 use Rattle.age_check.specs.Marks.{Marked}
-use Rattle.age_check.proofs.MarkLaws.{marks_none, marks_more}
 use Rattle.age_check.proofs.mark_all.Given as goal
 
 abbrev pub invariant-loop-r : goal.invariant-loop-r

@@ -1,6 +1,4 @@
-use Prim.Native.Nat.{◌-◌, ◌≤◌}
 use native.Mathlib.Omega.{arith}
-use Rattle.age_check.specs.Marks.{AgesRight}
 use Rattle.age_check.proofs.MarkLaws.{rows_more, row_fails}
 use Rattle.age_check.proofs.rows_right.Goals as goal
 
@@ -31,7 +29,7 @@ returns-then-top-age_of c =
     let l = c in
     let s = l in
     let k = c.loop-i-test.true in
-    row_fails k (s.requires.by_index.0 l.loop-i.i k).1 c.age_of_law.ensures c.if-top-age_of.true
+    row_fails k (s.requires.by_index.0 l.loop-i.i k).1 c.age_of.ensures c.if-top-age_of.true
 
 pub loop-i-smaller : goal.loop-i-smaller
 loop-i-smaller c = omega (arith, c.loop-i-test.true)
@@ -41,7 +39,7 @@ loop-i-preserved c =
     let l = c in
     let s = l in
     let k = c.loop-i-test.true in
-    (omega arith, rows_more l.loop-i.invariant.1 (s.requires.by_index.0 l.loop-i.i k).1 c.age_of_law.ensures (omega (arith, c.if-top-age_of.false)))
+    (omega arith, rows_more l.loop-i.invariant.1 (s.requires.by_index.0 l.loop-i.i k).1 c.age_of.ensures (omega (arith, c.if-top-age_of.false)))
 
 pub returns : goal.returns
 returns c = record { each = λ i h. c.loop-i.invariant.1.each i (omega (arith, c.loop-i-test.false)) }

@@ -1,8 +1,6 @@
 -- `rows_right` meets its contract. The loop's invariant: the first i rows pass. The measure is what is left. Assumes nothing.
 use Prim.Native.Nat.{◌-◌, ◌≤◌}
-use native.Mathlib.Omega.{arith}
 use Rattle.age_check.specs.Marks.{AgesRight}
-use Rattle.age_check.proofs.MarkLaws.{rows_more, row_fails}
 use Rattle.age_check.proofs.rows_right.Given as goal
 
 abbrev pub invariant-loop-i : goal.invariant-loop-i

@@ -4,7 +4,6 @@ use mathlib.Core.Path.{sym, ap₂, ◌∙◌}
 use native.Mathlib.Omega.{arith}
 use Rattle.nodes.proofs.ReadLaws.{read_below}
 use Rattle.age_check.proofs.MarkLaws.{mark_high, mark_past, mark_none, mark_both, mark_odd, mark_even, bits_le}
-use borrow.Author.Rules.{rules}
 use Rattle.age_check.proofs.weigh.Goals as goal
 
 pub read-x-requires : goal.read-x-requires
@@ -30,7 +29,7 @@ pub returns-then-x-base : goal.returns-then-x-base
 returns-then-x-base c =
     let at_read = c in
     let s = at_read in
-    c.greater.ensures ∙ ap₂ max c.age_of_law.ensures c.age_of-then-x-base.ensures ∙ sym (mark_high s.requires.table.0 at_read.read-x.ensures s.args.base c.if-x-base.true)
+    c.greater.ensures ∙ ap₂ max c.age_of.ensures c.age_of-then-x-base.ensures ∙ sym (mark_high s.requires.table.0 at_read.read-x.ensures s.args.base c.if-x-base.true)
 
 pub returns-then-base-x : goal.returns-then-base-x
 returns-then-base-x c =

@@ -1,7 +1,5 @@
-use Prim.Native.Nat.{◌-◌}
 use native.Mathlib.Omega.{arith}
-use lib.ListN.{length}
-use Rattle.answers.proofs.PutLaws.{Putting, putting_none, putting_more, putting_all}
+use Rattle.answers.proofs.PutLaws.{putting_none, putting_more, putting_all}
 use Rattle.answers.proofs.put.Goals as goal
 
 pub loop-i-init : goal.loop-i-init

@@ -1,9 +1,8 @@
 -- `answers::put` meets its contract: byte after byte, the bytes passed stand behind what was there. The measure is what is left of them.
 -- Assumes nothing.
 use Prim.Native.Nat.{◌-◌}
-use native.Mathlib.Omega.{arith}
 use lib.ListN.{length}
-use Rattle.answers.proofs.PutLaws.{Putting, putting_none, putting_more, putting_all}
+use Rattle.answers.proofs.PutLaws.{Putting}
 use Rattle.answers.proofs.put.Given as goal
 
 abbrev pub invariant-loop-i : goal.invariant-loop-i

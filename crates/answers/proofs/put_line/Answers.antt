@@ -1,7 +1,6 @@
 -- `answers::put_line` meets its contract: four texts, one behind another. Assumes nothing.
 use native.Mathlib.Omega.{arith}
 use Rattle.answers.proofs.PutLaws.{put_both, put_same, word_line_law}
-use borrow.Author.Rules.{rules}
 use Rattle.answers.proofs.put_line.Goals as goal
 
 pub returns : goal.returns

@@ -4,14 +4,13 @@ use mathlib.Core.Path.{◌∙◌}
 use lib.ListN.{length-set}
 use Rattle.answers.proofs.PutLaws.{put_byte, put_both}
 use Rattle.answers.proofs.NumberLaws.{narrow_few}
-use borrow.Author.Rules.{rules}
 use Rattle.answers.proofs.put_spaced.Goals as goal
 
 pub put_number-requires : goal.put_number-requires
 put_number-requires c = simp length-set (omega (arith, c.requires, narrow_few c.args.n c.ranges.n.fits))
 
 pub shape_of-out : goal.shape_of-out
-shape_of-out c = c.put_number.auto.0 ∙ simp length-set
+shape_of-out c = c.put_number.auto.out ∙ simp length-set
 
 pub returns : goal.returns
 returns c =

@@ -2,7 +2,6 @@
 use native.Mathlib.Omega.{arith}
 use Rattle.answers.proofs.PutLaws.{put_both}
 use Rattle.answers.specs.Answers.{told_lines}
-use borrow.Author.Rules.{rules}
 use Rattle.answers.proofs.put_told.Goals as goal
 
 pub returns : goal.returns

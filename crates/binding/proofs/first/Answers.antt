@@ -1,10 +1,8 @@
-use Prim.Native.Nat.{◌+◌, ◌*◌, ◌-◌, ◌≤◌}
-use mathlib.Core.Path.{◌≡◌, refl, ◌∙◌}
+use Prim.Native.Nat.{◌*◌}
+use mathlib.Core.Path.{refl, ◌∙◌}
 use native.Mathlib.Omega.{arith}
-use lib.ListN.{length}
 use Rattle.trees.specs.Table.{at, trees_of}
-use Rattle.nodes.specs.Nodes.{Rest}
-use Rattle.binding.proofs.FirstLaws.{Going, not_no, going_none, going_same, going_more, going_first}
+use Rattle.binding.proofs.FirstLaws.{not_no, going_none, going_same, going_more, going_first}
 use Rattle.binding.proofs.first.Goals as goal
 
 pub loop-left-init : goal.loop-left-init
@@ -50,9 +48,9 @@ loop-left-preserved c =
     let h = c.loop-left-test.true in
     let e = c.least-n.ensures in (
       omega (arith, h, v.0),
-      c.least-n.auto.1.1.1.1.1.1.0 ∙ v.1,
-      record { eq = λ i q. e.1.eq i q ∙ v.2.eq i q },
-      going_same (omega (arith, h, v.0)) (going_more s.requires.k_bound.3 (omega (arith, h, v.0)) s.requires.k_bound.1 v.3 e.0),
+      c.least-n.auto.work ∙ v.1,
+      record { eq = λ i q. e.rest.eq i q ∙ v.2.eq i q },
+      going_same (omega (arith, h, v.0)) (going_more s.requires.k_bound.3 (omega (arith, h, v.0)) s.requires.k_bound.1 v.3 e.fixes),
     )
 
 pub shape_of-work : goal.shape_of-work

@@ -1,12 +1,11 @@
 -- `first` meets its contract. The loop's invariant: the variables before the `left` last are bound. The measure is what is left.
 -- Assumes nothing.
-use Prim.Native.Nat.{◌+◌, ◌*◌, ◌-◌, ◌≤◌}
-use mathlib.Core.Path.{◌≡◌, refl, ◌∙◌}
-use native.Mathlib.Omega.{arith}
+use Prim.Native.Nat.{◌+◌, ◌-◌, ◌≤◌}
+use mathlib.Core.Path.{◌≡◌}
 use lib.ListN.{length}
 use Rattle.trees.specs.Table.{at, trees_of}
 use Rattle.nodes.specs.Nodes.{Rest}
-use Rattle.binding.proofs.FirstLaws.{Going, not_no, going_none, going_same, going_more, going_first}
+use Rattle.binding.proofs.FirstLaws.{Going}
 use Rattle.binding.proofs.first.Given as goal
 
 abbrev pub invariant-loop-left : goal.invariant-loop-left

@@ -1,12 +1,8 @@
 use Prim.Native.Nat.{ℕ, suc, ◌+◌, ◌*◌, ◌-◌, ◌≤◌, ◌<◌}
-use mathlib.Core.Path.{◌≡◌, refl, ◌∙◌}
+use mathlib.Core.Path.{refl, ◌∙◌}
 use native.Mathlib.Nat.{mul-le-mul_right}
 use native.Mathlib.Omega.{arith}
-use lib.ListN.{length}
 use lib.Pow.{pow_mono}
-use Rattle.trees.specs.Table.{at, trees_of}
-use Rattle.nodes.specs.Nodes.{Rest}
-use Rattle.binding.specs.Fixing.{Fixes}
 use Rattle.binding.proofs.FixLaws.{settles_small, fixes_none, fixes_same, fixes_lt, fixes_more}
 use Rattle.binding.proofs.least.Goals as goal
 use Rattle.binding.proofs.least.Goals.{At-loop-done}
@@ -16,10 +12,9 @@ below : (v k : ℕ) → v < 4 → k ≤ 10 → v * k + k ≤ 40
 below v k h g = let m : suc v * k ≤ 4 * k = mul-le-mul_right k h in omega arith
 
 -- the number so far is small
-small : (l : At-loop-done) → l.loop.n < 1024
-small l =
-    let s = l in
-    omega (arith, fixes_lt _ s.requires.0.1 l.loop.invariant.3, pow_mono (fits s.args.k l.loop.done l.loop.invariant.0 s.requires.1.1.0.0))
+small : (c : At-loop-done) → c.loop-done.n < 1024
+small c =
+    omega (arith, fixes_lt _ c.requires.table.1 c.loop-done.invariant.3, pow_mono (fits c.args.k c.loop-done.done c.loop-done.invariant.0 c.requires.k_bound.0))
   where
     fits : (k n : ℕ) → n ≤ k → k ≤ 10 → n ≤ 10
     fits k n g h = omega arith
@@ -47,10 +42,10 @@ settle-x-requires c =
     record { table = s.requires.table.0; p_bound = (s.requires.p_bound.0, omega (arith, v.1, s.requires.p_bound.1)); level_bound = (omega (arith, c.loop-done-test.true, below s.args.v s.args.k s.requires.k_bound.1 s.requires.k_bound.0), v.3.size ∙ s.requires.k_bound.2) }
 
 pub overflow_mul-n : goal.overflow_mul-n
-overflow_mul-n c = omega (arith, small c)
+overflow_mul-n c = omega (arith, small (goal.at.overflow_mul-n c).At-loop-done)
 
 pub overflow_add-n : goal.overflow_add-n
-overflow_add-n c = omega (arith, small c, settles_small c.settle-x.ensures.settles)
+overflow_add-n c = omega (arith, small (goal.at.overflow_add-n c).At-loop-done, settles_small c.settle-x.ensures.settles)
 
 pub loop-done-smaller : goal.loop-done-smaller
 loop-done-smaller c = omega (arith, c.loop-done-test.true)
@@ -64,15 +59,12 @@ loop-done-preserved c =
     let e = c.settle-x.ensures in
     let wide = below s.args.v s.args.k s.requires.k_bound.1 s.requires.k_bound.0 in
     let level = s.args.v * s.args.k + (s.args.k - (l.loop-done.done + 1)) in
-    let more = fixes_more _ level l.loop-done.done _ _ _ (fixes_same (omega (arith, h)) refl v.3) (omega (arith, h, wide, s.requires.k_bound.2)) (s.requires.free.each level (omega arith) (omega (arith, h))) _ s.requires.table.1 e.0 in (
+    let more = fixes_more _ level l.loop-done.done _ _ _ (fixes_same (omega (arith, h)) refl v.3) (omega (arith, h, wide, s.requires.k_bound.2)) (s.requires.free.each level (omega arith) (omega (arith, h))) _ s.requires.table.1 e.settles in (
       omega (arith, h),
-      c.settle-x.auto.1.1.1.1.1.0 ∙ v.1,
-      record { eq = λ i q. e.1.eq i q ∙ v.2.eq i q },
+      c.settle-x.auto.work ∙ v.1,
+      record { eq = λ i q. e.rest.eq i q ∙ v.2.eq i q },
       fixes_same refl (omega arith) more,
     )
-
-pub shape_of-work : goal.shape_of-work
-shape_of-work c = c.loop-done.invariant.1
 
 pub returns : goal.returns
 returns c =

@@ -1,15 +1,11 @@
 -- `least` meets its contract. The loop's invariant: the `done` most significant bits are fixed to the least number that they can show.
 -- The measure is what is left. Assumes nothing.
-use Prim.Native.Nat.{ℕ, suc, ◌+◌, ◌*◌, ◌-◌, ◌≤◌, ◌<◌}
-use mathlib.Core.Path.{◌≡◌, refl, ◌∙◌}
-use native.Mathlib.Nat.{mul-le-mul_right}
-use native.Mathlib.Omega.{arith}
+use Prim.Native.Nat.{◌+◌, ◌*◌, ◌-◌, ◌≤◌}
+use mathlib.Core.Path.{◌≡◌}
 use lib.ListN.{length}
-use lib.Pow.{pow_mono}
 use Rattle.trees.specs.Table.{at, trees_of}
 use Rattle.nodes.specs.Nodes.{Rest}
 use Rattle.binding.specs.Fixing.{Fixes}
-use Rattle.binding.proofs.FixLaws.{settles_small, fixes_none, fixes_same, fixes_lt, fixes_more}
 use Rattle.binding.proofs.least.Given as goal
 
 abbrev pub invariant-loop-done : goal.invariant-loop-done

@@ -1,5 +1,4 @@
 -- `settle` meets its contract. Assumes nothing.
-use borrow.Author.Rules.{rules}
 use Rattle.binding.proofs.FixLaws.{settles_zero, settles_one}
 use Rattle.binding.proofs.settle.Goals as goal
 
@@ -7,10 +6,10 @@ pub returns-then-possible : goal.returns-then-possible
 returns-then-possible c =
     let s = c in
     let e = c.possible.ensures in
-    record { settles = settles_zero _ s.args.level s.args.fixed.now e.0 c.if-possible.true; rest = e.1 }
+    record { settles = settles_zero _ s.args.level s.args.fixed.now e.value c.if-possible.true; rest = e.rest }
 
 pub returns : goal.returns
 returns c =
     let s = c in
     let e = c.possible.ensures in
-    record { settles = settles_one _ s.args.level s.args.fixed.now e.0 c.if-possible.false; rest = e.1 }
+    record { settles = settles_one _ s.args.level s.args.fixed.now e.value c.if-possible.false; rest = e.rest }

@@ -1,7 +1,5 @@
 use native.Mathlib.Omega.{arith}
-use Prim.Native.Nat.{◌-◌}
-use lib.ListN.{length}
-use Rattle.feed.proofs.HeldLaws.{Holding, hold_none, hold_more, hold_rest, hold_all}
+use Rattle.feed.proofs.HeldLaws.{hold_none, hold_more, hold_rest, hold_all}
 use Rattle.feed.proofs.hold.Goals as goal
 
 pub loop-i-init : goal.loop-i-init

@@ -1,8 +1,7 @@
 -- `feed::hold` meets its contract: the bytes passed are held, one after the other. The measure is what is left of them. Assumes nothing.
-use native.Mathlib.Omega.{arith}
 use Prim.Native.Nat.{◌-◌}
 use lib.ListN.{length}
-use Rattle.feed.proofs.HeldLaws.{Holding, hold_none, hold_more, hold_rest, hold_all}
+use Rattle.feed.proofs.HeldLaws.{Holding}
 use Rattle.feed.proofs.hold.Given as goal
 
 abbrev pub invariant-loop-i : goal.invariant-loop-i

@@ -1,11 +1,9 @@
 -- `feed::line_end` meets its contract: the line end that is looked for is the first from any place passed. The measure is what is left of the
 -- block. Assumes nothing.
-use native.Mathlib.Omega.{arith}
 use mathlib.Core.Path.{◌≡◌}
 use Prim.Native.Nat.{◌+◌, ◌-◌, ◌≤◌}
 use lib.Seq.{slice}
 use Rattle.feed.specs.Feeds.{before}
-use Rattle.feed.proofs.EndLaws.{end_here, end_later, end_none}
 use Rattle.feed.proofs.line_end.Given as goal
 
 abbrev pub invariant-loop-i : goal.invariant-loop-i

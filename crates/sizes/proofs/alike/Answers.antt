@@ -1,9 +1,8 @@
-use Prim.Native.Nat.{ℕ, ◌-◌, ◌≤◌}
+use Prim.Native.Nat.{ℕ}
 use mathlib.Core.Path.{◌≡◌, sym, ap}
 use mathlib.Core.List.{List}
 use native.Mathlib.Omega.{arith}
 use lib.ListN.{get_or}
-use Rattle.nodes.specs.Nodes.{Front}
 use Rattle.sizes.proofs.ListLaws.{alike_more, alike_all}
 use Rattle.sizes.proofs.alike.Goals as goal
 

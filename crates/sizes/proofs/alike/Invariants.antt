@@ -1,12 +1,7 @@
 -- `alike` meets its contract. The loop's invariant: the first i numbers are the same. The measure is what is left.
 -- Assumes nothing.
-use Prim.Native.Nat.{ℕ, ◌-◌, ◌≤◌}
-use mathlib.Core.Path.{◌≡◌, sym, ap}
-use mathlib.Core.List.{List}
-use native.Mathlib.Omega.{arith}
-use lib.ListN.{get_or}
+use Prim.Native.Nat.{◌-◌, ◌≤◌}
 use Rattle.nodes.specs.Nodes.{Front}
-use Rattle.sizes.proofs.ListLaws.{alike_more, alike_all}
 use Rattle.sizes.proofs.alike.Given as goal
 
 abbrev pub invariant-loop-i : goal.invariant-loop-i

@@ -1,7 +1,5 @@
-use Prim.Native.Nat.{◌-◌, ◌≤◌}
 use mathlib.Core.Path.{◌≡◌}
 use native.Mathlib.Omega.{arith}
-use Rattle.nodes.specs.Nodes.{Zeroed}
 use Rattle.nodes.proofs.ZeroLaws.{zeroed_none, zeroed_more}
 use Rattle.sizes.proofs.ListLaws.{all_zero}
 use Rattle.sizes.proofs.clear.Goals as goal

@@ -1,10 +1,6 @@
 -- `clear` meets its contract. The loop's invariant: the first i sizes are 0. The measure is what is left. Assumes nothing.
 use Prim.Native.Nat.{◌-◌, ◌≤◌}
-use mathlib.Core.Path.{◌≡◌}
-use native.Mathlib.Omega.{arith}
 use Rattle.nodes.specs.Nodes.{Zeroed}
-use Rattle.nodes.proofs.ZeroLaws.{zeroed_none, zeroed_more}
-use Rattle.sizes.proofs.ListLaws.{all_zero}
 use Rattle.sizes.proofs.clear.Given as goal
 
 abbrev pub invariant-loop-i : goal.invariant-loop-i

@@ -1,11 +1,7 @@
 -- `count_rows` meets its contract. The loop's invariant: the rows of w are still to be counted. The measure is w.
 -- Assumes nothing.
-use Prim.Native.Nat.{ℕ, ◌+◌, ◌≤◌, ◌<◌}
-use mathlib.Core.Path.{◌≡◌}
-use mathlib.Core.List.{List}
-use native.Mathlib.Omega.{arith}
-use lib.Count.{count_trailing_zeros}
-use Rattle.sizes.proofs.CountingLaws.{Left, left_all, left_none, lowest_inside, left_less, left_small, left_next}
+use Prim.Native.Nat.{◌<◌}
+use Rattle.sizes.proofs.CountingLaws.{Left}
 use Rattle.sizes.proofs.count_rows.Given as goal
 
 abbrev pub invariant-loop-w : goal.invariant-loop-w

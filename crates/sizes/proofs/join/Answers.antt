@@ -2,7 +2,6 @@
 use mathlib.Core.Path.{sym}
 use native.Mathlib.Omega.{arith}
 use Rattle.sizes.proofs.WordLaws.{give_leaf, give_at}
-use borrow.Author.Rules.{rules}
 use Rattle.sizes.proofs.join.Goals as goal
 
 pub returns-then-r-lt2 : goal.returns-then-r-lt2

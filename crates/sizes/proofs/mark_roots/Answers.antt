@@ -1,9 +1,5 @@
-use Prim.Native.Nat.{◌-◌, ◌≤◌}
 use mathlib.Core.Path.{◌≡◌, refl, ◌∙◌}
-use mathlib.Core.List.{map}
 use native.Mathlib.Omega.{arith}
-use lib.ListN.{length}
-use Rattle.sizes.specs.Words.{has_row, given}
 use Rattle.sizes.proofs.PassLaws.{given_none, given_more, shifted}
 use Rattle.sizes.proofs.mark_roots.Goals as goal
 
@@ -19,7 +15,7 @@ pub loop-t-preserved : goal.loop-t-preserved
 loop-t-preserved c =
     let v = c.loop-t.invariant in
     let s = c in
-    (omega arith, c.join.auto.0 ∙ v.1, given_more s.args.base c.loop-t.t _ s.args.refs.now s.args.words.now c.loop-t.words c.join.new.0 (shifted c.loop-t.t (omega (arith, s.requires.base_bound.1, c.loop-t-test.true))) v.2 (c.join.ensures s.args.base))
+    (omega arith, c.join.auto.words ∙ v.1, given_more s.args.base c.loop-t.t _ s.args.refs.now s.args.words.now c.loop-t.words c.join.new.words (shifted c.loop-t.t (omega (arith, s.requires.base_bound.1, c.loop-t-test.true))) v.2 (c.join.ensures s.args.base))
 
 pub shape_of-words : goal.shape_of-words
 shape_of-words c = c.loop-t.invariant.1

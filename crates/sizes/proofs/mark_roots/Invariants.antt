@@ -1,12 +1,10 @@
 -- `mark_roots` meets its contract. The loop's invariant: the roots of the first t rows are marked. The measure is what is left.
 -- Assumes nothing.
 use Prim.Native.Nat.{◌-◌, ◌≤◌}
-use mathlib.Core.Path.{◌≡◌, refl, ◌∙◌}
+use mathlib.Core.Path.{◌≡◌}
 use mathlib.Core.List.{map}
-use native.Mathlib.Omega.{arith}
 use lib.ListN.{length}
 use Rattle.sizes.specs.Words.{has_row, given}
-use Rattle.sizes.proofs.PassLaws.{given_none, given_more, shifted}
 use Rattle.sizes.proofs.mark_roots.Given as goal
 
 abbrev pub invariant-loop-t : goal.invariant-loop-t

@@ -1,7 +1,7 @@
 use Prim.Native.Nat.{◌-◌}
 use mathlib.Core.Path.{sym, ◌∙◌}
 use native.Mathlib.Omega.{arith}
-use Rattle.sizes.proofs.PassLaws.{Pushing, pushing_all, pushing_none, pushing_small, pushing_more}
+use Rattle.sizes.proofs.PassLaws.{pushing_all, pushing_none, pushing_small, pushing_more}
 use Rattle.sizes.proofs.push_down.Goals as goal
 
 pub loop-n-init : goal.loop-n-init
@@ -91,7 +91,7 @@ join-requires-in-loop-n c =
     let s = c in
     let v = c.loop-n.invariant in
     let b = s.requires.table.0.back (c.loop-n.n - 1) (omega (arith, c.loop-n-test.true, v.few)) in
-    omega (arith, c.loop-n-test.true, v.few, v.long, b.1, c.join.auto.0)
+    omega (arith, c.loop-n-test.true, v.few, v.long, b.1, c.join.auto.words)
 
 pub count_rows-requires : goal.count_rows-requires
 count_rows-requires c =
@@ -106,7 +106,7 @@ pub loop-n-preserved : goal.loop-n-preserved
 loop-n-preserved c =
     let s = c in
     let v = c.loop-n.invariant in
-    pushing_more (c.loop-n.n - 1) c.loop-n.n (omega (arith, c.loop-n-test.true)) s.requires.table.0 v c.join.new.0 c.join-in-loop-n.new.0 (c.join-in-loop-n.auto.0 ∙ c.join.auto.0 ∙ v.long) (c.join.ensures s.args.base) (c.join-in-loop-n.ensures s.args.base) c.count_rows.ensures
+    pushing_more (c.loop-n.n - 1) c.loop-n.n (omega (arith, c.loop-n-test.true)) s.requires.table.0 v c.join.new.words c.join-in-loop-n.new.words (c.join-in-loop-n.auto.words ∙ c.join.auto.words ∙ v.long) (c.join.ensures s.args.base) (c.join-in-loop-n.ensures s.args.base) c.count_rows.ensures
 
 pub shape_of-words : goal.shape_of-words
 shape_of-words c = let v = c.loop-n.invariant in v.long ∙ sym c.requires.table.1

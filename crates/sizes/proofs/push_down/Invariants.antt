@@ -1,9 +1,6 @@
 -- `push_down` meets its contract. The loop's invariant: the first n nodes are still to be counted. The measure is n.
 -- Assumes nothing.
-use Prim.Native.Nat.{◌-◌}
-use mathlib.Core.Path.{sym, ◌∙◌}
-use native.Mathlib.Omega.{arith}
-use Rattle.sizes.proofs.PassLaws.{Pushing, pushing_all, pushing_none, pushing_small, pushing_more}
+use Rattle.sizes.proofs.PassLaws.{Pushing}
 use Rattle.sizes.proofs.push_down.Given as goal
 
 abbrev pub invariant-loop-n : goal.invariant-loop-n

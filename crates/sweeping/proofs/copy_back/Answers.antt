@@ -1,7 +1,7 @@
-use Prim.Native.Nat.{◌*◌, ◌-◌, ◌≤◌}
+use Prim.Native.Nat.{◌*◌}
 use mathlib.Core.Path.{◌≡◌, refl, ◌∙◌}
 use native.Mathlib.Omega.{arith}
-use Rattle.sweeping.proofs.CopyLaws.{CopiedTo, copied_more, copied_all}
+use Rattle.sweeping.proofs.CopyLaws.{copied_more, copied_all}
 use Rattle.sweeping.proofs.copy_back.Goals as goal
 
 pub loop-i-init : goal.loop-i-init
@@ -11,7 +11,7 @@ pub loop-i-preserved : goal.loop-i-preserved
 loop-i-preserved c = (omega arith, copied_more _ _ _ _ (omega (arith, c.loop-i.invariant.1.size)) c.loop-i.invariant.1)
 
 pub shape_of-nodes : goal.shape_of-nodes
-shape_of-nodes c = c.zero.auto.0 ∙ c.loop-i.invariant.1.size
+shape_of-nodes c = c.zero.auto.xs ∙ c.loop-i.invariant.1.size
 
 pub returns : goal.returns
 returns c =

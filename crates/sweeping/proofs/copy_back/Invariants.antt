@@ -1,9 +1,7 @@
 -- `copy_back` meets its contract. The loop's invariant: the first i numbers are copied. The measure is what is left.
 -- Assumes nothing.
-use Prim.Native.Nat.{◌*◌, ◌-◌, ◌≤◌}
-use mathlib.Core.Path.{◌≡◌, refl, ◌∙◌}
-use native.Mathlib.Omega.{arith}
-use Rattle.sweeping.proofs.CopyLaws.{CopiedTo, copied_more, copied_all}
+use Prim.Native.Nat.{◌-◌, ◌≤◌}
+use Rattle.sweeping.proofs.CopyLaws.{CopiedTo}
 use Rattle.sweeping.proofs.copy_back.Given as goal
 
 abbrev pub invariant-loop-i : goal.invariant-loop-i

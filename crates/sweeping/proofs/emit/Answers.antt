@@ -1,5 +1,4 @@
 -- `emit` meets its contract: the four stores in order. Assumes nothing.
-use borrow.Author.Rules.{rules}
 use native.Mathlib.Omega.{arith}
 use lib.ListN.{length-set}
 use Rattle.sweeping.proofs.emit.Goals as goal

@@ -1,9 +1,8 @@
 -- `known` meets its contract: the laws of NoteLaws for a leaf and for a note. Assumes nothing.
-use Prim.Native.Nat.{◌+◌, ◌*◌, ◌-◌, ◌/◌, ◌<◌}
+use Prim.Native.Nat.{◌+◌, ◌*◌, ◌-◌, ◌/◌}
 use mathlib.Core.Path.{◌≡◌, refl}
 use native.Mathlib.Omega.{arith}
-use lib.ListN.{length, get_or}
-use borrow.Author.Rules.{rules}
+use lib.ListN.{length}
 use Rattle.sweeping.proofs.NoteLaws.{few, swept_leaf, swept_hit}
 use Rattle.sweeping.proofs.known.Goals as goal
 

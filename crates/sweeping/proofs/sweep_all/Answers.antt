@@ -1,23 +1,28 @@
-use Prim.Native.Nat.{◌-◌, ◌/◌, ◌≤◌}
+use Prim.Native.Nat.{◌/◌}
 use mathlib.Core.Path.{◌≡◌, ap, ◌∙◌}
-use mathlib.Core.Logic.{⊎_elim}
 use native.Mathlib.Omega.{arith}
 use lib.ListN.{length, get_or}
 use Rattle.sweeping.specs.Sweeps.{Emitted}
 use Rattle.sweeping.proofs.NoteLaws.{few_visits}
-use Rattle.sweeping.proofs.RowsLaws.{rows_ordered, Going, going_none, going_more, going_all}
+use Rattle.sweeping.proofs.RowsLaws.{rows_ordered, going_none, going_more, going_all}
 use Rattle.sweeping.proofs.sweep_all.Goals as goal
-use Rattle.sweeping.proofs.sweep_all.Goals.{Joined-s-eq0}
+use Rattle.sweeping.proofs.sweep_all.Goals.{Joined-s-eq0, then-s-eq0, else-s-eq0}
 
 -- what a reference gives
 done : (c : Joined-s-eq0)
-    → let l = c.loop-i in
-    let a = c.args in
-    Emitted a.nodes.now a.m (get_or a.refs.now l.i 0) l.work c.if-s-eq0.work (length a.nodes.now / 3) l.n c.if-s-eq0.s.count c.if-s-eq0.s.reference c.if-s-eq0.s.visits
-done c = ⊎_elim (λ y. rw (y.6, y.7) y.3.ensures) (λ y. rw (y.1, y.2) (c.known-s.ensures.seen y.0.left)) c.if-s-eq0.branch-raw
+    → Emitted c.args.nodes.now c.args.m (get_or c.args.refs.now c.loop-i.i 0) c.loop-i.work c.if-s-eq0.work (length c.args.nodes.now / 3) c.loop-i.n c.if-s-eq0.s.count c.if-s-eq0.s.reference c.if-s-eq0.s.visits
+done c =
+    elim c.if-s-eq0.branch [
+      | then-s-eq0 w ↦ rw (w.work-is, w.s-is) w.apart-s.ensures
+      | else-s-eq0 w ↦ rw (w.work-is, w.s-is) (c.known-s.ensures.seen w.if-s-eq0.false)
+    ]
 
 done-length : (c : Joined-s-eq0) → length c.if-s-eq0.work ≡ length c.loop-i.work
-done-length c = ⊎_elim (λ y. ap length y.6 ∙ y.3.kept.1.1.0) (λ y. ap length y.1) c.if-s-eq0.branch-raw
+done-length c =
+    elim c.if-s-eq0.branch [
+      | then-s-eq0 w ↦ ap length w.work-is ∙ w.apart-s.auto.work
+      | else-s-eq0 w ↦ ap length w.work-is
+    ]
 
 pub loop-i-init : goal.loop-i-init
 loop-i-init c =
@@ -62,7 +67,7 @@ overflow_add-visits c =
     let g = l.loop-i.invariant.1 in
     let t = g.notes.source in
     let h = c.loop-i-test.true in
-    omega (arith, g.small, rows.few, t.small, t.fits, few_visits g.notes (rows_ordered rows l.loop-i.i h) (done c))
+    omega (arith, g.small, rows.few, t.small, t.fits, few_visits g.notes (rows_ordered rows l.loop-i.i h) (done (goal.at.overflow_add-visits c).Joined-s-eq0))
 
 pub overflow_add-i : goal.overflow_add-i
 overflow_add-i c = omega (arith, c.requires.rows.few)
@@ -76,7 +81,7 @@ loop-i-preserved c =
     let s = c in
     let h = c.loop-i-test.true in
     let rows = s.requires.rows in
-    (omega arith, going_more rows h (omega (arith, s.requires.nodes_len.2, rows.few)) (done-length c) l.loop-i.invariant.1 (done c))
+    (omega arith, going_more rows h (omega (arith, s.requires.nodes_len.2, rows.few)) (done-length (goal.at.loop-i-preserved c).Joined-s-eq0) l.loop-i.invariant.1 (done (goal.at.loop-i-preserved c).Joined-s-eq0))
 
 pub shape_of-work : goal.shape_of-work
 shape_of-work c = c.loop-i.invariant.1.size

@@ -1,13 +1,8 @@
 -- `sweep_all` meets its contract. The loop's invariant: the first i references are swept. The measure is what is left.
 -- Assumes nothing.
 use Prim.Native.Nat.{◌-◌, ◌/◌, ◌≤◌}
-use mathlib.Core.Path.{◌≡◌, ap, ◌∙◌}
-use mathlib.Core.Logic.{⊎_elim}
-use native.Mathlib.Omega.{arith}
-use lib.ListN.{length, get_or}
-use Rattle.sweeping.specs.Sweeps.{Emitted}
-use Rattle.sweeping.proofs.NoteLaws.{few_visits}
-use Rattle.sweeping.proofs.RowsLaws.{rows_ordered, Going, going_none, going_more, going_all}
+use lib.ListN.{length}
+use Rattle.sweeping.proofs.RowsLaws.{Going}
 use Rattle.sweeping.proofs.sweep_all.Given as goal
 
 abbrev pub invariant-loop-i : goal.invariant-loop-i

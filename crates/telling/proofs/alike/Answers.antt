@@ -1,8 +1,5 @@
-use Prim.Native.Nat.{ℕ, ◌-◌, ◌^◌, ◌≤◌, ◌<◌}
-use mathlib.Core.Path.{◌≡◌}
+use Prim.Native.Nat.{◌-◌, ◌^◌}
 use native.Mathlib.Omega.{arith}
-use lib.ListN.{get_or}
-use Rattle.telling.specs.Entries.{Meet}
 use Rattle.telling.proofs.AlikeLaws.{ones_some, ones_is, meets, parts, all_meet, one_parts, meet_more}
 use Rattle.telling.proofs.alike.Goals as goal
 

@@ -1,9 +1,6 @@
-use Prim.Native.Nat.{◌+◌, ◌<◌}
-use mathlib.Core.Path.{◌≡◌, refl, sym, ◌∙◌}
+use mathlib.Core.Path.{refl, sym, ◌∙◌}
 use native.Mathlib.Omega.{arith}
-use Rattle.trees.specs.Table.{at, trees_of}
-use Rattle.telling.specs.Follow.{bit_of, follow}
-use Rattle.telling.specs.Entries.{Ordered}
+use Rattle.telling.specs.Follow.{bit_of}
 use Rattle.telling.proofs.WayLaws.{way_leaf, way_past, way_level, way_below, way_again}
 use Rattle.telling.proofs.along.Goals as goal
 

@@ -1,12 +1,10 @@
 -- `along` meets its contract. The loop's invariant: from q on the bits lead where they lead from r on. The measure is q, since
 -- references lead to smaller ones. Assumes nothing.
 use Prim.Native.Nat.{◌+◌, ◌<◌}
-use mathlib.Core.Path.{◌≡◌, refl, sym, ◌∙◌}
-use native.Mathlib.Omega.{arith}
+use mathlib.Core.Path.{◌≡◌}
 use Rattle.trees.specs.Table.{at, trees_of}
-use Rattle.telling.specs.Follow.{bit_of, follow}
+use Rattle.telling.specs.Follow.{follow}
 use Rattle.telling.specs.Entries.{Ordered}
-use Rattle.telling.proofs.WayLaws.{way_leaf, way_past, way_level, way_below, way_again}
 use Rattle.telling.proofs.along.Given as goal
 
 abbrev pub invariant-loop-q : goal.invariant-loop-q

@@ -1,5 +1,4 @@
 -- `chosen` meets its contract. Assumes nothing.
-use borrow.Author.Rules.{rules}
 use Rattle.telling.proofs.WayLaws.{bit_low, bit_high}
 use Rattle.telling.proofs.chosen.Goals as goal
 

@@ -1,10 +1,8 @@
-use Prim.Native.Nat.{◌+◌}
-use mathlib.Core.Path.{◌≡◌, refl, ◌∙◌}
+use mathlib.Core.Path.{refl, ◌∙◌}
 use native.Mathlib.Omega.{arith}
-use lib.ListN.{length, length-set}
+use lib.ListN.{length-set}
 use lib.Seq.{get_or-set_other}
-use Rattle.nodes.specs.Nodes.{Rest}
-use Rattle.telling.proofs.EntriesLaws.{Passing, passing_first, passing_last}
+use Rattle.telling.proofs.EntriesLaws.{passing_first, passing_last}
 use Rattle.telling.proofs.PassLaws.{passing_next, passing_rest, passed_length}
 use Rattle.telling.proofs.enter.Goals as goal
 
@@ -54,11 +52,11 @@ loop-left-preserved c =
     )
 
 pub shape_of-work : goal.shape_of-work
-shape_of-work c = c.loop-left.invariant.2 ∙ length-set c.zero.new.0 c.args.p 1 ∙ c.zero.ensures.size
+shape_of-work c = c.loop-left.invariant.2 ∙ length-set c.zero.new.xs c.args.p 1 ∙ c.zero.ensures.size
 
 pub returns : goal.returns
 returns c =
     let s = c in
     let l = c.loop-left in
     let z = c.zero.ensures in
-    let p = s.args.p in record { entries = passing_last s.args.nodes.now s.args.kept p s.args.base l.work l.left l.from (omega (arith, c.loop-left-test.false)) l.invariant.0; rest = (record { eq = λ i h. l.invariant.1.eq i h ∙ get_or-set_other c.zero.new.0 p i 1 0 (omega arith) ∙ z.rest.eq i (omega arith) },) }
+    let p = s.args.p in record { entries = passing_last s.args.nodes.now s.args.kept p s.args.base l.work l.left l.from (omega (arith, c.loop-left-test.false)) l.invariant.0; rest = record { eq = λ i h. l.invariant.1.eq i h ∙ get_or-set_other c.zero.new.xs p i 1 0 (omega arith) ∙ z.rest.eq i (omega arith) } }

@@ -1,13 +1,10 @@
 -- `enter` meets its contract. The loop's invariant: the marks before `left` and the entries found tell what p's diagram tells
 -- (`Passing`). The measure is `left`. Assumes nothing.
 use Prim.Native.Nat.{◌+◌}
-use mathlib.Core.Path.{◌≡◌, refl, ◌∙◌}
-use native.Mathlib.Omega.{arith}
-use lib.ListN.{length, length-set}
-use lib.Seq.{get_or-set_other}
+use mathlib.Core.Path.{◌≡◌}
+use lib.ListN.{length}
 use Rattle.nodes.specs.Nodes.{Rest}
-use Rattle.telling.proofs.EntriesLaws.{Passing, passing_first, passing_last}
-use Rattle.telling.proofs.PassLaws.{passing_next, passing_rest, passed_length}
+use Rattle.telling.proofs.EntriesLaws.{Passing}
 use Rattle.telling.proofs.enter.Given as goal
 
 abbrev pub invariant-loop-left : goal.invariant-loop-left

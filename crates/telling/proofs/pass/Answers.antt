@@ -2,7 +2,6 @@
 use mathlib.Core.Path.{refl}
 use native.Mathlib.Omega.{arith}
 use lib.ListN.{length-set}
-use borrow.Author.Rules.{rules}
 use Rattle.nodes.proofs.ReadLaws.{read_below}
 use Rattle.telling.specs.Entries.{skipped, opened, entered}
 use Rattle.telling.proofs.pass.Goals as goal

@@ -1,8 +1,7 @@
--- `drop_walk` meets its contract; the levels left fall. Assumes nothing.
 use mathlib.Core.Path.{◌≡◌, ◌∙◌}
+use Prim.Native.Nat.{ℕ}
 use Rattle.trees.specs.Tree.{mk, drop_t}
 use Rattle.trees.specs.Table.{at, trees_of}
-use Rattle.nodes.specs.Nodes.{Grown}
 use Rattle.nodes.proofs.ReadLaws.{grown_ref, grown_count, stays}
 use Rattle.walks.specs.Desks.{Remembered}
 use Rattle.walks.proofs.DeskLaws.{spot_inside, desk_stays, desk_then}
@@ -11,116 +10,113 @@ use Rattle.walks.proofs.StepLaws.{within_grown, Step, steps}
 use Rattle.walks.proofs.MemoryLaws.{drop_key, recalled_drop, memory_hit, key_later, recalled_over}
 use Rattle.making.proofs.WalkLaws.{kept, front_trans, stuck_low, stuck_high, joined}
 use native.Mathlib.Omega.{arith}
-use borrow.Author.Rules.{rules}
-use Prim.Native.Nat.{ℕ, ◌<◌}
 use Rattle.walks.proofs.+drop_walk.Goals as goal
+use Rattle.walks.proofs.+drop_walk.Goals.{After-read-x, Else-x-v}
+
+-- what the node gives
+stepped : (t : ℕ) (c : After-read-x t)
+    → let a = c.args in
+    let x = c.read-x.result in
+    Step a.nodes.now a.n a.levels a.left a.p x.level x.low x.high
+stepped t c = steps c.requires.left_le_levels.0 c.requires.left_le_levels.1 c.read-x.ensures
+
+-- what is left to do before the level is reached
+early : (t : ℕ) (c : Else-x-v t)
+    → let a = c.args in
+    let x = c.read-x.result in
+    let ts = trees_of a.nodes.now a.n in
+    drop_t a.levels a.v (at ts a.p) ≡ mk x.level (drop_t a.levels a.v (at ts x.low)) (drop_t a.levels a.v (at ts x.high))
+early t c =
+    drop_node c.args.levels c.args.v (steps c.requires.left_le_levels.0 c.requires.left_le_levels.1 c.read-x.ensures) (omega (arith, c.if-x-v.false, c.if-v-x.false))
 
 pub returns-then-p-lt2 : goal.returns-then-p-lt2
 returns-then-p-lt2 t c =
-    let s = c in
-    (stays _ _ _ _ s.requires.left_le_levels.0.shelf.table s.requires.left_le_levels.1.1.below (drop_leaf s.args.levels s.args.v _ _ _ c.if-p-lt2.true), desk_stays s.requires.left_le_levels.0)
+    (stays _ _ _ _ c.requires.desk.shelf.table c.requires.left_le_levels.1.below (drop_leaf c.args.levels c.args.v _ _ _ c.if-p-lt2.true), desk_stays c.requires.desk)
 
 pub read-x-requires : goal.read-x-requires
 read-x-requires t c =
-    let s = c in
-    record { table = s.requires.left_le_levels.0.shelf.table; le_r = (omega arith, s.requires.left_le_levels.1.1.below) }
+    record { table = c.requires.desk.shelf.table; le_r = (omega arith, c.requires.left_le_levels.1.below) }
 
 pub returns-then-v-x : goal.returns-then-v-x
 returns-then-v-x t c =
-    let at_split = c in
-    let s = start at_split in
-    (stays _ _ _ _ s.pre.1.0.shelf.table s.pre.1.1.1.below (drop_stay s.args.levels s.args.v (stepped at_split) c.if-v-x.true), desk_stays s.pre.1.0)
+    let d = stepped t (goal.at.returns-then-v-x t c).After-read-x in
+    (stays _ _ _ _ c.requires.desk.shelf.table c.requires.left_le_levels.1.below (drop_stay c.args.levels c.args.v d c.if-v-x.true), desk_stays c.requires.desk)
 
 pub overflow_sub-left : goal.overflow_sub-left
-overflow_sub-left t c = (stepped c).some
+overflow_sub-left t c = (stepped t (goal.at.overflow_sub-left t c).After-read-x).some
 
 pub since_walk-requires : goal.since_walk-requires
 since_walk-requires t c =
-    let d = stepped c in
-    let s = start c in
-    record { desk = s.pre.1.0; left_le_levels = (omega (arith, s.pre.1.1.0), within_sure _ _ _ _, d.low, d.high) }
+    let d = stepped t (goal.at.since_walk-requires t c).After-read-x in
+    record { desk = c.requires.desk; left_le_levels = (omega (arith, c.requires.left_le_levels.0), within_sure _ _ _ _, d.low, d.high) }
 
 pub returns-then-x-v : goal.returns-then-x-v
 returns-then-x-v t c =
-    let at_split = c in
-    let s = start at_split in
-    rw (drop_here s.args.levels s.args.v (stepped at_split) c.if-x-v.true) c.since_walk.ensures
+    rw (drop_here c.args.levels c.args.v (stepped t (goal.at.returns-then-x-v t c).After-read-x) c.if-x-v.true) c.since_walk.ensures
 
 pub spot-i-requires : goal.spot-i-requires
 spot-i-requires t c =
-    let k = c.requires.left_le_levels.0 in
+    let k = c.requires.desk in
     (omega (arith, k.shelf.size, k.shelf.table.small), k.some, k.fits)
 
 pub recall-hit-requires : goal.recall-hit-requires
 recall-hit-requires t c =
-    let k = c.requires.left_le_levels.0 in
+    let k = c.requires.desk in
     omega (arith, spot_inside k c.spot-i.ensures, k.shelf.long)
 
 pub returns-then-hit-gt0 : goal.returns-then-hit-gt0
 returns-then-hit-gt0 t c =
-    let s = c in
-    let k = s.requires.left_le_levels.0 in
-    (rw (← recalled_drop s.args.levels _ s.args.v _) (memory_hit k.shelf.table k.memory c.spot-i.ensures _ _ _ _ c.recall-hit.ensures c.if-hit-gt0.true), desk_stays k)
+    let k = c.requires.desk in
+    (rw (← recalled_drop c.args.levels _ c.args.v _) (memory_hit k.shelf.table k.memory c.spot-i.ensures _ _ _ _ c.recall-hit.ensures c.if-hit-gt0.true), desk_stays k)
 
 pub overflow_sub-left-2 : goal.overflow_sub-left-2
-overflow_sub-left-2 t c = (stepped c).some
+overflow_sub-left-2 t c = (stepped t (goal.at.overflow_sub-left-2 t c).After-read-x).some
 
 pub drop_walk-requires : goal.drop_walk-requires
 drop_walk-requires t c =
-    let d = stepped c in
-    let s = start c in
-    (omega (arith, s.pre.0, d.some), (s.pre.1.0, (omega (arith, s.pre.1.1.0), d.low)))
+    let d = stepped t (goal.at.drop_walk-requires t c).After-read-x in
+    (omega (arith, c.decreases, d.some), (c.requires.desk, (omega (arith, c.requires.left_le_levels.0), d.low)))
 
 pub returns-in_default : goal.returns-in_default
 returns-in_default t c =
-    let past = c in
-    let s = start past in
-    rw (early past) (stuck_low _ _ _ s.pre.1.0.shelf.table (rw c.enum_told-1.given.1 at c.drop_walk.ensures))
+    rw (early t (goal.at.returns-in_default t c).Else-x-v)
+    (stuck_low _ _ _ c.requires.desk.shelf.table c.in_default.ensures)
 
 pub overflow_sub-left-3 : goal.overflow_sub-left-3
-overflow_sub-left-3 t c = (stepped c).some
+overflow_sub-left-3 t c = (stepped t (goal.at.overflow_sub-left-3 t c).After-read-x).some
 
 pub drop_walk-requires-2 : goal.drop_walk-requires-2
 drop_walk-requires-2 t c =
-    let at-n1 = c in
-    let d = stepped at-n1 in
-    let s = start at-n1 in
-    let g = low-done at-n1 in
-    (omega (arith, s.pre.0, d.some), (g.1.desk, (omega (arith, s.pre.1.1.0), within_grown g.0 d.high)))
+    let d = stepped t (goal.at.drop_walk-requires-2 t c).After-read-x in
+    let g = c.in-At.ensures in
+    (omega (arith, c.decreases, d.some), (g.1.desk, (omega (arith, c.requires.left_le_levels.0), within_grown g.0 d.high)))
 
 pub returns-in_default-drop_walk : goal.returns-in_default-drop_walk
 returns-in_default-drop_walk t c =
-    let after2 = c in
-    let at-n1 = after2 in
-    let past = at-n1 in
-    let d = stepped past in
-    let s = start past in
-    let g = (low-done at-n1).0 in
-    rw (early past) (stuck_high _ _ _ s.pre.1.0.shelf.table g (rw (c.enum_told-in_default-drop_walk-1.given.1, kept g _ d.high.below) at after2.drop_walk-2.ensures))
+    let k = goal.at.returns-in_default-drop_walk t c in
+    let d = stepped t k.After-read-x in
+    let g = c.in-At.ensures.0 in
+    rw (early t k.Else-x-v)
+    (stuck_high _ _ _ c.requires.desk.shelf.table g (rw (kept g _ d.high.below) at c.in_default-drop_walk.ensures))
 
 pub keep-requires : goal.keep-requires
 keep-requires t c =
-    let at-n2 = c in
-    let at-n1 = at-n2 in
-    let past = at-n1 in
-    let s = start past in
-    let g = (low-done at-n1).0 in
-    let h = high-done at-n2 in
-    let key = drop_key s.args.v s.pre.1.1.1 in
+    let k = goal.at.keep-requires t c in
+    let d = stepped t k.After-read-x in
+    let g = c.in-At.ensures.0 in
+    let h = rw (kept g _ d.high.below) at c.in-At-drop_walk.ensures in
+    let key = drop_key c.args.v c.requires.left_le_levels.1 in
     let gc = grown_count g in
     let hc = grown_count h.0 in
-    let is = recalled_drop s.args.levels _ s.args.v _ ∙ early past in
-    record { desk = h.1.desk; spot = (at-n1.spot.ensures, key_later (omega arith) key, omega (arith, grown_ref g), grown_ref h.0); d_value = recalled_over s.args.levels _ _ _ _ is g h.0 key }
+    let is = recalled_drop c.args.levels _ c.args.v _ ∙ early t k.Else-x-v in
+    record { desk = h.1.desk; spot = (c.spot-i.ensures, key_later (omega arith) key, omega (arith, grown_ref g), grown_ref h.0); d_value = recalled_over c.args.levels _ _ _ _ is g h.0 key }
 
 pub returns : goal.returns
 returns t c =
-    let made = c in
-    let at-n2 = made in
-    let at-n1 = at-n2 in
-    let past = at-n1 in
-    let s = start past in
-    let g = low-done at-n1 in
-    let h = high-done at-n2 in
-    rw (early past)
-    (desk_then s.args.c (front_trans g.1.same h.1.same (omega arith)) s.args.levels s.args.slots made.keep.new.1.0 _ made.keep.new.0 _ _ made.keep.result
-    (joined _ _ _ s.pre.1.0.shelf.table g.0 h.0 _ made.keep.new.0 made.keep.result made.keep.ensures))
+    let k = goal.at.returns t c in
+    let d = stepped t k.After-read-x in
+    let g = c.in-At.ensures in
+    let h = rw (kept g.0 _ d.high.below) at c.in-At-drop_walk.ensures in
+    rw (early t k.Else-x-v)
+    (desk_then c.args.c (front_trans g.1.same h.1.same (omega arith)) c.args.levels c.args.slots c.keep.new.work _ c.keep.new.nodes _ _ c.keep.result
+    (joined _ _ _ c.requires.desk.shelf.table g.0 h.0 (λ xs j. Remembered c.drop_walk-2.new.work xs j c.args.levels c.keep.new.work c.args.c c.args.slots) c.keep.new.nodes c.keep.result c.keep.ensures))

@@ -1,6 +1,5 @@
 -- `settle` meets its contract. Assumes nothing.
 use Rattle.walks.proofs.SettleLaws.{in_order}
-use borrow.Author.Rules.{rules}
 use Rattle.walks.proofs.settle.Goals as goal
 
 pub returns : goal.returns

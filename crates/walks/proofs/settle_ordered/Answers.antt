@@ -1,6 +1,5 @@
 -- `settle_ordered` meets its contract. Assumes nothing.
 use Rattle.walks.proofs.SettleLaws.{right_yes, left_no, right_left, right_old, left_old, left_yes, left_node}
-use borrow.Author.Rules.{rules}
 use Rattle.walks.proofs.settle_ordered.Goals as goal
 
 pub returns-then-r-eq1 : goal.returns-then-r-eq1

@@ -1,7 +1,6 @@
 -- `possible::fixed_at` meets its contract. Assumes nothing.
 use mathlib.Core.Path.{sym}
 use native.Mathlib.Omega.{arith}
-use borrow.Author.Rules.{rules}
 use lib.ListN.{get_or-eq_default}
 use Rattle.binding.proofs.possible.fixed_at.Goals as goal
 

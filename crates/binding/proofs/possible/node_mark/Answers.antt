@@ -1,6 +1,5 @@
 -- `possible::node_mark` meets its contract: the law of a node's mark. Assumes nothing.
 use native.Mathlib.Omega.{arith}
-use borrow.Author.Rules.{rules}
 use Rattle.nodes.proofs.ReadLaws.{read_below}
 use Rattle.binding.proofs.MarkLaws.{node_can}
 use Rattle.binding.proofs.possible.node_mark.Goals as goal

@@ -1,17 +1,14 @@
-use Prim.Native.Nat.{◌+◌, ◌-◌, ◌≤◌}
 use mathlib.Core.Path.{◌≡◌, refl, ◌∙◌}
 use native.Mathlib.Omega.{arith}
 use lib.ListN.{length, set, length-set}
 use lib.Seq.{get_or-set_other}
-use Rattle.nodes.specs.Nodes.{Rest}
-use Rattle.binding.specs.Fixing.{Marks}
 use Rattle.binding.proofs.MarkLaws.{marks_none, marks_more, mark_test}
 use Rattle.binding.proofs.possible.possible.Goals as goal
 use Rattle.binding.proofs.possible.possible.Goals.{At-loop-r}
 
 -- the work slice keeps its length
-size : (l : At-loop-r) → length l.loop.work ≡ length l.args.work.now
-size l = l.loop.invariant.2 ∙ simp length-set
+size : (c : At-loop-r) → length c.loop-r.work ≡ length c.args.work.now
+size c = c.loop-r.invariant.2 ∙ simp length-set
 
 pub bounds-work-1 : goal.bounds-work-1
 bounds-work-1 c = simp length-set (omega arith)
@@ -25,13 +22,13 @@ pub node_mark-x-requires : goal.node_mark-x-requires
 node_mark-x-requires c =
     let l = c in
     let s = l in
-    record { table = (s.requires.table, l.loop-r.invariant.3); le_r = (l.loop-r.invariant.0, omega (arith, c.loop-r-test.true, s.requires.p_bound.0), omega (arith, size l, s.requires.p_bound.1), s.requires.p_bound.2) }
+    record { table = (s.requires.table, l.loop-r.invariant.3); le_r = (l.loop-r.invariant.0, omega (arith, c.loop-r-test.true, s.requires.p_bound.0), omega (arith, size (goal.at.node_mark-x-requires c).At-loop-r, s.requires.p_bound.1), s.requires.p_bound.2) }
 
 pub offset_bounds-work-i : goal.offset_bounds-work-i
-offset_bounds-work-i c = let l = c in omega (arith, size l, l.requires.p_bound.0, l.requires.p_bound.1, c.loop-r-test.true)
+offset_bounds-work-i c = let l = c in omega (arith, size (goal.at.offset_bounds-work-i c).At-loop-r, l.requires.p_bound.0, l.requires.p_bound.1, c.loop-r-test.true)
 
 pub bounds-work-i : goal.bounds-work-i
-bounds-work-i c = let l = c in omega (arith, size l, l.requires.p_bound.0, l.requires.p_bound.1, c.loop-r-test.true)
+bounds-work-i c = let l = c in omega (arith, size (goal.at.bounds-work-i c).At-loop-r, l.requires.p_bound.0, l.requires.p_bound.1, c.loop-r-test.true)
 
 pub overflow_add-r : goal.overflow_add-r
 overflow_add-r c = let s = c in let t = s.requires.table in omega (arith, t.fits, t.small, s.requires.p_bound.0, c.loop-r-test.true)
@@ -48,19 +45,16 @@ loop-r-preserved c =
       omega (arith, v.0),
       omega (arith, h, s.requires.p_bound.0),
       length-set l.loop-r.work l.loop-r.r c.node_mark-x.result ∙ v.2,
-      marks_more v.3 (omega (arith, h, size l, s.requires.p_bound.0, s.requires.p_bound.1)) c.node_mark-x.result c.node_mark-x.ensures,
+      marks_more v.3 (omega (arith, h, size (goal.at.loop-r-preserved c).At-loop-r, s.requires.p_bound.0, s.requires.p_bound.1)) c.node_mark-x.result c.node_mark-x.ensures,
       record { eq = λ i g. get_or-set_other l.loop-r.work l.loop-r.r i c.node_mark-x.result 0 (λ z. omega (arith, h, s.requires.p_bound.0)) ∙ v.4.eq i g },
     )
 
 pub marked-requires : goal.marked-requires
-marked-requires c = let l = c in omega (arith, size l, l.requires.p_bound.0, l.requires.p_bound.1)
-
-pub shape_of-work : goal.shape_of-work
-shape_of-work c = size c
+marked-requires c = let l = c in omega (arith, size (goal.at.marked-requires c).At-loop-r, l.requires.p_bound.0, l.requires.p_bound.1)
 
 pub returns : goal.returns
 returns c =
     let l = c in
     let s = l in
     let w = s.args.work.now in
-    let v = l.loop-r.invariant in record { value = rw (c.marked.ensures, v.3.is s.args.p (omega (arith, c.loop-r-test.false))) (mark_test _); rest = (record { eq = λ i h. v.4.eq i h ∙ get_or-set_other (set w 0 0) 1 i 1 0 (omega arith) ∙ get_or-set_other w 0 i 0 0 (omega arith) },) }
+    let v = l.loop-r.invariant in record { value = rw (c.marked.ensures, v.3.is s.args.p (omega (arith, c.loop-r-test.false))) (mark_test _); rest = record { eq = λ i h. v.4.eq i h ∙ get_or-set_other (set w 0 0) 1 i 1 0 (omega arith) ∙ get_or-set_other w 0 i 0 0 (omega arith) } }

@@ -1,7 +1,6 @@
 -- `calls::count_arguments` meets its contract. Assumes nothing.
 use native.Mathlib.Omega.{arith}
 use Rattle.census.proofs.CommaLaws.{arguments_no, arguments_lexed, arguments_yes}
-use borrow.Author.Rules.{rules}
 use Rattle.census.proofs.calls.count_arguments.Goals as goal
 
 pub returns-then-w-ne14 : goal.returns-then-w-ne14
@@ -11,7 +10,7 @@ pub commas-requires : goal.commas-requires
 commas-requires c = arguments_lexed _ _ _ _ _ c.next_word-w.ensures c.requires c.if-w-ne14.false
 
 pub overflow_add-result : goal.overflow_add-result
-overflow_add-result c = omega (arith, c.commas.ensures.few, c.well-formed)
+overflow_add-result c = omega (arith, c.commas.ensures.few, c.well_formed)
 
 pub returns : goal.returns
 returns c = arguments_yes _ _ _ _ _ c.next_word-w.ensures _ c.if-w-ne14.false c.commas.ensures

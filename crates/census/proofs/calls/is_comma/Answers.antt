@@ -1,6 +1,6 @@
 -- `calls::is_comma` meets its contract. Assumes nothing.
 use native.Mathlib.Omega.{arith}
-use borrow.Author.Tests.{eq-eqb, ne_eqb}
+use borrow.Author.Tests.{ne_eqb}
 use Rattle.census.specs.Told.{comma_code}
 use Rattle.census.proofs.calls.is_comma.Goals as goal
 

@@ -1,6 +1,5 @@
 -- `calls::is_wide` meets its contract. Assumes nothing.
 use Rattle.census.proofs.CommaLaws.{wide_mode, wide_word, wide_count}
-use borrow.Author.Rules.{rules}
 use Rattle.census.proofs.calls.is_wide.Goals as goal
 
 pub returns-then-mode-ne0 : goal.returns-then-mode-ne0

@@ -1,8 +1,7 @@
 -- `calls::too_many` meets its contract. The loop's invariant: the words left tell it. Assumes nothing.
 use Prim.Native.Nat.{◌-◌}
-use native.Mathlib.Omega.{arith}
 use lib.ListN.{length}
-use Rattle.census.proofs.ManyLaws.{Scanning, many_begins, many_over, many_ends, many_lexed, many_grows, many_word, many_found, many_more}
+use Rattle.census.proofs.ManyLaws.{Scanning}
 use Rattle.census.proofs.calls.too_many.Given as goal
 
 abbrev pub invariant-loop-at : goal.invariant-loop-at

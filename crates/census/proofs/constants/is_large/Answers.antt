@@ -1,9 +1,5 @@
 -- `constants::is_large` meets its contract. Assumes nothing.
-use native.Mathlib.Omega.{arith}
-use mathlib.Core.Path.{sym, ◌∙◌}
-use borrow.Author.Tests.{ne_eqb}
 use Rattle.census.proofs.LargeLaws.{large_other, large_value}
-use borrow.Author.Rules.{rules}
 use Rattle.census.proofs.constants.is_large.Goals as goal
 
 pub returns-then-word-ne1 : goal.returns-then-word-ne1

@@ -1,9 +1,7 @@
 use mathlib.Core.Path.{refl}
-use Prim.Native.Nat.{◌-◌}
 use native.Mathlib.Omega.{arith}
-use lib.ListN.{length, get_or-replicate}
-use borrow.Author.Rules.{rules}
-use Rattle.census.proofs.ClashPass.{Clashing, clash_begins, clash_over, clash_ends, clash_within, clash_lexed, clash_grows, clash_word, clash_number, clash_yes, clash_more}
+use lib.ListN.{get_or-replicate}
+use Rattle.census.proofs.ClashPass.{clash_begins, clash_over, clash_ends, clash_within, clash_lexed, clash_grows, clash_word, clash_number, clash_yes, clash_more}
 use Rattle.census.proofs.counts.clashes.Goals as goal
 
 pub loop-at-init : goal.loop-at-init

@@ -1,46 +1,25 @@
-use Prim.Native.Nat.{◌-◌}
 use native.Mathlib.Omega.{arith}
 use mathlib.Core.Path.{sym, ◌∙◌}
-use lib.ListN.{length, take, drop}
-use borrow.Author.Rules.{rules}
-use Rattle.census.proofs.TableLaws.{Finding, find_begins, find_here, find_more, find_none}
+use Rattle.census.proofs.TableLaws.{find_begins, find_here, find_more, find_none}
 use Rattle.census.proofs.names.find.Goals as goal
-
--- TODO no goal for slice-bounds-same-bytes-end
--- part-same-bytes-end : tie.Need-slice-bounds-same-bytes-end invariant-loop decreases-loop
--- part-same-bytes-end c = omega (arith, c.requires.0.inside c.loop-i.i (omega arith))
-
--- TODO no goal for slice-bounds-same-bytes-start-2
--- part-same-bytes-start-2 : tie.Need-slice-bounds-same-bytes-start-2 invariant-loop decreases-loop
--- part-same-bytes-start-2 c = omega (arith, c.requires.1.order)
-
--- TODO no goal for slice-bounds-same-bytes-end-2
--- part-same-bytes-end-2 : tie.Need-slice-bounds-same-bytes-end-2 invariant-loop decreases-loop
--- part-same-bytes-end-2 c = omega (arith, c.requires.1.inside)
 
 pub loop-i-init : goal.loop-i-init
 loop-i-init c = find_begins _ _ _ _ _ c.requires.0
 
 pub offset_bounds-starts-i : goal.offset_bounds-starts-i
-offset_bounds-starts-i c = omega (arith, c.requires.0.here, c.well-formed)
+offset_bounds-starts-i c = omega (arith, c.requires.0.here, c.well_formed)
 
 pub bounds-starts-i : goal.bounds-starts-i
 bounds-starts-i c = omega (arith, c.requires.0.here)
 
-pub overflow_cast-a : goal.overflow_cast-a
-overflow_cast-a c = omega (arith, c.shared_slice_known-in-loop-i-1.given c.loop-i.i)
-
 pub offset_bounds-lengths-i : goal.offset_bounds-lengths-i
-offset_bounds-lengths-i c = omega (arith, c.requires.0.there, c.well-formed)
+offset_bounds-lengths-i c = omega (arith, c.requires.0.there, c.well_formed)
 
 pub bounds-lengths-i : goal.bounds-lengths-i
 bounds-lengths-i c = omega (arith, c.requires.0.there)
 
-pub overflow_cast-b : goal.overflow_cast-b
-overflow_cast-b c = omega (arith, c.shared_slice_known-in-loop-i-2-1.given c.loop-i.i)
-
 pub overflow_add-b : goal.overflow_add-b
-overflow_add-b c = omega (arith, c.requires.0.inside c.loop-i.i (omega arith), c.well-formed)
+overflow_add-b c = omega (arith, c.requires.0.inside c.loop-i.i (omega arith), c.well_formed)
 
 pub slice_bounds-same_bytes-count-in-loop-i : goal.slice_bounds-same_bytes-count-in-loop-i
 slice_bounds-same_bytes-count-in-loop-i c = omega (arith, c.requires.1.order)

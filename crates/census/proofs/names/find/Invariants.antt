@@ -1,10 +1,7 @@
 -- `names::find` meets its contract. The loop's invariant: the names passed are others. Assumes nothing.
 use Prim.Native.Nat.{◌-◌}
-use native.Mathlib.Omega.{arith}
-use mathlib.Core.Path.{sym, ◌∙◌}
-use lib.ListN.{length, take, drop}
-use borrow.Author.Rules.{rules}
-use Rattle.census.proofs.TableLaws.{Finding, find_begins, find_here, find_more, find_none}
+use lib.ListN.{take, drop}
+use Rattle.census.proofs.TableLaws.{Finding}
 use Rattle.census.proofs.names.find.Given as goal
 
 abbrev pub invariant-loop-i : goal.invariant-loop-i

@@ -1,9 +1,6 @@
-use Prim.Native.Nat.{◌-◌}
 use native.Mathlib.Omega.{arith}
-use mathlib.Core.Path.{◌≡◌, refl}
-use lib.ListN.{length}
-use borrow.Author.Rules.{rules}
-use Rattle.census.proofs.NamesPass.{Naming, names_begin, names_over, names_end, names_within, names_grow, names_word, names_full, names_more}
+use mathlib.Core.Path.{refl}
+use Rattle.census.proofs.NamesPass.{names_begin, names_over, names_end, names_within, names_grow, names_word, names_full, names_more}
 use Rattle.census.proofs.names.names.Goals as goal
 
 pub loop-at-init : goal.loop-at-init

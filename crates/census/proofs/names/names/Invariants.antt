@@ -1,10 +1,8 @@
 -- `names::names` meets its contract. The loop's invariant: the table has the names so far. Assumes nothing.
 use Prim.Native.Nat.{◌-◌}
-use native.Mathlib.Omega.{arith}
-use mathlib.Core.Path.{◌≡◌, refl}
+use mathlib.Core.Path.{◌≡◌}
 use lib.ListN.{length}
-use borrow.Author.Rules.{rules}
-use Rattle.census.proofs.NamesPass.{Naming, names_begin, names_over, names_end, names_within, names_grow, names_word, names_full, names_more}
+use Rattle.census.proofs.NamesPass.{Naming}
 use Rattle.census.proofs.names.names.Given as goal
 
 abbrev pub invariant-loop-at : goal.invariant-loop-at

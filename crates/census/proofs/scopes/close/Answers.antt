@@ -1,7 +1,5 @@
 -- `scopes::close` meets its contract. Assumes nothing.
-use native.Mathlib.Omega.{arith}
 use Rattle.census.proofs.EnterLaws.{lowers}
-use borrow.Author.Rules.{rules}
 use Rattle.census.proofs.scopes.close.Goals as goal
 
 pub returns : goal.returns

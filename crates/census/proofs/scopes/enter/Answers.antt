@@ -6,7 +6,6 @@ use lib.ListN.{take, drop}
 use Rattle.census.specs.Tables.{names_at}
 use Rattle.census.proofs.TableLaws.{table_length, number_listed}
 use Rattle.census.proofs.EnterLaws.{is_binding, is_use, is_name, is_opening, is_call, is_end, is_closing, is_other, enters_none, enters_open, enters_use, enters_close, enters_bind, variable_slot}
-use borrow.Author.Rules.{rules}
 use Rattle.census.proofs.scopes.enter.Goals as goal
 
 pub bounds-since-v : goal.bounds-since-v

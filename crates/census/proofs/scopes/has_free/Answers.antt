@@ -1,7 +1,5 @@
-use Prim.Native.Nat.{◌-◌}
 use native.Mathlib.Omega.{arith}
-use lib.ListN.{length}
-use Rattle.census.proofs.FreePass.{Scoping, scope_begins, scope_over, scope_ends, scope_within, scope_grows, scope_word, scope_number, scope_loose, scope_more}
+use Rattle.census.proofs.FreePass.{scope_begins, scope_over, scope_ends, scope_within, scope_grows, scope_word, scope_number, scope_loose, scope_more}
 use Rattle.census.proofs.scopes.has_free.Goals as goal
 
 pub loop-at-init : goal.loop-at-init
@@ -14,7 +12,7 @@ pub returns-then-w-eq18 : goal.returns-then-w-eq18
 returns-then-w-eq18 c = scope_ends _ _ _ _ _ _ _ _ c.requires.1 c.loop-at.invariant _ _ _ c.next_word-w.ensures c.if-w-eq18.true
 
 pub enter-e-requires : goal.enter-e-requires
-enter-e-requires c = record { table = (c.requires.1.table, scope_within _ _ _ _ _ _ _ _ c.requires.1 c.loop-at.invariant _ _ _ c.next_word-w.ensures c.if-w-eq18.false); n_bound = (c.requires.1.few, omega (arith, c.loop-at.invariant.near, c.loop-at.invariant.pass.inside, c.well-formed)); text_bound = scope_number _ _ _ _ _ _ _ _ c.requires.1 c.loop-at.invariant _ _ _ c.next_word-w.ensures c.if-w-eq18.false }
+enter-e-requires c = record { table = (c.requires.1.table, scope_within _ _ _ _ _ _ _ _ c.requires.1 c.loop-at.invariant _ _ _ c.next_word-w.ensures c.if-w-eq18.false); n_bound = (c.requires.1.few, omega (arith, c.loop-at.invariant.near, c.loop-at.invariant.pass.inside, c.well_formed)); text_bound = scope_number _ _ _ _ _ _ _ _ c.requires.1 c.loop-at.invariant _ _ _ c.next_word-w.ensures c.if-w-eq18.false }
 
 pub returns-then-e : goal.returns-then-e
 returns-then-e c = scope_loose _ _ _ _ _ _ _ _ c.requires.1 c.loop-at.invariant _ _ _ c.next_word-w.ensures c.if-w-eq18.false _ _ _ c.enter-e.ensures c.if-e.true

@@ -1,8 +1,7 @@
 -- `scopes::has_free` meets its contract. The loop's invariant: the depths show which names are bound. Assumes nothing.
 use Prim.Native.Nat.{◌-◌}
-use native.Mathlib.Omega.{arith}
 use lib.ListN.{length}
-use Rattle.census.proofs.FreePass.{Scoping, scope_begins, scope_over, scope_ends, scope_within, scope_grows, scope_word, scope_number, scope_loose, scope_more}
+use Rattle.census.proofs.FreePass.{Scoping}
 use Rattle.census.proofs.scopes.has_free.Given as goal
 
 abbrev pub invariant-loop-at : goal.invariant-loop-at

@@ -18,7 +18,7 @@ bounds-from-i c = omega (arith, c.loop-i-test.true)
 
 -- src/packing.rt:67:12
 pub overflow_add-to : goal.overflow_add-to
-overflow_add-to c = omega (arith, c.loop-i-test.true, c.requires, c.well-formed)
+overflow_add-to c = omega (arith, c.loop-i-test.true, c.requires, c.well_formed)
 
 -- src/packing.rt:67:9
 pub bounds-to-at : goal.bounds-to-at
@@ -26,7 +26,7 @@ bounds-to-at c = let e = ap length c.loop-i.invariant.1 ∙ length-paste c.args.
 
 -- src/packing.rt:66:9
 pub overflow_step-i : goal.overflow_step-i
-overflow_step-i c = omega (arith, c.loop-i-test.true, c.well-formed)
+overflow_step-i c = omega (arith, c.loop-i-test.true, c.well_formed)
 
 -- src/packing.rt:66:5
 pub loop-i-smaller : goal.loop-i-smaller

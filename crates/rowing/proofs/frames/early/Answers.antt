@@ -2,7 +2,6 @@
 use Rattle.rowing.proofs.FrameLaws.{turns_then, early_or, early_implies, early_same}
 use native.Mathlib.Omega.{arith}
 use Rattle.text.specs.Emit.{negated}
-use borrow.Author.Rules.{rules}
 use Rattle.rowing.proofs.frames.early.Goals as goal
 
 pub returns-then-kind-eq9 : goal.returns-then-kind-eq9

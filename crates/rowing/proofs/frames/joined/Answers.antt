@@ -1,6 +1,5 @@
 -- `frames::joined` meets its contract. Assumes nothing.
 use Rattle.rowing.proofs.FrameLaws.{joined_turns}
-use borrow.Author.Rules.{rules}
 use Rattle.rowing.proofs.frames.joined.Goals as goal
 
 pub returns : goal.returns

@@ -1,6 +1,5 @@
 -- `frames::late` meets its contract, kind by kind. Assumes nothing.
 use Rattle.rowing.proofs.FrameLaws.{previous_turns, late_0, late_1, late_2, late_3, late_4, late_5, late_6, late_7, late_8, late_9}
-use borrow.Author.Rules.{rules}
 use Rattle.rowing.proofs.frames.late.Goals as goal
 
 pub returns-then-kind-eq0 : goal.returns-then-kind-eq0

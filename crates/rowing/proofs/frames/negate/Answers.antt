@@ -1,6 +1,5 @@
 -- `frames::negate` meets its contract. Assumes nothing.
 use Rattle.rowing.proofs.FrameLaws.{negate_turns}
-use borrow.Author.Rules.{rules}
 use Rattle.rowing.proofs.frames.negate.Goals as goal
 
 pub returns : goal.returns

@@ -1,7 +1,6 @@
 -- `frames::notted` meets its contract. Assumes nothing.
 use Rattle.rowing.proofs.FrameLaws.{notted_turns}
 use native.Mathlib.Omega.{arith}
-use borrow.Author.Rules.{rules}
 use Rattle.rowing.proofs.frames.notted.Goals as goal
 
 pub joined-outer-requires : goal.joined-outer-requires

@@ -1,6 +1,5 @@
 -- `frames::plain` meets its contract. Assumes nothing.
 use Rattle.rowing.specs.Framing.{plain_nine}
-use borrow.Author.Rules.{rules}
 use Rattle.rowing.proofs.frames.plain.Goals as goal
 
 pub returns : goal.returns

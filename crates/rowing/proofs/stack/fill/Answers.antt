@@ -1,14 +1,12 @@
-use Prim.Native.Nat.{◌-◌}
 use native.Mathlib.Omega.{arith}
-use borrow.Author.Rules.{rules}
-use Rattle.rowing.proofs.StackLaws.{Filling, fill_begins, fill_over, fill_stops, fill_more}
+use Rattle.rowing.proofs.StackLaws.{fill_begins, fill_over, fill_stops, fill_more}
 use Rattle.rowing.proofs.stack.fill.Goals as goal
 
 pub loop-top-init : goal.loop-top-init
 loop-top-init c = fill_begins _ _ _ _ _ _ c.requires.1
 
 pub offset_bounds-frames-top : goal.offset_bounds-frames-top
-offset_bounds-frames-top c = omega (arith, c.loop-top.invariant.lower, c.requires.2, c.well-formed)
+offset_bounds-frames-top c = omega (arith, c.loop-top.invariant.lower, c.requires.2, c.well_formed)
 
 pub bounds-frames-top : goal.bounds-frames-top
 bounds-frames-top c = omega (arith, c.loop-top.invariant.lower, c.requires.2)

@@ -1,8 +1,5 @@
 -- `stack::fill` meets its contract. The loop's invariant: what is left to fill is as at the start. Assumes nothing.
-use Prim.Native.Nat.{◌-◌}
-use native.Mathlib.Omega.{arith}
-use borrow.Author.Rules.{rules}
-use Rattle.rowing.proofs.StackLaws.{Filling, fill_begins, fill_over, fill_stops, fill_more}
+use Rattle.rowing.proofs.StackLaws.{Filling}
 use Rattle.rowing.proofs.stack.fill.Given as goal
 
 abbrev pub invariant-loop-top : goal.invariant-loop-top

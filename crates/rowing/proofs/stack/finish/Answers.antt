@@ -1,6 +1,5 @@
 -- `stack::finish` meets its contract. Assumes nothing.
 use Rattle.rowing.proofs.ShutLaws.{finish_all}
-use borrow.Author.Rules.{rules}
 use Rattle.rowing.proofs.stack.finish.Goals as goal
 
 pub returns : goal.returns

@@ -1,8 +1,5 @@
 -- `stack::push` meets its contract. Assumes nothing.
-use native.Mathlib.Omega.{arith}
-use lib.ListN.{length-set}
 use Rattle.rowing.proofs.StackLaws.{push_made}
-use borrow.Author.Rules.{rules}
 use Rattle.rowing.proofs.stack.push.Goals as goal
 
 pub returns : goal.returns

@@ -1,6 +1,5 @@
 -- `stack::room_of` meets its contract. Assumes nothing.
 use Rattle.rowing.proofs.StackLaws.{rooms, room_none, room_is}
-use borrow.Author.Rules.{rules}
 use Rattle.rowing.proofs.stack.room_of.Goals as goal
 
 pub returns-then-kind-gt10 : goal.returns-then-kind-gt10

@@ -1,6 +1,5 @@
 -- `stack::shut` meets its contract. Assumes nothing.
 use Rattle.rowing.proofs.ShutLaws.{shut_none, shut_one}
-use borrow.Author.Rules.{rules}
 use Rattle.rowing.proofs.stack.shut.Goals as goal
 
 pub returns-then-top-eq0 : goal.returns-then-top-eq0

@@ -1,6 +1,5 @@
 -- `stack::wait` meets its contract. Assumes nothing.
 use Rattle.rowing.proofs.StackLaws.{wait_more}
-use borrow.Author.Rules.{rules}
 use Rattle.rowing.proofs.stack.wait.Goals as goal
 
 pub returns : goal.returns

@@ -1,9 +1,5 @@
-use Prim.Native.Nat.{◌-◌}
 use native.Mathlib.Omega.{arith}
-use mathlib.Core.Path.{refl, sym, ap, ◌∙◌}
-use lib.Seq.{take_all}
-use borrow.Author.Rules.{rules}
-use Rattle.rowing.proofs.ChunkLaws.{write_ends, not_full, makes_over, makes_old, makes_full, makes_new, Written, write_begins, write_more}
+use Rattle.rowing.proofs.ChunkLaws.{write_ends, not_full, makes_over, makes_old, makes_full, makes_new, write_begins, write_more}
 use Rattle.rowing.proofs.table.make.Goals as goal
 
 pub returns-then-n-gt64 : goal.returns-then-n-gt64
@@ -43,4 +39,4 @@ pub shape_of-rows : goal.shape_of-rows
 shape_of-rows c = c.loop-j.invariant.sized
 
 pub returns : goal.returns
-returns c = makes_new _ _ _ _ c.find_row-i.ensures.0 _ (omega arith) c.if-n-eq64.false c.if-i-n.false c.loop-j.invariant.sized c.loop-j.invariant (write_ends _ _ _ _ _ c.loop-j.invariant c.loop-j-test.false c.requires.1)
+returns c = makes_new _ _ _ _ c.find_row-i.ensures.0 _ (omega arith) c.if-n-eq64.false c.if-i-n.false c.loop-j.invariant.sized c.loop-j.invariant.before (write_ends _ _ _ _ _ c.loop-j.invariant c.loop-j-test.false c.requires.1)

@@ -1,9 +1,6 @@
-use Prim.Native.Nat.{◌-◌}
 use native.Mathlib.Omega.{arith}
 use mathlib.Core.Path.{refl, sym}
-use lib.ListN.{length}
-use borrow.Author.Rules.{rules}
-use Rattle.rowing.proofs.SameLaws.{Left, same_lengths, left_more, left_other, left_all}
+use Rattle.rowing.proofs.SameLaws.{same_lengths, left_more, left_other, left_all}
 use Rattle.rowing.proofs.table.same_numbers.Goals as goal
 
 pub returns-then-a-b : goal.returns-then-a-b

@@ -3,7 +3,6 @@ use native.Mathlib.Omega.{arith}
 use mathlib.Core.Path.{sym, ◌∙◌}
 use Rattle.spelling.proofs.KindLaws.{code_lt}
 use Rattle.scan.proofs.StepLaws.{letters_more, letters_stop, letters_end}
-use borrow.Author.Rules.{rules}
 use Rattle.scan.proofs.looks.after_letters.Goals as goal
 
 pub returns-then-grows : goal.returns-then-grows
@@ -13,7 +12,7 @@ pub returns-then-is_word_byte : goal.returns-then-is_word_byte
 returns-then-is_word_byte c = letters_stop _ _ _ _ _ _ c.requires.at_in_bounds.0 c.requires.at_in_bounds.1 _ c.requires.pending_value (sym c.is_word_byte.ensures ∙ c.if-is_word_byte.true) c.grows.ensures c.if-grows.false
 
 pub give-s-requires : goal.give-s-requires
-give-s-requires c = (c.requires.at_in_bounds.1.low, rw c.word_of-word.ensures (code_lt _), omega (arith, c.requires.at_in_bounds.1.shallow, c.well-formed))
+give-s-requires c = (c.requires.at_in_bounds.1.low, rw c.word_of-word.ensures (code_lt _), omega (arith, c.requires.at_in_bounds.1.shallow, c.well_formed))
 
 pub begin-requires : goal.begin-requires
 begin-requires c = (c.requires.at_in_bounds.0, c.give-s.ensures.low, omega (arith, c.give-s.ensures.near, c.requires.at_in_bounds.1.shallow))

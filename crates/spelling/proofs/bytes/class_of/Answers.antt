@@ -1,6 +1,5 @@
 -- `bytes::class_of` meets its contract, by the rule of its table. Assumes nothing.
 use native.Mathlib.Omega.{arith}
-use borrow.Author.Rules.{rules}
 use Rattle.spelling.proofs.Classes.{classes, class_right}
 use Rattle.spelling.proofs.bytes.class_of.Goals as goal
 

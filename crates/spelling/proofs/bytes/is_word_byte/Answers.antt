@@ -1,7 +1,5 @@
 -- `bytes::is_word_byte` meets its contract. Assumes nothing.
 use native.Mathlib.Omega.{arith}
-use mathlib.Core.Path.{sym}
-use borrow.Author.Rules.{rules}
 use borrow.Author.Tests.{lt-ltb, le-ltb}
 use Rattle.spelling.proofs.Classes.{word_right}
 use Rattle.spelling.proofs.bytes.is_word_byte.Goals as goal

@@ -1,10 +1,7 @@
 -- `bytes::same_bytes` meets its contract. The loop's invariant: the runs are the same exactly if what is left of them is. Assumes nothing.
 use Prim.Native.Nat.{◌-◌}
-use native.Mathlib.Omega.{arith}
-use mathlib.Core.Path.{refl, sym}
 use lib.ListN.{length}
-use borrow.Author.Rules.{rules}
-use Rattle.spelling.proofs.SameLaws.{Left, same_lengths, left_more, left_other, left_all}
+use Rattle.spelling.proofs.SameLaws.{Left}
 use Rattle.spelling.proofs.bytes.same_bytes.Given as goal
 
 abbrev pub invariant-loop-i : goal.invariant-loop-i

@@ -2,7 +2,6 @@
 use Rattle.spelling.specs.Codes.{kinds}
 use Rattle.spelling.proofs.TableLaws.{kind_lt}
 use mathlib.Core.Path.{refl}
-use borrow.Author.Rules.{rules}
 use Rattle.spelling.proofs.modes.kind_of.Goals as goal
 
 pub returns : goal.returns

@@ -1,10 +1,8 @@
 -- `modes::next_mode` meets its contract. Assumes nothing.
 use Prim.Native.Nat.{◌+◌, ◌*◌}
 use native.Mathlib.Omega.{arith}
-use Rattle.spelling.specs.Codes.{kinds, nexts, next_mode}
+use Rattle.spelling.specs.Codes.{nexts, next_mode}
 use Rattle.spelling.proofs.TableLaws.{mode_lt}
-use mathlib.Core.Path.{refl}
-use borrow.Author.Rules.{rules}
 use Rattle.spelling.proofs.modes.next_mode.Goals as goal
 
 pub returns : goal.returns

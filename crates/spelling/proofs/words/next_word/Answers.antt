@@ -1,7 +1,6 @@
 -- `words::next_word` meets its contract, by the class of the first byte. Assumes nothing.
 use native.Mathlib.Omega.{arith}
 use Rattle.spelling.proofs.NextLaws.{none_left, arrow_next, sign_next, number_next, letters_next}
-use borrow.Author.Rules.{rules}
 use Rattle.spelling.proofs.words.next_word.Goals as goal
 
 pub returns-then-from-text : goal.returns-then-from-text

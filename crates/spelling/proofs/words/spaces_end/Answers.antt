@@ -1,8 +1,5 @@
-use Prim.Native.Nat.{◌-◌}
 use native.Mathlib.Omega.{arith}
-use lib.ListN.{length}
-use borrow.Author.Rules.{rules}
-use Rattle.spelling.proofs.FirstLaws.{Skipped, skip_none, skip_more, skip_stops, skip_ends}
+use Rattle.spelling.proofs.FirstLaws.{skip_none, skip_more, skip_stops, skip_ends}
 use Rattle.spelling.proofs.words.spaces_end.Goals as goal
 
 pub loop-i-init : goal.loop-i-init

@@ -1,9 +1,7 @@
 -- `words::spaces_end` meets its contract. The loop's invariant: the words from the place on stay. Assumes nothing.
 use Prim.Native.Nat.{◌-◌}
-use native.Mathlib.Omega.{arith}
 use lib.ListN.{length}
-use borrow.Author.Rules.{rules}
-use Rattle.spelling.proofs.FirstLaws.{Skipped, skip_none, skip_more, skip_stops, skip_ends}
+use Rattle.spelling.proofs.FirstLaws.{Skipped}
 use Rattle.spelling.proofs.words.spaces_end.Given as goal
 
 abbrev pub invariant-loop-i : goal.invariant-loop-i

@@ -1,9 +1,6 @@
-use Prim.Native.Nat.{◌-◌}
 use native.Mathlib.Omega.{arith}
 use mathlib.Core.Logic.{⊎_elim}
-use lib.ListN.{length}
-use borrow.Author.Rules.{rules}
-use Rattle.spelling.proofs.RunLaws.{Valued, valued_none, valued_more, valued_all}
+use Rattle.spelling.proofs.RunLaws.{valued_none, valued_more, valued_all}
 use Rattle.spelling.proofs.words.value_of.Goals as goal
 
 pub loop-i-init : goal.loop-i-init

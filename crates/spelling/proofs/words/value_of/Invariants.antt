@@ -1,10 +1,7 @@
 -- `words::value_of` meets its contract. The loop's invariant: the digits left, read after the value, give the value of all. Assumes nothing.
 use Prim.Native.Nat.{◌-◌}
-use native.Mathlib.Omega.{arith}
-use mathlib.Core.Logic.{⊎_elim}
 use lib.ListN.{length}
-use borrow.Author.Rules.{rules}
-use Rattle.spelling.proofs.RunLaws.{Valued, valued_none, valued_more, valued_all}
+use Rattle.spelling.proofs.RunLaws.{Valued}
 use Rattle.spelling.proofs.words.value_of.Given as goal
 
 abbrev pub invariant-loop-i : goal.invariant-loop-i

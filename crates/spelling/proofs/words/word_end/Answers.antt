@@ -1,10 +1,7 @@
-use Prim.Native.Nat.{◌-◌}
 use native.Mathlib.Omega.{arith}
 use mathlib.Core.Path.{sym, ◌∙◌}
-use lib.ListN.{length}
-use borrow.Author.Rules.{rules}
 use borrow.Author.Tests.{not-true, not-false}
-use Rattle.spelling.proofs.RunLaws.{Run, run_none, run_more, run_stops, run_ends}
+use Rattle.spelling.proofs.RunLaws.{run_none, run_more, run_stops, run_ends}
 use Rattle.spelling.proofs.words.word_end.Goals as goal
 
 pub loop-i-init : goal.loop-i-init

@@ -1,7 +1,6 @@
 -- `words::word_of` meets its contract, reserved word by reserved word. Assumes nothing.
 use mathlib.Core.Path.{sym, ◌∙◌}
 use Rattle.spelling.proofs.PickLaws.{word_1, word_2, word_3, word_4, word_5, word_6, word_7, word_8}
-use borrow.Author.Rules.{rules}
 use Rattle.spelling.proofs.words.word_of.Goals as goal
 
 pub returns-then-same_bytes : goal.returns-then-same_bytes
