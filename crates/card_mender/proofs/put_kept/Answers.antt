@@ -36,7 +36,7 @@ pub end_block-requires : goal.end_block-requires
 end_block-requires c = c.loop-i.invariant.holds.size
 
 pub shape_of-out : goal.shape_of-out
-shape_of-out c = ap length (copying_all c.end_block.new.0 c.loop-i.invariant (omega arith) c.end_block.ensures) ∙ length_block (block_with (block_of c.args.piece.now).number (records_from (c.args.to - c.args.«from») (drop (6 + 24 * c.args.«from») c.args.piece.now))) ∙ sym c.requires.3
+shape_of-out c = ap length (copying_all c.end_block.new.out c.loop-i.invariant (omega arith) c.end_block.ensures) ∙ length_block (block_with (block_of c.args.piece.now).number (records_from (c.args.to - c.args.«from») (drop (6 + 24 * c.args.«from») c.args.piece.now))) ∙ sym c.requires.3
 
 pub returns : goal.returns
 returns c = copying_all _ c.loop-i.invariant (omega arith) c.end_block.ensures
