@@ -25,13 +25,13 @@ pub add_fact-requires : goal.add_fact-requires
 add_fact-requires c = (c.loop-i.invariant.holds.size, omega (arith, c.requires.2, c.loop-i.invariant.after))
 
 pub loop-i-preserved : goal.loop-i-preserved
-loop-i-preserved c = rowing_more _ _ c.loop-i.invariant (omega arith) c.fact_of_law.ensures.0 c.add_fact.ensures
+loop-i-preserved c = rowing_more _ _ c.loop-i.invariant (omega arith) c.fact_of.ensures.result_value c.add_fact.ensures
 
 pub end_block-requires : goal.end_block-requires
 end_block-requires c = c.loop-i.invariant.holds.size
 
 pub shape_of-out : goal.shape_of-out
-shape_of-out c = ap length (rowing_all c.end_block.new.0 c.loop-i.invariant (omega arith) c.end_block.ensures) ∙ length_block (block_with c.args.number (rows_from (c.args.to - c.args.«from») (drop (7 * c.args.«from») c.args.rows.now))) ∙ sym c.requires.3
+shape_of-out c = ap length (rowing_all c.end_block.new.out c.loop-i.invariant (omega arith) c.end_block.ensures) ∙ length_block (block_with c.args.number (rows_from (c.args.to - c.args.«from») (drop (7 * c.args.«from») c.args.rows.now))) ∙ sym c.requires.3
 
 pub returns : goal.returns
-returns c = rowing_all c.end_block.new.0 c.loop-i.invariant (omega arith) c.end_block.ensures
+returns c = rowing_all c.end_block.new.out c.loop-i.invariant (omega arith) c.end_block.ensures

@@ -3,7 +3,6 @@ use Prim.Native.Nat.{◌-◌}
 use mathlib.Core.Path.{sym, ap, ◌∙◌}
 use native.Mathlib.Omega.{arith}
 use borrow.Author.Rules.{rules}
-use borrow.Author.Tests.{not-true, not-false}
 use Prim.Native.Nat.{ℕ}
 use Rattle.card_block.specs.Judging.{onward}
 use Rattle.card_block.proofs.WalkLaws.{few}

@@ -4,7 +4,6 @@ use mathlib.Core.Path.{refl, sym, ap, ◌∙◌}
 use mathlib.Core.Bool.{true≢false}
 use native.Mathlib.Omega.{arith}
 use borrow.Author.Rules.{rules}
-use borrow.Author.Tests.{not-true, not-false}
 use Rattle.card_log.proofs.FillLaws.{Filling, filling_start, filling_more, filling_end, block_inside}
 use Rattle.card_log.proofs.write.Given as goal
 
