@@ -1,15 +1,13 @@
 -- A word's argument in an atom's nine numbers. Assumes nothing.
-use Prim.Native.Nat.{ℕ, suc, ◌+◌, ◌-◌, ◌%◌, ◌≤◌, ◌<◌, min}
+use Prim.Native.Nat.{ℕ, ◌%◌, ◌≤◌, ◌<◌, min}
 use native.Mathlib.Omega.{arith}
-use mathlib.Core.Path.{◌≡◌, refl, sym, ap, ◌∙◌}
+use mathlib.Core.Path.{◌≡◌, refl, ◌∙◌}
 use mathlib.Core.List.{List, [], ◌∷◌, ◌++◌, append-nil}
 use lib.ListN.{length, length-append}
-use lib.Dec.{eqb}
 use borrow.Author.Tests.{ne_eqb}
 use Rattle.meaning.specs.Qtl.{Argument, variable, constant}
-use Rattle.meaning.specs.Rows
 use Rattle.text.specs.Unfold.{number_in, value_after}
-use Rattle.text.specs.Parts.{mark_of, content_of, nine}
+use Rattle.text.specs.Parts.{mark_of, content_of}
 use Rattle.atomic.specs.Arguments.{Puts, argument_of, Adds}
 
 module _ (vs : List (List ℕ)) (before : List ℕ) (code : ℕ) (x after : List ℕ) where

@@ -1,18 +1,16 @@
 -- The arguments of an atom, word by word. Assumes nothing.
-use Prim.Native.Nat.{ℕ, suc, ◌+◌, ◌-◌, ◌≤◌, ◌<◌}
+use Prim.Native.Nat.{ℕ, ◌-◌, ◌≤◌, ◌<◌}
 use native.Mathlib.Omega.{arith}
 use mathlib.Core.Path.{◌≡◌, refl, sym, ap, ◌∙◌}
-use mathlib.Core.Bool.{Bool, true, false}
+use mathlib.Core.Bool.{Bool}
 use mathlib.Core.List.{List, [], ◌∷◌, ◌++◌, append_assoc, append-nil}
-use lib.Dec.{eqb}
 use lib.ListN.{length, take, drop, length-append}
 use borrow.Author.Tests.{ne_eqb, eq-eqb}
 use Rattle.meaning.specs.Qtl.{Argument}
 use Rattle.meaning.specs.Rows
 use Rattle.text.specs.Words.{Word, wordy, bytes_of, Spelled}
-use Rattle.text.specs.Unfold.{value_after}
 use Rattle.text.specs.Parts.{nine, pairs_of}
-use Rattle.spelling.specs.Codes.{code_of, kind_of, Spells, First, Next}
+use Rattle.spelling.specs.Codes.{code_of, Spells, Next}
 use Rattle.spelling.proofs.KindLaws.{code_lt, opening_kind, closing_kind}
 use Rattle.census.specs.Folds.{Lexed}
 use Rattle.census.proofs.PassLaws.{nothing_left}

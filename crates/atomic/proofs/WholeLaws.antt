@@ -1,11 +1,9 @@
 -- The arguments that are read after an atom's name are the atom's. Assumes nothing.
 use Prim.Native.Nat.{ℕ}
-use mathlib.Core.Path.{◌≡◌, refl, sym, ap, ◌∙◌}
-use mathlib.Core.Bool.{true, false}
+use mathlib.Core.Path.{◌≡◌, refl, ap, ◌∙◌}
 use mathlib.Core.List.{List, [], ◌∷◌, ◌++◌, map}
 use Rattle.meaning.specs.Qtl.{Argument}
-use Rattle.meaning.specs.Qtl
-use Rattle.text.specs.Words.{Word, name, number, binary, opening, closing, comma, bytes_of}
+use Rattle.text.specs.Words.{Word, opening, comma, bytes_of}
 use Rattle.text.specs.Grammar.{Term, variable, digits, term_word, terms_words, argument_words}
 use Rattle.text.specs.Unfold.{argument_in}
 use Rattle.spelling.specs.Codes.{code_of, kind_of}

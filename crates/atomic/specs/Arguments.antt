@@ -1,5 +1,5 @@
 -- An atom's arguments, word by word, and its nine numbers. Assumes nothing: these are definitions.
-use Rattle.std.specs.Prelude.{ℕ, ◌+◌, ◌-◌, ◌≤◌, ◌<◌, ◌≡◌, List, [], ◌∷◌, ◌++◌, map, length, take, drop, eqb, true, false}
+use Rattle.std.specs.Prelude.{ℕ, ◌≤◌, ◌<◌, ◌≡◌, List, [], ◌∷◌, ◌++◌, length, drop, eqb, true, false}
 use Rattle.meaning.specs.Qtl.{Argument, variable, constant}
 use Rattle.meaning.specs.Rows
 use Rattle.text.specs.Words.{Word, bytes_of}

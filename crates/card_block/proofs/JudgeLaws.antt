@@ -1,21 +1,18 @@
 -- What a piece is, test by test: the number after the walk, a block, and a piece. Assumes nothing.
-use Prim.Native.Nat.{ℕ, suc, ◌+◌, ◌≤◌, ◌<◌}
-use native.Mathlib.Omega.{arith}
+use Prim.Native.Nat.{ℕ, ◌+◌, ◌≤◌, ◌<◌}
 use native.Mathlib.Numerals.{add-one}
-use mathlib.Core.Path.{◌≡◌, refl, sym, ap, ◌∙◌}
-use mathlib.Core.Bool.{Bool, true, false, ◌&&◌}
-use mathlib.Core.List.{List, [], ◌∷◌}
-use lib.Dec.{eqb, ltb, leb}
+use mathlib.Core.Path.{◌≡◌, refl, sym, ◌∙◌}
+use mathlib.Core.Bool.{true, false, ◌&&◌}
+use mathlib.Core.List.{List}
+use lib.Dec.{eqb, leb}
 use lib.ListN.{length, take, drop, get_or}
 use borrow.Author.Tests.{eq-eqb, ne_eqb, lt-ltb, le-ltb, leb-true}
 use Rattle.cards.specs.Bytes.{number_of, same, check}
-use Rattle.cards.specs.Blocks.{body, block_of, piece_by, piece_of, Block}
+use Rattle.cards.specs.Blocks.{body, block_of, piece_by, piece_of}
 use Rattle.cards.specs.Counting.{closed, into}
 use Rattle.cards.proofs.Tests.{and_left, and_right}
-use Rattle.card_block.specs.declared.Reason.{Reason}
 use Rattle.card_block.specs.declared.Reason.TheVariants.{Check, Shape, Number}
 use Rattle.card_block.specs.declared.Carried.{Carried}
-use Rattle.card_block.specs.declared.Judged.{Judged}
 use Rattle.card_block.specs.declared.Judged.TheVariants.{Stays, Goes}
 use Rattle.card_block.specs.declared.moments.Walked.{Walked}
 use Rattle.card_block.specs.declared.moments.Walked.TheVariants.{Whole, Broken}

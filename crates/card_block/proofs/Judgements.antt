@@ -1,9 +1,9 @@
 -- What `judge` answers is the piece's fate, wherever what it is handed carries what stands before the piece. Assumes nothing.
-use Prim.Native.Nat.{ℕ, suc}
+use Prim.Native.Nat.{ℕ}
 use native.Mathlib.Omega.{arith}
 use mathlib.Core.Path.{◌≡◌, refl, sym, ap, ◌∙◌}
 use mathlib.Core.Bool.{Bool, true, false}
-use mathlib.Core.List.{List, []}
+use mathlib.Core.List.{List}
 use lib.Dec.{eqb, ltb}
 use lib.ListN.{length, take, drop}
 use Rattle.cards.specs.Bytes.{same}
@@ -11,16 +11,16 @@ use Rattle.cards.specs.Bytes
 use Rattle.cards.specs.Moments.{unbroken}
 use Rattle.cards.specs.Blocks.{Block, body, block_of, check, shape, number, Piece, good, faulty, piece_by, piece_of}
 use Rattle.cards.specs.Blocks
-use Rattle.cards.specs.Reading.{Before, start, runs_on, line, after, Fate, stays, goes, fate_by, fate}
-use Rattle.cards.specs.Counting.{Open, opening_of, closed, into, open_after, all_belong}
-use Rattle.cards.proofs.CountingLaws.{none_open, no_flag}
+use Rattle.cards.specs.Reading.{Before, start, runs_on, line, after, stays, goes, fate_by, fate}
+use Rattle.cards.specs.Counting.{Open, opening_of, closed, into}
+use Rattle.cards.proofs.CountingLaws.{none_open}
 use Rattle.cards.proofs.WalkLaws.{Opened, opened_start, opened_after, shape_counted, open_counted}
 use Rattle.card_block.specs.declared.Carried.{Carried}
 use Rattle.card_block.specs.declared.Reason.{Reason}
 use Rattle.card_block.specs.declared.Reason.TheVariants.{Check, Shape, Number}
 use Rattle.card_block.specs.declared.Judged.{Judged}
 use Rattle.card_block.specs.declared.Judged.TheVariants.{Stays, Goes}
-use Rattle.card_block.specs.Judging.{open_at, walked_to, walked_by, settled_by, settled, judged_block, told, judged_piece, judgement, nothing, Carries, meant, Kept, Judges}
+use Rattle.card_block.specs.Judging.{open_at, walked_to, walked_by, settled_by, settled, judged_block, told, judged_piece, judgement, nothing, Carries, meant, Judges}
 
 -- a good piece is the block that its bytes say
 good_block : (bytes : List ℕ) (b : Block) → piece_of bytes ≡ good b → b ≡ block_of bytes

@@ -7,7 +7,7 @@ use mathlib.Core.Bool.{Bool, true, false, ◌&&◌}
 use mathlib.Core.List.{List, [], ◌∷◌, ◌++◌, map}
 use lib.Dec.{eqb, leb}
 use lib.ListN.{length, take, drop, get_or, length-take, length-drop, length-map, take-append-drop}
-use lib.Seq.{take_at, drop_at, take-nil, drop-nil, length-take-le, drop-drop, take-take, drop-cons, get_or-drop, get_or-take}
+use lib.Seq.{take_at, drop_at, take-nil, drop-nil, length-take-le, drop-drop, take-take, drop-cons, get_or-take}
 use borrow.Author.Tests.{eqb-true, eqb-false, eq-eqb, leb-true, le-leb}
 use Rattle.cards.specs.Bytes.{bytes_of, number_of, filled, parts, joined, same}
 use Rattle.cards.specs.Moments.{Record}

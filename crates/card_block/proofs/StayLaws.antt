@@ -1,23 +1,20 @@
 -- What a block that stays is: its number, its length and its count of records. Assumes nothing.
-use Prim.Native.Nat.{ℕ, suc, ◌≤◌, ◌<◌}
+use Prim.Native.Nat.{ℕ, suc, ◌<◌}
 use native.Mathlib.Omega.{arith}
-use mathlib.Core.Path.{◌≡◌, refl, sym, ap, ◌∙◌}
+use mathlib.Core.Path.{◌≡◌, refl, ap, ◌∙◌}
 use mathlib.Core.Bool.{Bool, true, false}
 use mathlib.Core.List.{List}
 use lib.Dec.{ltb}
-use lib.ListN.{length, drop, get_or}
+use lib.ListN.{length, get_or}
 use Rattle.cards.specs.Bytes.{bytes_of, filled}
-use Rattle.cards.specs.Moments.{Record}
-use Rattle.cards.specs.Blocks.{Block, body, block_bytes, block_of, Piece, good, faulty, piece_of}
-use Rattle.cards.proofs.BlockLaws.{Holds, Written, good_written, length_block}
+use Rattle.cards.specs.Blocks.{Block, body, block_bytes, Piece, good, faulty, piece_of}
+use Rattle.cards.proofs.BlockLaws.{Written, good_written, length_block}
 use Rattle.card_block.specs.declared.moments.Walked.{Walked}
 use Rattle.card_block.specs.declared.moments.Walked.TheVariants.{Whole, Broken}
 use Rattle.card_block.specs.declared.Carried.{Carried}
-use Rattle.card_block.specs.declared.Judged.{Judged}
-use Rattle.card_block.specs.declared.Judged.TheVariants.{Stays, Goes}
-use Rattle.card_block.specs.Shapes.{Shaped, records_from}
+use Rattle.card_block.specs.declared.Judged.TheVariants.{Stays}
+use Rattle.card_block.specs.Shapes.{Shaped}
 use Rattle.card_block.specs.Judging.{settled_by, settled, judged_block, judged_piece, judgement}
-use Rattle.card_block.proofs.JudgeLaws.{block_records}
 
 -- a block that stays has a number, and the next one is above 0
 settled_next : (n next : ℕ) (w : Walked) (g : Carried) → settled n next w ≡ Stays g → 0 < g.next

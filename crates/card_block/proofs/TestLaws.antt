@@ -1,12 +1,12 @@
 -- The tests of bytes, one after the other: unused bytes, a record, the records of a block. Assumes nothing.
-use Prim.Native.Nat.{ℕ, zero, suc, ◌+◌, ◌-◌, ◌*◌, ◌≤◌, ◌<◌}
+use Prim.Native.Nat.{ℕ, suc, ◌+◌, ◌-◌, ◌*◌, ◌≤◌, ◌<◌}
 use native.Mathlib.Omega.{arith}
 use native.Mathlib.Numerals.{add-one}
 use mathlib.Core.Path.{◌≡◌, refl, sym, ap, ◌∙◌}
 use mathlib.Core.Bool.{Bool, true, false, ◌&&◌}
 use mathlib.Core.List.{List, [], ◌∷◌}
 use lib.Dec.{eqb, leb}
-use lib.ListN.{length, take, drop, get_or, length-take, length-drop}
+use lib.ListN.{length, take, drop, get_or}
 use lib.Seq.{drop-cons, drop-drop, take-take, get_or-drop, get_or-take, length-take-le, drop-length}
 use borrow.Author.Tests.{eq-eqb, ne_eqb, le-leb, lt-leb}
 use Rattle.cards.specs.Bytes.{same, check}

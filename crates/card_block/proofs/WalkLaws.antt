@@ -6,14 +6,13 @@ use mathlib.Core.Path.{◌≡◌, refl, sym, ap, ◌∙◌}
 use mathlib.Core.Bool.{Bool, true, false, ◌&&◌, ◌||◌}
 use mathlib.Core.List.{List, [], ◌∷◌}
 use lib.Dec.{eqb, ltb}
-use lib.ListN.{length, take, drop, get_or}
+use lib.ListN.{take, drop, get_or}
 use lib.Seq.{drop-drop, take-take, get_or-drop, get_or-take}
 use borrow.Author.Tests.{eq-eqb, ne_eqb, lt-ltb, le-ltb, eqb-true, ltb-true}
 use Rattle.cards.specs.Bytes.{number_of}
 use Rattle.cards.specs.Moments.{Record}
 use Rattle.cards.specs.Blocks.{record_of}
 use Rattle.cards.specs.Counting.{Open, closed, more, belongs, next, open_after, all_belong}
-use Rattle.card_block.specs.declared.moments.Walked.{Walked}
 use Rattle.card_block.specs.declared.moments.Walked.TheVariants.{Whole, Broken}
 use Rattle.card_block.specs.Shapes.{records_from}
 use Rattle.card_block.specs.Judging.{open_at, may_belong, onward_by, onward, walked_to, walked_by}

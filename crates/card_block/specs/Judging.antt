@@ -1,5 +1,5 @@
 -- What `judge` answers, for any piece and anything carried; proofs/Judged.antt shows that it is the piece's fate. Assumes nothing.
-use Rattle.std.specs.Prelude.{ℕ, suc, ◌≤◌, ◌≡◌, Bool, true, false, ◌&&◌, ◌||◌, List, [], ◌∷◌, eqb, ltb}
+use Rattle.std.specs.Prelude.{ℕ, suc, ◌≡◌, Bool, true, false, ◌&&◌, ◌||◌, List, eqb, ltb}
 use Rattle.cards.specs.Moments.{Record, flagged, together}
 use Rattle.cards.specs.Blocks.{Block, check, shape, number, Piece, good, faulty, piece_of, block_of}
 use Rattle.cards.specs.Blocks

@@ -1,14 +1,14 @@
 -- The walks give the diagrams that the instructions say. Assumes nothing.
 use Prim.Native.Nat.{ℕ, ◌+◌, ◌*◌, ◌-◌, ◌≤◌, ◌<◌}
 use mathlib.Core.Path.{◌≡◌, refl, sym, ap, ◌∙◌}
-use mathlib.Core.Bool.{true, false}
+use mathlib.Core.Bool.{true}
 use mathlib.Core.List.{List, [], ◌∷◌}
 use mathlib.Core.Logic.{⊎_elim}
 use native.Mathlib.Nat.{mul-le-mul_right}
 use native.Mathlib.Omega.{arith}
 use lib.ListN.{get_or}
 use Rattle.trees.specs.Bits.{Function, Asks, drops}
-use Rattle.trees.specs.Tree.{Tree, off, on, eval, tree_of, not_t, since_t}
+use Rattle.trees.specs.Tree.{Tree, on, eval, tree_of, not_t, since_t}
 use Rattle.trees.specs.Table.{add_trees, at, trees_of}
 use Rattle.trees.proofs.Tests.{lt_or_ge}
 use Rattle.trees.proofs.TreeLaws.{asks_eval, fine_off, fine_on}

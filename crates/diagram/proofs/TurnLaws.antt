@@ -1,6 +1,6 @@
 -- An atom's diagram, one turn after the other. Assumes nothing.
 use Prim.Native.Nat.{ℕ, suc, ◌+◌, ◌*◌, ◌≤◌, ◌<◌}
-use mathlib.Core.Path.{◌≡◌, refl, sym, ap, ap₂, ◌∙◌, fun_ext}
+use mathlib.Core.Path.{◌≡◌, refl, sym, ap, ◌∙◌, fun_ext}
 use mathlib.Core.Bool.{Bool, true, false, ◌||◌}
 use mathlib.Core.List.{List, [], ◌∷◌, ◌++◌, map}
 use native.Mathlib.Omega.{arith}
@@ -10,12 +10,12 @@ use Rattle.trees.specs.Bits.{Bits, Function, Same}
 use Rattle.trees.specs.Tree.{Tree, off, eval, Fine, tree_of}
 use Rattle.trees.specs.Table.{add_tree, add_trees, at, trees_of}
 use Rattle.trees.proofs.TreeLaws.{fine_off}
-use Rattle.trees.proofs.FunctionLaws.{fine_of, tree_one, tree_same}
+use Rattle.trees.proofs.FunctionLaws.{tree_one, tree_same}
 use Rattle.trees.proofs.TableLaws.{adds_goes, goes_length}
 use Rattle.nodes.specs.Nodes.{Grown, Stuck, Front, Rest}
 use Rattle.nodes.proofs.ReadLaws.{grown_ref, grown_count}
 use Rattle.making.specs.declared.Place.{Place}
-use Rattle.making.specs.Cubes.{cube_says, Over, SameShape}
+use Rattle.making.specs.Cubes.{Over, SameShape}
 use Rattle.making.proofs.CubeLaws.{into_says, over_into, over_off, over_shape}
 use Rattle.making.proofs.WalkLaws.{front_trans, rest_trans}
 use Rattle.walks.specs.Desks.{Desk, Remembered}

@@ -1,21 +1,20 @@
 -- The row of an atom, and the slot after a quantifier. Assumes nothing.
-use Prim.Native.Nat.{ℕ, ◌+◌, ◌-◌, ◌≤◌, ◌<◌}
+use Prim.Native.Nat.{ℕ, ◌-◌, ◌≤◌}
 use native.Mathlib.Omega.{arith}
 use mathlib.Core.Path.{◌≡◌, refl, sym, ap, ◌∙◌}
 use mathlib.Core.Bool.{Bool}
 use mathlib.Core.List.{List, [], ◌∷◌}
-use lib.ListN.{length, take, drop}
+use lib.ListN.{take, drop}
 use Rattle.meaning.specs.Rows
-use Rattle.text.specs.Words.{Word, bytes_of, Spelled}
+use Rattle.text.specs.Words.{Word, Spelled}
 use Rattle.text.specs.Unfold.{number_in}
 use Rattle.text.specs.Parts.{nine}
-use Rattle.text.specs.Emit.{make_row}
-use Rattle.spelling.specs.Codes.{code_of, Spells, First, Next}
+use Rattle.spelling.specs.Codes.{Next}
 use Rattle.spelling.proofs.KindLaws.{code_lt}
 use Rattle.census.specs.Folds.{Lexed}
 use Rattle.census.specs.Tables.{Within}
-use Rattle.rowing.specs.Denoted.{Holds, Denotes, Makes}
-use Rattle.atomic.specs.Arguments.{arguments_after, Small, Numbers}
+use Rattle.rowing.specs.Denoted.{Makes}
+use Rattle.atomic.specs.Arguments.{arguments_after, Numbers}
 use Rattle.drive.specs.Drives.{slot_after}
 use Rattle.drive.specs.Driving.{SlotAt, Atomic}
 

@@ -1,26 +1,24 @@
 -- The pass over the words of a reading makes the rows of its formula. Assumes nothing.
-use Prim.Native.Nat.{ℕ, ◌≤◌, ◌<◌}
+use Prim.Native.Nat.{ℕ, ◌≤◌}
 use native.Mathlib.Omega.{arith}
 use mathlib.Core.Path.{◌≡◌, refl, sym, ap, ◌∙◌}
 use mathlib.Core.Bool.{Bool, true, false}
 use mathlib.Core.List.{List, [], ◌∷◌, ◌++◌, map, append_assoc, append-nil}
-use lib.Dec.{eqb, ltb}
+use lib.Dec.{ltb}
 use lib.ListN.{length, length-map}
 use borrow.Author.Tests.{ltb-false}
-use Rattle.meaning.specs.Qtl.{Argument}
-use Rattle.meaning.specs.Rows
-use Rattle.text.specs.Words.{Word, name, number, constant, prefix, binary, quantifier, opening, closing, comma, dot, Prefix, once, historically, previously, negation, Binary, Quantifier, bytes_of}
+use Rattle.text.specs.Words.{Word, name, constant, prefix, binary, quantifier, opening, closing, comma, dot, Prefix, once, historically, previously, negation, Binary, bytes_of}
 use Rattle.text.specs.Grammar.{Term, variable, digits, Reading, truth, atom, under, joined, quantified, grouped, term_word, terms_words, argument_words, words, left_level, level, rank, open_ended, Fine}
-use Rattle.text.specs.Machine.{Frame, group, applied, binding, left, room_of, Stage, wants, ended, named, finished, give, reads, pushed, closed}
-use Rattle.text.specs.Unfold.{Atom, atoms, number_in, argument_in, unfolded}
+use Rattle.text.specs.Machine.{Frame, group, applied, binding, left, room_of, wants, ended, finished, closed}
+use Rattle.text.specs.Unfold.{atoms, number_in, argument_in, unfolded}
 use Rattle.text.specs.Translate.{any_atom, too_many}
-use Rattle.text.specs.Parts.{parts, nine}
-use Rattle.text.specs.Emit.{Rowed, make_row, negated, noted, nines}
-use Rattle.text.specs.Held.{Held, mark, applies, quantifies, Waiting, push_rows, Shut, shut_rows, end_rows}
+use Rattle.text.specs.Parts.{parts}
+use Rattle.text.specs.Emit.{noted, nines}
+use Rattle.text.specs.Held.{Held, mark, quantifies, push_rows, Shut, shut_rows}
 use Rattle.text.proofs.LimitLaws.{or_none, any_split}
-use Rattle.text.proofs.RowedLaws.{Rowing, Stood}
+use Rattle.text.proofs.RowedLaws.{Stood}
 use Rattle.text.proofs.HeldLaws.{empty, Ended}
-use Rattle.text.proofs.StackLaws.{Waits, WaitsAt, EndedAt}
+use Rattle.text.proofs.StackLaws.{Waits, WaitsAt}
 use Rattle.text.proofs.OperandLaws.{atom_ended, true_ended, false_ended, group_waits, binding_waits, applied_waiting, prefix_waits}
 use Rattle.text.proofs.WordLaws.{room, edge, left_le, rank_le, edge_operator, edge_closing, edge_result, pushed_waits}
 use Rattle.spelling.specs.Codes.{kind_of, nexts, mode_after}

@@ -1,14 +1,13 @@
 -- What rows and frames show after the words of a reading, and what an operator, `)` and the end make of it. Assumes nothing.
 use Prim.Native.Nat.{ℕ}
-use native.Mathlib.Omega.{arith}
-use mathlib.Core.Path.{◌≡◌, refl, sym, ap, ◌∙◌}
-use mathlib.Core.List.{List, [], ◌∷◌}
-use Rattle.text.specs.Words.{Word, binary, closing, Binary}
+use mathlib.Core.Path.{◌≡◌}
+use mathlib.Core.List.{List, []}
+use Rattle.text.specs.Words.{binary, closing, Binary}
 use Rattle.text.specs.Grammar.{Reading, atom}
 use Rattle.text.specs.Machine.{Frame, Stage, wants, ended, named, binds, bound, argues, argued, stopped, at_end, at_name, give, reads, result}
 use Rattle.text.specs.Unfold.{unfolded}
 use Rattle.text.specs.Parts.{parts}
-use Rattle.text.specs.Held.{Waiting, push_rows, Shut, shut_rows, end_rows}
+use Rattle.text.specs.Held.{push_rows, Shut, shut_rows, end_rows}
 use Rattle.text.proofs.RowedLaws.{Stood}
 use Rattle.text.proofs.HeldLaws.{Ended}
 use Rattle.text.proofs.StackLaws.{Waits, WaitsAt, push_waits, EndedAt, shut_ended, end_rows_law}

@@ -1,21 +1,19 @@
 -- A word where an operand must come, by its number. Assumes nothing.
-use Prim.Native.Nat.{ℕ, ◌+◌, ◌-◌, ◌%◌, ◌≤◌, ◌<◌}
+use Prim.Native.Nat.{ℕ, ◌-◌, ◌%◌, ◌≤◌, ◌<◌}
 use native.Mathlib.Omega.{arith}
-use mathlib.Core.Path.{◌≡◌, refl, sym, ap, ◌∙◌}
-use mathlib.Core.Bool.{Bool, true, false}
-use mathlib.Core.List.{List, [], ◌∷◌}
-use lib.ListN.{length, take, drop}
+use mathlib.Core.Path.{◌≡◌, refl, sym, ◌∙◌}
+use mathlib.Core.Bool.{true, false}
+use mathlib.Core.List.{List, ◌∷◌}
+use lib.ListN.{take, drop}
 use Rattle.meaning.specs.Rows
-use Rattle.text.specs.Words.{Word, name, number, constant, prefix, binary, quantifier, opening, closing, comma, dot, Prefix, once, historically, previously, negation, sinces, ands, ors, implies, universal, existential, bytes_of}
-use Rattle.text.specs.Unfold.{number_in}
+use Rattle.text.specs.Words.{Word, name, number, constant, prefix, binary, quantifier, opening, closing, comma, dot, Prefix, once, historically, previously, negation, universal, existential, bytes_of}
 use Rattle.text.specs.Parts.{nine, pairs_of}
-use Rattle.text.specs.Emit.{Rowed, make_row, negated}
+use Rattle.text.specs.Emit.{make_row, negated}
 use Rattle.text.specs.Held.{Held, mark, applies, quantifies, Shut}
-use Rattle.spelling.specs.Codes.{code_of, Spells}
+use Rattle.spelling.specs.Codes.{code_of}
 use Rattle.rowing.specs.Denoted.{Holds, Denotes, Makes}
 use Rattle.rowing.specs.Framing.{plain_nine, Turns, frame_kind, frame_held}
-use Rattle.rowing.specs.Stacking.{stack_of, AllFramed, Filled, Waited}
-use Rattle.atomic.specs.Arguments.{arguments_after}
+use Rattle.rowing.specs.Stacking.{Filled, Waited}
 use Rattle.drive.specs.Drives.{slot_after, stacked, rowed, with_true, at_operand}
 use Rattle.drive.specs.Driving.{SlotAt, Atomic, Keeps, Coming, Moves, Holding, HoldingTrue}
 use Rattle.drive.proofs.CodedLaws.{coded, word_is}

@@ -1,21 +1,17 @@
 -- A word where an operator must come, by its number; and a word by what must come. Assumes nothing.
-use Prim.Native.Nat.{ℕ, ◌+◌, ◌-◌, ◌≤◌, ◌<◌}
+use Prim.Native.Nat.{ℕ, ◌-◌, ◌≤◌, ◌<◌}
 use native.Mathlib.Omega.{arith}
-use mathlib.Core.Path.{◌≡◌, refl, sym, ap, ◌∙◌}
-use mathlib.Core.Bool.{Bool, true, false}
-use mathlib.Core.List.{List, [], ◌∷◌}
-use lib.Dec.{eqb, ltb}
-use lib.ListN.{length, take, drop}
+use mathlib.Core.Path.{◌≡◌, refl, ap, ◌∙◌}
+use mathlib.Core.Bool.{true, false}
+use mathlib.Core.List.{List}
 use borrow.Author.Tests.{ne_eqb, lt-ltb, le-ltb}
-use Rattle.text.specs.Words.{Word, name, number, constant, prefix, binary, quantifier, opening, closing, comma, dot, Prefix, once, historically, previously, negation, Binary, sinces, ands, ors, implies, universal, existential, bytes_of}
+use Rattle.text.specs.Words.{Word, name, number, constant, prefix, binary, quantifier, opening, closing, comma, dot, once, historically, previously, negation, Binary, sinces, ands, ors, implies, universal, existential, bytes_of}
 use Rattle.text.specs.Grammar.{level}
-use Rattle.text.specs.Emit.{Rowed}
-use Rattle.text.specs.Held.{Held, Waiting, push_rows, Shut, shut_rows}
-use Rattle.spelling.specs.Codes.{code_of, Spells}
-use Rattle.rowing.specs.Denoted.{Holds, Denotes}
-use Rattle.rowing.specs.Stacking.{stack_of, AllFramed, Filled, Shuts, Pushed, Pushes}
+use Rattle.text.specs.Held.{push_rows, Shut, shut_rows}
+use Rattle.spelling.specs.Codes.{code_of}
+use Rattle.rowing.specs.Stacking.{Filled, Shuts, Pushed, Pushes}
 use Rattle.drive.specs.Drives.{waiting, at_operand, at_operator, at_mode}
-use Rattle.drive.specs.Driving.{Keeps, Coming, Moves, Operates}
+use Rattle.drive.specs.Driving.{Keeps, Moves, Operates}
 use Rattle.drive.proofs.CodedLaws.{coded, word_is}
 use Rattle.drive.proofs.OperandSteps.{filled_keeps}
 

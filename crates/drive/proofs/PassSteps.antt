@@ -1,32 +1,30 @@
 -- The pass over the words of a text, word by word. Assumes nothing.
-use Prim.Native.Nat.{ℕ, ◌+◌, ◌-◌, ◌≤◌, ◌<◌}
+use Prim.Native.Nat.{ℕ, ◌≤◌, ◌<◌}
 use native.Mathlib.Omega.{arith}
-use mathlib.Core.Path.{◌≡◌, refl, sym, ap, ◌∙◌}
-use mathlib.Core.Bool.{Bool, true, false}
-use mathlib.Core.List.{List, [], ◌∷◌, ◌++◌}
-use lib.ListN.{length, take, drop}
-use Rattle.text.specs.Words.{Word, wordy, Spelled, bytes_of}
+use mathlib.Core.Path.{◌≡◌, refl, ap, ◌∙◌}
+use mathlib.Core.Bool.{Bool, false}
+use mathlib.Core.List.{List, [], ◌∷◌}
+use lib.ListN.{length, drop}
+use Rattle.text.specs.Words.{Word, wordy, Spelled}
 use Rattle.text.specs.Grammar.{Reading, words, RuleText, HasReading}
 use Rattle.text.specs.Unfold.{predicate_names, variable_names, unfolded, formula_of}
 use Rattle.text.specs.Parts.{parts}
 use Rattle.text.specs.Emit.{Rowed, nines}
-use Rattle.text.specs.Held.{Held, Shut, end_rows}
+use Rattle.text.specs.Held.{Shut, end_rows}
 use Rattle.text.proofs.RuleTexts.{unique}
 use Rattle.text.proofs.RowedLaws.{Stood}
-use Rattle.spelling.specs.Codes.{code_of, mode_after, next_mode, Spells, First, Next}
+use Rattle.spelling.specs.Codes.{mode_after, next_mode, Spells, First, Next}
 use Rattle.spelling.proofs.KindLaws.{code_lt, next_is}
 use Rattle.census.specs.Folds.{Lexed}
-use Rattle.census.specs.Tables.{names_at, Table, Within}
-use Rattle.census.specs.Clashes.{Predicates}
-use Rattle.census.specs.Scopes.{Variables}
+use Rattle.census.specs.Tables.{Within}
 use Rattle.census.proofs.PassLaws.{nothing_left}
 use Rattle.rowing.specs.Denoted.{chunks, Holds, fits, over, Denotes}
 use Rattle.rowing.specs.Stacking.{stack_of, AllFramed, Filled, Finishes}
 use Rattle.rowing.proofs.StackLaws.{stack_none}
-use Rattle.atomic.specs.Arguments.{arguments_after, Small}
+use Rattle.atomic.specs.Arguments.{Small}
 use Rattle.drive.specs.Drives.{at_mode, driven, driven_all}
 use Rattle.drive.specs.Driving.{Keeps, Coming, Moves, Passed, RowsOf}
-use Rattle.drive.proofs.DrivenLaws.{Few, few_atoms, driven_rows}
+use Rattle.drive.proofs.DrivenLaws.{few_atoms, driven_rows}
 use Rattle.drive.proofs.LongerLaws.{end_longer, driven_longer}
 use Rattle.drive.proofs.WordsLaws.{small_words, FewFrom, few_words}
 

@@ -1,15 +1,15 @@
 -- The words of a reading that refusals 4 and 5 let pass: no large constant, and no name with more than 3 arguments. Assumes nothing.
-use Prim.Native.Nat.{ℕ, ◌+◌, ◌≤◌, ◌<◌}
+use Prim.Native.Nat.{ℕ, ◌≤◌}
 use native.Mathlib.Omega.{arith}
-use mathlib.Core.Path.{◌≡◌, refl, sym, ap, ◌∙◌}
-use mathlib.Core.Bool.{Bool, true, false, ◌||◌}
-use mathlib.Core.List.{List, [], ◌∷◌, ◌++◌, map, append_assoc, append-nil}
+use mathlib.Core.Path.{◌≡◌, refl}
+use mathlib.Core.Bool.{Bool, true, false}
+use mathlib.Core.List.{List, [], ◌∷◌, ◌++◌, append_assoc, append-nil}
 use lib.Dec.{ltb}
 use lib.ListN.{length, length-map}
 use borrow.Author.Tests.{ltb-false}
 use Rattle.text.specs.Words.{Word, name, number, constant, prefix, binary, quantifier, opening, closing, comma, dot, Prefix, once, historically, previously, negation, Binary, sinces, ands, ors, implies, Quantifier, universal, existential, bytes_of}
 use Rattle.text.specs.Grammar.{Term, variable, digits, Reading, truth, atom, under, joined, quantified, grouped, term_word, terms_words, argument_words, words}
-use Rattle.text.specs.Unfold.{Atom, atoms, argument_in, value_after}
+use Rattle.text.specs.Unfold.{atoms, argument_in, value_after}
 use Rattle.text.specs.Translate.{any_atom, too_large}
 use Rattle.text.proofs.LimitLaws.{or_none, any_split}
 use Rattle.spelling.specs.Codes.{code_of, kind_of, nexts, mode_after}

@@ -1,14 +1,14 @@
 -- The pass over the words: rows and frames go from word to word, by what must come. A name's arguments and a quantifier's variable are
 -- looked at in the words after it, so only the words at which an operand or an operator must come do anything.
 -- Part of the machine, not of the meaning. Assumes nothing: these are definitions.
-use Rattle.std.specs.Prelude.{ℕ, ◌≡◌, Bool, true, false, List, [], ◌∷◌, eqb, ltb, length}
+use Rattle.std.specs.Prelude.{ℕ, true, false, List, [], ◌∷◌, eqb, ltb}
 use Rattle.meaning.specs.Rows
 use Rattle.text.specs.Words.{Word, name, number, constant, prefix, binary, quantifier, opening, closing, comma, dot, once, historically, previously, negation, bytes_of}
 use Rattle.text.specs.Unfold.{number_in}
 use Rattle.text.specs.Parts.{nine}
 use Rattle.text.specs.Emit.{Rowed, make_row, negated}
 use Rattle.text.specs.Held.{Held, mark, applies, quantifies, Waiting, push_rows, Shut, shut_rows, end_rows}
-use Rattle.spelling.specs.Codes.{code_of, mode_after}
+use Rattle.spelling.specs.Codes.{mode_after}
 use Rattle.atomic.specs.Arguments.{arguments_after}
 
 -- the slot of the next word's name

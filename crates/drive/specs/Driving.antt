@@ -1,5 +1,5 @@
 -- What the functions of the pass promise: rows in a table and frames by number go as the pass goes. Assumes nothing: these are definitions.
-use Rattle.std.specs.Prelude.{ℕ, ◌+◌, ◌-◌, ◌≤◌, ◌<◌, ◌≡◌, false, List, [], length, take, drop}
+use Rattle.std.specs.Prelude.{ℕ, ◌+◌, ◌-◌, ◌≤◌, ◌≡◌, false, List, length, take, drop}
 use Rattle.text.specs.Words.{Word, Prefix, bytes_of}
 use Rattle.text.specs.Grammar.{Reading, RuleText}
 use Rattle.text.specs.Unfold.{atoms, number_in, formula_of}

@@ -9,7 +9,7 @@ use lib.ListN.{length, get_or}
 use borrow.Author.Tests.{ltb-true}
 use Rattle.trees.specs.Tree.{node, Fine}
 use Rattle.trees.specs.Table.{at, node_at, trees_of}
-use Rattle.trees.specs.Kept.{above, node_right, levels}
+use Rattle.trees.specs.Kept.{above, node_right}
 use Rattle.trees.proofs.Tests.{lt_or_ge, false_true}
 use Rattle.trees.proofs.TreeLaws.{fine_off, fine_on, fine_node, fine_lower}
 use Rattle.trees.proofs.CanonicalLaws.{RightNode, right_node}

@@ -1,6 +1,6 @@
 -- Two outcomes that keep the promise of a function of crates/nodes, making, walks or diagram are the same: what it answers, and what it
 -- leaves in the node slice. What it leaves in the work slice is not promised. Assumes nothing.
-use Prim.Native.Nat.{ℕ, suc, ◌+◌, ◌*◌, ◌/◌, ◌≤◌, ◌<◌}
+use Prim.Native.Nat.{ℕ, ◌+◌, ◌*◌, ◌/◌, ◌≤◌, ◌<◌}
 use mathlib.Core.Path.{◌≡◌, refl, ap, ap₂, sym, ◌∙◌}
 use mathlib.Core.Bool.{Bool, true, false}
 use mathlib.Core.List.{List}
@@ -9,8 +9,8 @@ use native.Mathlib.Omega.{arith}
 use lib.ListN.{length, get_or, take}
 use lib.Seq.{ext_get_or, get_or-take}
 use Rattle.trees.specs.Bits.{Function}
-use Rattle.trees.specs.Tree.{Tree, not_t}
-use Rattle.trees.specs.Table.{add_tree, at, trees_of, show, Ref}
+use Rattle.trees.specs.Tree.{Tree}
+use Rattle.trees.specs.Table.{add_tree, at, trees_of, show}
 use Rattle.trees.proofs.Tests.{lt_or_ge}
 use Rattle.trees.proofs.ReadLaws.{length_trees, numbers_show}
 use Rattle.nodes.specs.Nodes.{Rest, Table, Sides, Holds, Grown, Stuck}

@@ -1,9 +1,9 @@
 -- A byte comes where nothing is pending: by its class. Assumes nothing.
-use Prim.Native.Nat.{ℕ, zero, suc, ◌+◌, ◌-◌, ◌*◌, ◌≤◌, ◌<◌}
+use Prim.Native.Nat.{ℕ, ◌+◌, ◌-◌, ◌*◌, ◌≤◌, ◌<◌}
 use native.Mathlib.Omega.{arith}
 use mathlib.Core.Path.{◌≡◌, refl, sym, ap, ◌∙◌}
 use mathlib.Core.Bool.{Bool, true, false}
-use mathlib.Core.List.{List, [], ◌∷◌, ◌++◌}
+use mathlib.Core.List.{List, [], ◌∷◌}
 use lib.Dec.{eqb}
 use lib.ListN.{length, take, drop, get_or}
 use borrow.Author.Tests.{ne_eqb}
@@ -11,11 +11,11 @@ use lib.Seq.{drop-cons}
 use Rattle.trees.proofs.Tests.{false_true}
 use Rattle.text.specs.Words.{Word, name, number, constant, prefix, binary, quantifier, opening, closing, comma, dot, once, historically, previously, negation, sinces, ands, ors, implies, universal, existential, bytes_of, wordy, is_digit}
 use Rattle.text.specs.Machine.{Stage, wants, ended, named, binds, bound, argues, argued, stopped, give}
-use Rattle.text.specs.Reader.{Pending, gap, letters, numerals, dash, State, at, Class, blank, letter, digit, minus, sign, foreign, class_of, grows, joins, counts, lead, begin}
+use Rattle.text.specs.Reader.{gap, numerals, dash, at, Class, blank, letter, digit, minus, sign, foreign, class_of, joins, counts, begin}
 use Rattle.text.specs.Shape.{shape}
 use Rattle.text.proofs.ClassLaws.{IsClass, is_letter_law, is_digit_law, is_blank, is_minus, is_sign, is_foreign, classed}
 use Rattle.spelling.specs.Codes.{code_of, class_number, mode_number}
-use Rattle.scan.specs.Looks.{Shaped, Sound, Looks, Gives, Begins, Leads, Joins}
+use Rattle.scan.specs.Looks.{Sound, Looks, Gives, Begins, Leads, Joins}
 
 -- the words of one sign
 record SignCode (w : Word) : Type 0 where

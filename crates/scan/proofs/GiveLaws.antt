@@ -1,14 +1,14 @@
 -- A word comes: each way through the code shows where the machine goes. Assumes nothing.
-use Prim.Native.Nat.{ℕ, zero, suc, ◌+◌, ◌-◌, ◌≤◌, ◌<◌}
+use Prim.Native.Nat.{ℕ, zero, suc, ◌+◌, ◌-◌}
 use native.Mathlib.Omega.{arith}
 use mathlib.Core.Path.{◌≡◌, refl, sym, ap, ◌∙◌}
 use Rattle.text.specs.Words.{Word}
 use Rattle.text.specs.Machine.{Stage, give}
-use Rattle.text.specs.Shape.{Mode, operator, Shape, shape, halt, shut, next}
+use Rattle.text.specs.Shape.{operator, Shape, shape, halt, shut, next}
 use Rattle.text.proofs.ShapeLaws.{shape_give}
 use Rattle.spelling.specs.Codes.{code_of, mode_number, next_mode}
 use Rattle.scan.specs.Looks.{Shaped}
-use Rattle.scan.proofs.RuleLaws.{Other, Rules, stops, opens, calls, closes, ends, goes, rules}
+use Rattle.scan.proofs.RuleLaws.{Rules, stops, opens, calls, closes, ends, goes, rules}
 
 shut_none : (d : ℕ) → d ≡ 0 → shut d ≡ halt
 unfolding shut

@@ -1,18 +1,17 @@
 -- What may come, by the number of the mode. Assumes nothing.
 use Prim.Native.Nat.{ℕ, zero, suc}
-use native.Mathlib.Omega.{arith}
 use mathlib.Core.Path.{◌≡◌, refl, sym, ap, ◌∙◌}
 use mathlib.Core.Bool.{Bool, true, false, ◌||◌}
-use mathlib.Core.List.{List, [], ◌∷◌}
+use mathlib.Core.List.{[], ◌∷◌}
 use lib.Dec.{eqb}
 use borrow.Author.Tests.{ne_eqb}
 use Rattle.trees.proofs.Tests.{false_true}
-use Rattle.text.specs.Machine.{Stage, wants, ended, named, binds, bound, argues, argued, stopped, result}
-use Rattle.text.specs.Reader.{gap, letters, State, at, letter, grows, joins, lead, begin}
-use Rattle.text.specs.Shape.{Mode, operand, operator, call, slot, point, argument, separator, nowhere, shape, may_end, is_read}
+use Rattle.text.specs.Machine.{Stage, wants, ended, named, binds, bound, argues, argued, stopped}
+use Rattle.text.specs.Reader.{gap, letters, at, grows, joins, lead, begin}
+use Rattle.text.specs.Shape.{Mode, operand, operator, call, slot, point, argument, separator, nowhere, shape, may_end}
 use Rattle.text.proofs.ShapeLaws.{shape_result}
 use Rattle.spelling.specs.Codes.{mode_number}
-use Rattle.scan.specs.Looks.{Shaped, Joins, Grows, Leads, MayEnd}
+use Rattle.scan.specs.Looks.{Joins, Grows, Leads, MayEnd}
 
 joins_mode : (t : Stage) → (eqb (mode_number (shape t).mode) 1 || eqb (mode_number (shape t).mode) 2) ≡ joins t
 unfolding joins shape mode_number

@@ -1,12 +1,10 @@
 -- Where a word leads, by the table of modes: mode by mode and kind by kind. Assumes nothing.
-use Prim.Native.Nat.{ℕ, suc, ◌+◌, ◌*◌, ◌≤◌, ◌<◌}
+use Prim.Native.Nat.{ℕ, suc, ◌<◌}
 use native.Mathlib.Omega.{arith}
-use mathlib.Core.Path.{◌≡◌, refl, ap}
+use mathlib.Core.Path.{◌≡◌, refl}
 use mathlib.Core.Bool.{true, false}
-use mathlib.Core.List.{List, [], ◌∷◌}
-use lib.ListN.{get_or}
 use Rattle.text.specs.Words.{Word, name, number, constant, prefix, binary, quantifier, opening, closing, comma, dot, once, historically, previously, negation, sinces, ands, ors, implies, universal, existential}
-use Rattle.text.specs.Shape.{Mode, operand, operator, call, slot, point, argument, separator, nowhere, Shape, halt, shut, next}
+use Rattle.text.specs.Shape.{Mode, operand, operator, call, slot, point, argument, separator, nowhere, halt, shut, next}
 use Rattle.spelling.specs.Codes.{code_of, mode_number, nexts, next_mode, kind_of, mode_after}
 use Rattle.spelling.proofs.KindLaws.{next_is}
 

@@ -1,25 +1,25 @@
 -- The scan: what it has passed, and what it answers. Assumes nothing.
-use Prim.Native.Nat.{ℕ, zero, suc, ◌+◌, ◌-◌, ◌*◌, ◌≤◌, ◌<◌}
+use Prim.Native.Nat.{ℕ, suc, ◌+◌, ◌≤◌, ◌<◌}
 use native.Mathlib.Omega.{arith}
 use native.Mathlib.Numerals.{add-one}
 use native.Mathlib.Nat.{zero-add}
-use mathlib.Core.Path.{◌≡◌, refl, sym, ap, ◌∙◌}
+use mathlib.Core.Path.{◌≡◌, refl, sym, ◌∙◌}
 use mathlib.Core.Bool.{Bool, true, false}
-use mathlib.Core.List.{List, [], ◌∷◌}
-use mathlib.Core.Logic.{◌⊎◌, inl, inr, ⊎_elim}
+use mathlib.Core.List.{List, []}
+use mathlib.Core.Logic.{⊎_elim}
 use lib.ListN.{length, drop, get_or}
 use lib.Seq.{drop-cons, drop-length}
 use Rattle.trees.proofs.Tests.{false_true}
 use Rattle.text.specs.Grammar.{Reading, RuleText, HasReading, Place}
 use Rattle.text.specs.Machine.{Stage, wants, ended, named, binds, bound, argues, argued, stopped, Result, refused, reads}
-use Rattle.text.specs.Reader.{Pending, gap, letters, numerals, dash, State, at, grows, joins, counts, step, run, finish, start, read, place_from, place_of}
+use Rattle.text.specs.Reader.{gap, letters, numerals, dash, State, at, grows, joins, counts, step, run, finish, start, read, place_from, place_of}
 use Rattle.text.specs.Shape.{shape, is_read, parens}
 use Rattle.text.proofs.RuleTexts.{correct, complete, place}
 use Rattle.text.proofs.GoesOnLaws.{Going, Alive}
 use Rattle.text.proofs.AliveLaws.{step_next, place_going, place_here}
 use Rattle.text.proofs.FoundLaws.{stop_reads}
 use Rattle.spelling.specs.Codes.{mode_number}
-use Rattle.scan.specs.Looks.{Shaped, Sound, Looks, Steps, Ending}
+use Rattle.scan.specs.Looks.{Sound, Looks, Steps, Ending}
 
 going_mode : (t : Stage) → (t ≡ stopped → ⊥) → mode_number (shape t).mode < 7
 unfolding mode_number shape

@@ -1,22 +1,20 @@
 -- One byte more, by what is pending; and the end. Assumes nothing.
-use Prim.Native.Nat.{ℕ, zero, suc, ◌+◌, ◌-◌, ◌*◌, ◌≤◌, ◌<◌}
+use Prim.Native.Nat.{ℕ, suc, ◌+◌, ◌-◌, ◌<◌}
 use native.Mathlib.Omega.{arith}
-use native.Mathlib.Numerals.{add-one}
 use mathlib.Core.Path.{◌≡◌, refl, sym, ap, ◌∙◌}
 use mathlib.Core.Bool.{Bool, true, false}
 use mathlib.Core.List.{List, [], ◌∷◌, ◌++◌}
-use lib.Dec.{eqb}
 use lib.ListN.{length, take, drop, get_or, length-drop}
 use lib.Seq.{take-suc, get_or-drop}
 use borrow.Author.Tests.{ne_eqb}
-use Rattle.trees.proofs.Tests.{false_true, not_true}
-use Rattle.text.specs.Words.{is_word_byte, is_digit, Word, number, binary, implies, word_of}
-use Rattle.text.specs.Machine.{Stage, stopped, give, result, refused}
-use Rattle.text.specs.Reader.{Pending, gap, letters, numerals, dash, State, at, Class, digit, class_of, grows, begin, step, finish}
+use Rattle.trees.proofs.Tests.{not_true}
+use Rattle.text.specs.Words.{is_word_byte, is_digit, number, binary, implies, word_of}
+use Rattle.text.specs.Machine.{Stage, stopped, give}
+use Rattle.text.specs.Reader.{gap, letters, numerals, dash, State, at, class_of, grows, begin, step, finish}
 use Rattle.text.specs.Shape.{shape, is_read}
-use Rattle.text.proofs.ClassLaws.{IsClass, is_letter_law, is_digit_law, is_blank, is_minus, is_sign, is_foreign, classed, class_digit}
+use Rattle.text.proofs.ClassLaws.{class_digit}
 use Rattle.spelling.specs.Codes.{code_of, class_number, mode_number}
-use Rattle.scan.specs.Looks.{Shaped, Sound, Looks, Gives, Begins, Steps, Grows, MayEnd, Ending}
+use Rattle.scan.specs.Looks.{Sound, Looks, Gives, Begins, Steps, Grows, MayEnd, Ending}
 use Rattle.scan.proofs.BeginLaws.{digit_class}
 
 -- the machine's step, equation by equation

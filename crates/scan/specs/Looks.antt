@@ -2,7 +2,7 @@
 use Rattle.std.specs.Prelude.{ℕ, ◌+◌, ◌-◌, ◌*◌, ◌≤◌, ◌<◌, ◌≡◌, Bool, true, false, List, [], ◌∷◌, length, take, drop, get_or}
 use Rattle.text.specs.Words.{Word}
 use Rattle.text.specs.Machine.{Stage, stopped, give, result}
-use Rattle.text.specs.Reader.{Pending, gap, letters, numerals, dash, State, at, class_of, grows, joins, begin, lead, step, finish, letter}
+use Rattle.text.specs.Reader.{gap, letters, numerals, dash, State, at, class_of, grows, joins, begin, step, finish, letter}
 use Rattle.text.specs.Shape.{shape, is_read}
 use Rattle.spelling.specs.Codes.{code_of, mode_number}
 

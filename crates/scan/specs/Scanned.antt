@@ -1,5 +1,5 @@
 -- What the scan answers. Assumes nothing.
-use Rattle.std.specs.Prelude.{ℕ, ◌≡◌, List}
+use Rattle.std.specs.Prelude.{ℕ, List}
 use Rattle.text.specs.Grammar.{Reading, RuleText, HasReading, Place}
 use Rattle.scan.specs.declared.Reached.{Reached}
 use Rattle.scan.specs.declared.Reached.TheVariants.{Whole, Stops}

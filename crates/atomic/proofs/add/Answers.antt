@@ -1,6 +1,5 @@
 -- `add` meets its contract. Assumes nothing.
 use Rattle.atomic.proofs.AddLaws.{add_name, add_number, add_none}
-use borrow.Author.Rules.{rules}
 use Rattle.atomic.proofs.add.Goals as goal
 
 pub returns-then-word-eq0 : goal.returns-then-word-eq0

@@ -1,7 +1,6 @@
 -- `atom` meets its contract. Assumes nothing.
 use Rattle.census.specs.Tables.{names_at}
 use Rattle.atomic.proofs.CollectLaws.{atom_alone, atom_lexed, atom_some}
-use borrow.Author.Rules.{rules}
 use Rattle.atomic.proofs.atom.Goals as goal
 
 pub returns-then-w-ne14 : goal.returns-then-w-ne14

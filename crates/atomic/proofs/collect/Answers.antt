@@ -1,8 +1,5 @@
-use Prim.Native.Nat.{◌-◌}
 use native.Mathlib.Omega.{arith}
-use lib.ListN.{length}
-use Rattle.census.specs.Tables.{names_at}
-use Rattle.atomic.proofs.CollectLaws.{Collecting, collect_begins, collect_over, collect_ends, collect_shut, collect_past, collect_more}
+use Rattle.atomic.proofs.CollectLaws.{collect_begins, collect_over, collect_ends, collect_shut, collect_past, collect_more}
 use Rattle.atomic.proofs.collect.Goals as goal
 
 pub loop-at-init : goal.loop-at-init

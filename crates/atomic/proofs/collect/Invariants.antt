@@ -1,9 +1,8 @@
 -- `collect` meets its contract. The loop's invariant: the arguments so far and those of the words left are all. Assumes nothing.
 use Prim.Native.Nat.{◌-◌}
-use native.Mathlib.Omega.{arith}
 use lib.ListN.{length}
 use Rattle.census.specs.Tables.{names_at}
-use Rattle.atomic.proofs.CollectLaws.{Collecting, collect_begins, collect_over, collect_ends, collect_shut, collect_past, collect_more}
+use Rattle.atomic.proofs.CollectLaws.{Collecting}
 use Rattle.atomic.proofs.collect.Given as goal
 
 abbrev pub invariant-loop-at : goal.invariant-loop-at

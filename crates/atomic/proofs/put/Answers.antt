@@ -1,6 +1,5 @@
 -- `put` meets its contract. Assumes nothing.
 use Rattle.atomic.proofs.PutLaws.{put_first, put_second, put_third, put_none}
-use borrow.Author.Rules.{rules}
 use Rattle.atomic.proofs.put.Goals as goal
 
 pub returns-then-count-eq0 : goal.returns-then-count-eq0
@@ -13,4 +12,4 @@ pub returns-then-count-eq2 : goal.returns-then-count-eq2
 returns-then-count-eq2 c = put_third _ _ _ c.if-count-eq2.true
 
 pub returns : goal.returns
-returns c = put_none c.args.t1 c.args.mark c.args.value c.if-count-eq0.false c.if-count-eq1.false c.if-count-eq2.false
+returns c = put_none c.args.nine c.args.mark c.args.value c.if-count-eq0.false c.if-count-eq1.false c.if-count-eq2.false

@@ -7,7 +7,6 @@ use Rattle.keeping.specs.Checks.{Inside, ZeroFrom, Right, Apart, InRowOrder}
 use Rattle.keeping.proofs.CheckLaws.{says_yes}
 use Rattle.keeping.proofs.VerdictLaws.{Passed, passed_table, passed_rows, kept_right, kept_order, refused, refused_by, verdict, leaves_no, leaves_all}
 use Rattle.nodes.proofs.ChainLaws.{chained_same}
-use borrow.Author.Rules.{rules}
 use borrow.Author.Tests.{not-false}
 use Rattle.keeping.proofs.check.Goals as goal
 use Rattle.keeping.proofs.check.Goals.{Else-not-all_differ}
@@ -77,22 +76,25 @@ returns-then-not-rows_in_order c =
 
 pub free_only-requires : goal.free_only-requires
 free_only-requires c =
-    let p = passed c in
+    let p = passed (goal.at.free_only-requires c).Else-not-all_differ in
     let s = c in
     let fits = p.fits in
-    let size = c.all_differ.auto.1.1.0 in
+    let size = c.all_differ.auto.work in
     record { table = (passed_table p s.requires.sized.few s.requires.sized.nodes, p.right); rows = passed_rows p s.requires.le_k.2; kept_in_bounds = (omega (arith, s.requires.sized.room, size), omega (arith, s.requires.le_k.0), omega (arith, s.requires.le_k.1)) }
 
 pub returns : goal.returns
 returns c =
     let e7 = c in
     let s = e7 in
-    let p = passed e7 in
+    let p = passed (goal.at.returns c).Else-not-all_differ in
     let fits = p.fits in
     let order = says_yes (InRowOrder s.args.nodes.now s.args.kept s.args.refs.now s.args.count) e7.rows_in_order.result e7.rows_in_order.ensures e7.if-not-rows_in_order.false-raw in
     let last = c.free_only in
     let differ = e7.all_differ in
-    let chains = differ.ensures.1 in record { value = verdict _ s.args.allowed.now _ _ s.args.refs.now _ s.args.nodes.now p order last.result last.ensures.0; check_leaves = (record {
-        rest = record { eq = λ i h. last.ensures.1.eq i (omega arith) ∙ chains.0.rest.eq i h };
-        chained = λ e. chained_same (chains.1 (not-false differ.result e7.if-not-all_differ.false-raw)) (record { eq = λ i h. last.ensures.1.eq i (omega arith) });
-      },) }
+    record {
+      value = verdict _ s.args.allowed.now _ _ s.args.refs.now _ s.args.nodes.now p order last.result last.ensures.decides;
+      check_leaves = record {
+        rest = record { eq = λ i h. last.ensures.rest.eq i (omega arith) ∙ differ.ensures.between.rest.eq i h };
+        chained = λ e. chained_same (differ.ensures.chained (not-false differ.result e7.if-not-all_differ.false-raw)) (record { eq = λ i h. last.ensures.rest.eq i (omega arith) });
+      };
+    }

@@ -1,7 +1,5 @@
-use Prim.Native.Nat.{◌-◌}
 use native.Mathlib.Omega.{arith}
-use lib.ListN.{length}
-use Rattle.scan.proofs.ScanLaws.{Scanning, scan_begins, scan_stops, scan_more, scan_whole, scan_short}
+use Rattle.scan.proofs.ScanLaws.{scan_begins, scan_stops, scan_more, scan_whole, scan_short}
 use Rattle.scan.proofs.scan.Goals as goal
 
 pub loop-i-init : goal.loop-i-init

@@ -1,8 +1,7 @@
 -- `scan::scan` meets its contract. The loop's invariant: the bytes passed have led to a state that can go on. Assumes nothing.
 use Prim.Native.Nat.{◌-◌}
-use native.Mathlib.Omega.{arith}
 use lib.ListN.{length}
-use Rattle.scan.proofs.ScanLaws.{Scanning, scan_begins, scan_stops, scan_more, scan_whole, scan_short}
+use Rattle.scan.proofs.ScanLaws.{Scanning}
 use Rattle.scan.proofs.scan.Given as goal
 
 abbrev pub invariant-loop-i : goal.invariant-loop-i

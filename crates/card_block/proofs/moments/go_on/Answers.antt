@@ -1,5 +1,4 @@
 -- `go_on` meets its contract. Assumes nothing.
-use borrow.Author.Rules.{rules}
 use Rattle.card_block.proofs.WalkLaws.{onward_ends, onward_first, onward_more}
 use Rattle.card_block.proofs.moments.go_on.Goals as goal
 

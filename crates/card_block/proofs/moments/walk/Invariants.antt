@@ -1,10 +1,6 @@
 -- `walk` meets its contract: the records still to come, from what is open now, lead to the same. The measure is what is left. Assumes nothing.
 use Prim.Native.Nat.{◌-◌}
-use native.Mathlib.Omega.{arith}
-use borrow.Author.Rules.{rules}
-use Rattle.card_block.proofs.WalkLaws.{Walking, walking_start, walking_broken, walking_on, walking_end, few}
-use mathlib.Core.Path.{sym, ◌∙◌}
-use borrow.Author.Tests.{not-true, not-false}
+use Rattle.card_block.proofs.WalkLaws.{Walking}
 use Rattle.card_block.proofs.moments.walk.Given as goal
 
 abbrev pub invariant-loop-i : goal.invariant-loop-i

@@ -1,6 +1,4 @@
 -- `record_shaped` meets its contract. Assumes nothing.
-use borrow.Author.Rules.{rules}
-use native.Mathlib.Omega.{arith}
 use Rattle.card_block.proofs.TestLaws.{record_many, record_flag, record_zero, record_zero_2, record_past}
 use Rattle.card_block.proofs.shape.record_shaped.Goals as goal
 

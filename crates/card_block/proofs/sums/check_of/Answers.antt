@@ -1,20 +1,13 @@
-use Prim.Native.Nat.{ℕ, ◌+◌, ◌-◌, ◌%◌, ◌≤◌, ◌<◌}
+use Prim.Native.Nat.{ℕ, ◌+◌, ◌%◌, ◌≤◌, ◌<◌}
 use native.Mathlib.Omega.{arith}
 use native.Mathlib.Numerals.{add-one}
 use mathlib.Core.Path.{◌≡◌, refl, sym, ap, ◌∙◌}
 use mathlib.Core.List.{List, [], ◌∷◌}
 use lib.ListN.{length, drop}
 use lib.Seq.{drop-cons, drop-length}
-use borrow.Author.Rules.{rules}
 use Rattle.cards.specs.Bytes.{sums, check}
+use Rattle.card_block.proofs.sums.check_of.Invariants.{Sofar}
 use Rattle.card_block.proofs.sums.check_of.Goals as goal
-
--- the sums so far lead to the check
-record Sofar (bytes : List ℕ) (a b i : ℕ) : Type 0 where
-  within : i ≤ length bytes
-  first : a < 255
-  second : b < 255
-  leads : sums a b (drop i bytes) ≡ check bytes
 
 begins : (bytes : List ℕ) → Sofar bytes 0 0 0
 unfolding check

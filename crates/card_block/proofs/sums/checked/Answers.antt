@@ -1,6 +1,4 @@
 -- `checked` meets its contract. Assumes nothing.
-use borrow.Author.Rules.{rules}
-use native.Mathlib.Omega.{arith}
 use borrow.Author.Tests.{eq-eqb, ne_eqb}
 use mathlib.Core.Path.{refl, sym, ◌∙◌}
 use Rattle.card_block.proofs.TestLaws.{check_tests}

@@ -1,6 +1,5 @@
 -- `number_at` meets its contract. Assumes nothing.
 use native.Mathlib.Omega.{arith}
-use borrow.Author.Rules.{rules}
 use Rattle.cards.proofs.BytesLaws.{number_four}
 use Rattle.card_block.proofs.sums.number_at.Goals as goal
 

@@ -1,6 +1,5 @@
-use Prim.Native.Nat.{◌-◌}
 use native.Mathlib.Omega.{arith}
-use Rattle.card_block.proofs.TestLaws.{Unused, unused_start, unused_not, unused_more, unused_all}
+use Rattle.card_block.proofs.TestLaws.{unused_start, unused_not, unused_more, unused_all}
 use Rattle.card_block.proofs.sums.zeros.Goals as goal
 
 pub loop-i-init : goal.loop-i-init

@@ -1,7 +1,6 @@
 -- `zeros` meets its contract: what is still to be tested decides. The measure is what is left. Assumes nothing.
 use Prim.Native.Nat.{◌-◌}
-use native.Mathlib.Omega.{arith}
-use Rattle.card_block.proofs.TestLaws.{Unused, unused_start, unused_not, unused_more, unused_all}
+use Rattle.card_block.proofs.TestLaws.{Unused}
 use Rattle.card_block.proofs.sums.zeros.Given as goal
 
 abbrev pub invariant-loop-i : goal.invariant-loop-i

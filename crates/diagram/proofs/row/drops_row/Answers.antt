@@ -1,9 +1,6 @@
-use Prim.Native.Nat.{◌*◌, ◌≤◌}
-use mathlib.Core.Path.{◌≡◌, refl, ◌∙◌}
+use mathlib.Core.Path.{refl, ◌∙◌}
 use native.Mathlib.Omega.{arith}
-use lib.ListN.{length}
-use borrow.Author.Rules.{rules}
-use Rattle.diagram.proofs.RemovalLaws.{Removing, removing_none, removing_more, removing_short, removing_all}
+use Rattle.diagram.proofs.RemovalLaws.{removing_none, removing_more, removing_short, removing_all}
 use Rattle.diagram.proofs.RowLaws.{removal_short, removal_done}
 use Rattle.diagram.proofs.row.drops_row.Goals as goal
 
@@ -30,25 +27,25 @@ drop_walk-requires c =
     record { desk = v.kept.desk; left_le_levels = (omega arith, v.within) }
 
 pub shape_of-nodes-in_default : goal.shape_of-nodes-in_default
-shape_of-nodes-in_default c = c.drop_walk.auto.0 ∙ c.loop-b.invariant.2.size
+shape_of-nodes-in_default c = c.drop_walk.auto.nodes ∙ c.loop-b.invariant.2.size
 
 pub shape_of-work-in_default : goal.shape_of-work-in_default
-shape_of-work-in_default c = c.drop_walk.auto.1.0 ∙ c.loop-b.invariant.1
+shape_of-work-in_default c = c.drop_walk.auto.work ∙ c.loop-b.invariant.1
 
 pub returns-in_default : goal.returns-in_default
 returns-in_default c =
     let test = c in
     let loop = test in
     removal_short loop.first_level-base.ensures loop.requires.within
-    (removing_short test.loop-b-test.true loop.loop-b.invariant.2 (rw c.enum_told-1.given.1 at c.drop_walk.ensures))
+    (removing_short test.loop-b-test.true loop.loop-b.invariant.2 c.in_default.ensures)
 
 pub loop-b-preserved : goal.loop-b-preserved
 loop-b-preserved c =
     let done = c in
     let test = done in
     let v = test.loop-b.invariant in
-    let g = rw c.m1-1.given.1 at done.drop_walk.ensures in
-    (omega (arith, v.0), done.drop_walk.auto.1.0 ∙ v.1, removing_more test.loop-b-test.true v.2 g.0 g.1)
+    let g = c.in-At.ensures in
+    (omega (arith, v.0), done.drop_walk.auto.work ∙ v.1, removing_more test.loop-b-test.true v.2 g.0 g.1)
 
 pub shape_of-nodes : goal.shape_of-nodes
 shape_of-nodes c = c.loop-b.invariant.2.size

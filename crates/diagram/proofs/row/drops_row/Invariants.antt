@@ -1,12 +1,9 @@
 -- `row::drops_row` meets its contract. The loop's invariant: what is left to remove gives what was asked. The measure is the
 -- count of bits that are left. Assumes nothing.
 use Prim.Native.Nat.{◌*◌, ◌≤◌}
-use mathlib.Core.Path.{◌≡◌, refl, ◌∙◌}
-use native.Mathlib.Omega.{arith}
+use mathlib.Core.Path.{◌≡◌}
 use lib.ListN.{length}
-use borrow.Author.Rules.{rules}
-use Rattle.diagram.proofs.RemovalLaws.{Removing, removing_none, removing_more, removing_short, removing_all}
-use Rattle.diagram.proofs.RowLaws.{removal_short, removal_done}
+use Rattle.diagram.proofs.RemovalLaws.{Removing}
 use Rattle.diagram.proofs.row.drops_row.Given as goal
 
 abbrev pub invariant-loop-b : goal.invariant-loop-b

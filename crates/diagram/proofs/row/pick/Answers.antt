@@ -2,7 +2,6 @@
 use mathlib.Core.Path.{sym}
 use native.Mathlib.Omega.{arith}
 use lib.ListN.{get_or-eq_default}
-use borrow.Author.Rules.{rules}
 use Rattle.diagram.proofs.row.pick.Goals as goal
 
 pub returns-then-a-ge64 : goal.returns-then-a-ge64

@@ -1,6 +1,4 @@
 -- `turns::take_turn` meets its contract: a turn that misses adds nothing, and one that hits goes into the diagram. Assumes nothing.
-use native.Mathlib.Omega.{arith}
-use borrow.Author.Rules.{rules}
 use Rattle.nodes.proofs.ReadLaws.{stays}
 use Rattle.making.proofs.NodesLaws.{shelved_same}
 use Rattle.diagram.proofs.TurnLaws.{miss_tree}
@@ -9,13 +7,13 @@ use Rattle.diagram.proofs.turns.take_turn.Goals as goal
 pub into-requires : goal.into-requires
 into-requires c =
     let s = c in
-    record { shelf = s.requires.shelf; k_bound = (s.requires.k_bound.0, s.requires.k_bound.1, rw c.turn-1.given.1 at s.requires.k_bound.2) }
+    record { shelf = s.requires.shelf; k_bound = (s.requires.k_bound.0, s.requires.k_bound.1, rw c.in-Hit.is at s.requires.k_bound.2) }
 
 pub returns-in-Miss : goal.returns-in-Miss
 returns-in-Miss c =
     let s = c in
-    let fine = rw c.enum_told-1.given.1 at s.requires.k_bound.2 in
-    rw c.enum_told-1.given.1 (stays _ _ _ _ s.requires.shelf.table s.requires.k_bound.1 (miss_tree s.args.k fine), shelved_same s.requires.shelf)
+    let fine = rw c.in-Miss.is at s.requires.k_bound.2 in
+    rw c.in-Miss.is (stays _ _ _ _ s.requires.shelf.table s.requires.k_bound.1 (miss_tree s.args.k fine), shelved_same s.requires.shelf)
 
 pub returns-in-Hit : goal.returns-in-Hit
-returns-in-Hit c = rw c.turn-1.given.1 c.into.ensures
+returns-in-Hit c = rw c.in-Hit.is c.into.ensures

@@ -1,10 +1,7 @@
 -- `operands::named` meets its contract. Assumes nothing.
 use Rattle.census.specs.Tables.{names_at}
 use Rattle.drive.proofs.AtomLaws.{atom_made}
-use borrow.Author.Rules.{rules}
-use Rattle.drive.proofs.operands.named.Lts as lts
 use Rattle.drive.proofs.operands.named.Goals as goal
 
--- src/operands.rt:34:1
 pub returns : goal.returns
 returns c = atom_made (names_at c.args.text.now c.args.pstarts.now c.args.plengths.now c.args.pn) (names_at c.args.text.now c.args.vstarts.now c.args.vlengths.now c.args.vn) _ _ _ _ _ _ _ _ _ _ c.find-p.ensures.value c.atom-a.ensures c.make.ensures

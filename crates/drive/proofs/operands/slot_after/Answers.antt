@@ -2,18 +2,13 @@
 use Rattle.census.specs.Tables.{names_at}
 use native.Mathlib.Omega.{arith}
 use Rattle.drive.proofs.AtomLaws.{slot_none, slot_within, slot_some}
-use borrow.Author.Rules.{rules}
-use Rattle.drive.proofs.operands.slot_after.Lts as lts
 use Rattle.drive.proofs.operands.slot_after.Goals as goal
 
--- src/operands.rt:28:9
 pub returns-then-w-eq18 : goal.returns-then-w-eq18
 returns-then-w-eq18 c = slot_none (names_at c.args.text.now c.args.starts.now c.args.lengths.now c.args.n) _ _ _ _ _ c.next_word-w.ensures c.if-w-eq18.true
 
--- src/operands.rt:30:5
 pub find-requires : goal.find-requires
 find-requires c = (c.requires.table.0, slot_within (names_at c.args.text.now c.args.starts.now c.args.lengths.now c.args.n) _ _ _ _ _ c.next_word-w.ensures c.requires.table.1 c.if-w-eq18.false)
 
--- src/operands.rt:21:1
 pub returns : goal.returns
 returns c = slot_some (names_at c.args.text.now c.args.starts.now c.args.lengths.now c.args.n) _ _ _ _ _ c.next_word-w.ensures _ c.if-w-eq18.false c.find.ensures.value (omega (arith, c.find.ensures.upper_bound, c.requires.n_bound))

@@ -1,15 +1,11 @@
 -- `each::all_differ` meets its contract. The loop's invariant: the first j places are chained, and no two of their nodes are
 -- equal. The measure is what is left. Assumes nothing.
-use Prim.Native.Nat.{◌+◌, ◌*◌, ◌-◌, ◌/◌, ◌≤◌}
-use native.Mathlib.Omega.{arith}
-use mathlib.Core.Path.{◌≡◌, refl, ◌∙◌}
+use Prim.Native.Nat.{◌*◌, ◌-◌, ◌≤◌}
+use mathlib.Core.Path.{◌≡◌}
 use lib.ListN.{length}
-use Rattle.trees.proofs.Tests.{false_true}
 use Rattle.nodes.specs.Nodes.{Between}
 use Rattle.nodes.specs.Chains.{Chained}
 use Rattle.keeping.specs.Checks.{Apart}
-use Rattle.nodes.proofs.ChainLaws.{joined_between, between_trans, between_zeroed, chained_start, chained_walk, chained_missed, chained_found, chained_more}
-use Rattle.keeping.proofs.CheckLaws.{apart_more, apart_not}
 use Rattle.keeping.proofs.each.all_differ.Given as goal
 
 abbrev pub invariant-loop-j : goal.invariant-loop-j

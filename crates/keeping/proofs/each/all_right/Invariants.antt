@@ -1,11 +1,6 @@
 -- `each::all_right` meets its contract. The loop's invariant: the first j nodes are right. The measure is what is left. Assumes nothing.
 use Prim.Native.Nat.{◌-◌, ◌≤◌}
-use native.Mathlib.Omega.{arith}
-use mathlib.Core.Path.{◌≡◌, sym, ◌∙◌}
-use borrow.Author.Tests.{not-true, not-false}
-use Rattle.trees.proofs.Tests.{false_true}
 use Rattle.keeping.specs.Checks.{Right}
-use Rattle.keeping.proofs.CheckLaws.{right_more}
 use Rattle.keeping.proofs.each.all_right.Given as goal
 
 abbrev pub invariant-loop-j : goal.invariant-loop-j

@@ -1,6 +1,4 @@
-use Prim.Native.Nat.{◌-◌, ◌≤◌}
 use native.Mathlib.Omega.{arith}
-use Rattle.keeping.specs.Checks.{Inside}
 use Rattle.keeping.proofs.CheckLaws.{more}
 use Rattle.keeping.proofs.each.inside.Goals as goal
 

@@ -1,8 +1,6 @@
 -- `each::inside` meets its contract. The loop's invariant: the first i references are inside. The measure is what is left. Assumes nothing.
 use Prim.Native.Nat.{◌-◌, ◌≤◌}
-use native.Mathlib.Omega.{arith}
 use Rattle.keeping.specs.Checks.{Inside}
-use Rattle.keeping.proofs.CheckLaws.{more}
 use Rattle.keeping.proofs.each.inside.Given as goal
 
 abbrev pub invariant-loop-i : goal.invariant-loop-i

@@ -1,7 +1,6 @@
 -- `each::leads_above` meets its contract. Assumes nothing.
 use mathlib.Core.Path.{sym}
 use Rattle.keeping.proofs.CheckLaws.{above_leaf, above_node}
-use borrow.Author.Rules.{rules}
 use Rattle.keeping.proofs.each.leads_above.Goals as goal
 
 pub returns-then-r-lt2 : goal.returns-then-r-lt2

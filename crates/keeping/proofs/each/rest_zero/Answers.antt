@@ -1,7 +1,4 @@
-use Prim.Native.Nat.{◌-◌}
-use native.Mathlib.Omega.{arith}
-use lib.ListN.{length}
-use Rattle.keeping.proofs.CheckLaws.{Ored, ored_none, ored_more, ored_end}
+use Rattle.keeping.proofs.CheckLaws.{ored_none, ored_more, ored_end}
 use Rattle.keeping.proofs.each.rest_zero.Goals as goal
 
 pub loop-i-init : goal.loop-i-init

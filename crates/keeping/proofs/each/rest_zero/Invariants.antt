@@ -1,9 +1,8 @@
 -- `each::rest_zero` meets its contract. The loop's invariant: the or of the numbers so far tells whether they are 0. The measure is
 -- what is left. Assumes nothing.
 use Prim.Native.Nat.{◌-◌}
-use native.Mathlib.Omega.{arith}
 use lib.ListN.{length}
-use Rattle.keeping.proofs.CheckLaws.{Ored, ored_none, ored_more, ored_end}
+use Rattle.keeping.proofs.CheckLaws.{Ored}
 use Rattle.keeping.proofs.each.rest_zero.Given as goal
 
 abbrev pub invariant-loop-i : goal.invariant-loop-i

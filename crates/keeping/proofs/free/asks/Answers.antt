@@ -1,7 +1,6 @@
 -- `free::asks` meets its contract: the law of a node's set. Assumes nothing.
 use native.Mathlib.Omega.{arith}
 use Rattle.keeping.proofs.FreeLaws.{asks_is}
-use borrow.Author.Rules.{rules}
 use Rattle.keeping.proofs.free.asks.Goals as goal
 
 pub own-requires : goal.own-requires

@@ -2,7 +2,6 @@
 use native.Mathlib.Omega.{arith}
 use mathlib.Core.Path.{refl}
 use Rattle.keeping.proofs.FreeLaws.{leaves_free, free_decided}
-use borrow.Author.Rules.{rules}
 use Rattle.keeping.proofs.free.free_only.Goals as goal
 
 pub returns-then-kept-eq0 : goal.returns-then-kept-eq0
@@ -16,7 +15,7 @@ rows_allowed-requires c =
     let m = c.mark in
     let s = c in
     let rows = s.requires.rows in
-    let size = m.auto.1.1.0 in
+    let size = m.auto.work in
     record { count_bound = rows.few; by_index = λ i h. omega (arith, rows.inside i h, size, s.requires.kept_in_bounds.0) }
 
 pub returns : goal.returns

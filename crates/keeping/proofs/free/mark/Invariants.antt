@@ -1,13 +1,10 @@
 -- `free::mark` meets its contract. The loop's invariant: the leaves and the first j nodes are marked, and nothing past the marks has
 -- changed. The measure is what is left. Assumes nothing.
 use Prim.Native.Nat.{◌+◌, ◌-◌, ◌≤◌}
-use mathlib.Core.Path.{◌≡◌, refl, ◌∙◌}
-use native.Mathlib.Omega.{arith}
-use lib.ListN.{length, set, length-set}
-use lib.Seq.{get_or-set_other}
+use mathlib.Core.Path.{◌≡◌}
+use lib.ListN.{length}
 use Rattle.nodes.specs.Nodes.{Rest}
 use Rattle.keeping.specs.Checks.{Marks}
-use Rattle.keeping.proofs.FreeLaws.{marks_none, marks_more}
 use Rattle.keeping.proofs.free.mark.Given as goal
 
 abbrev pub invariant-loop-j : goal.invariant-loop-j

@@ -1,6 +1,5 @@
 -- `free::own` meets its contract: one law, at each of the four variables. Assumes nothing.
 use native.Mathlib.Omega.{arith}
-use borrow.Author.Rules.{rules}
 use Rattle.keeping.proofs.FreeLaws.{own_is}
 use Rattle.keeping.proofs.free.own.Goals as goal
 

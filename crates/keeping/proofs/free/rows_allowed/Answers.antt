@@ -1,9 +1,7 @@
-use Prim.Native.Nat.{◌-◌, ◌≤◌}
 use mathlib.Core.Path.{◌≡◌}
 use native.Mathlib.Omega.{arith}
 use lib.Bits.{bit_or}
 use lib.ListN.{get_or}
-use Rattle.keeping.specs.Checks.{RowsAllowed}
 use Rattle.keeping.proofs.CheckLaws.{more}
 use Rattle.keeping.proofs.free.rows_allowed.Goals as goal
 

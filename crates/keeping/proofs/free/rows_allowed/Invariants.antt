@@ -1,12 +1,7 @@
 -- `free::rows_allowed` meets its contract. The loop's invariant: the first i rows are allowed. The measure is what is left.
 -- Assumes nothing.
 use Prim.Native.Nat.{◌-◌, ◌≤◌}
-use mathlib.Core.Path.{◌≡◌}
-use native.Mathlib.Omega.{arith}
-use lib.Bits.{bit_or}
-use lib.ListN.{get_or}
 use Rattle.keeping.specs.Checks.{RowsAllowed}
-use Rattle.keeping.proofs.CheckLaws.{more}
 use Rattle.keeping.proofs.free.rows_allowed.Given as goal
 
 abbrev pub invariant-loop-i : goal.invariant-loop-i

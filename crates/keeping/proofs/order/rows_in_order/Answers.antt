@@ -1,10 +1,9 @@
-use Prim.Native.Nat.{◌-◌, ◌≤◌}
 use mathlib.Core.Path.{◌≡◌}
-use mathlib.Core.Logic.{⊎_elim}
 use native.Mathlib.Omega.{arith}
 use lib.ListN.{get_or}
-use Rattle.keeping.proofs.OrderLaws.{Followed, followed, followed_not, RowsFollowed, rows_none, rows_more, rows_short, rows_whole}
+use Rattle.keeping.proofs.OrderLaws.{Followed, followed, followed_not, rows_none, rows_more, rows_short, rows_whole}
 use Rattle.keeping.proofs.order.rows_in_order.Goals as goal
+use Rattle.keeping.proofs.order.rows_in_order.Goals.{then-n-r, else-n-r}
 
 pub loop-i-init : goal.loop-i-init
 loop-i-init c = let s = c in (omega arith, rows_none s.args.nodes.now s.args.kept s.args.refs.now s.args.count)
@@ -43,10 +42,10 @@ loop-i-preserved c =
     let s = l in
     let h = c.loop-i-test.true in
     let below = s.requires.table.1 l.loop-i.i h in
-    let f : Followed s.args.nodes.now s.args.kept l.loop-i.n (get_or s.args.refs.now l.loop-i.i 0) c.if-n-r.n = ⊎_elim
-    (λ w. rw w.2 (followed (omega (arith, w.0.taken)) w.1.ensures))
-    (λ w. rw w.1 (followed_not s.requires.table.0 l.loop-i.invariant.1.most w.0.left))
-    c.if-n-r.branch-raw in
+    let f : Followed s.args.nodes.now s.args.kept l.loop-i.n (get_or s.args.refs.now l.loop-i.i 0) c.if-n-r.n = elim c.if-n-r.branch [
+      | then-n-r w ↦ rw w.n-is (followed (omega (arith, w.if-n-r.true)) w.in_order-n.ensures)
+      | else-n-r w ↦ rw w.n-is (followed_not s.requires.table.0 l.loop-i.invariant.1.most w.if-n-r.false)
+    ] in
     (omega (arith, h), rows_more s.args.nodes.now s.args.kept s.args.refs.now s.args.count l.loop-i.i l.loop-i.n c.if-n-r.n h (omega (arith, s.requires.count_bound.0, s.requires.count_bound.1)) l.loop-i.invariant.1 f)
 
 pub returns-then-n-kept : goal.returns-then-n-kept

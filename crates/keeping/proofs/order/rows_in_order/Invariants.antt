@@ -1,11 +1,7 @@
 -- `order::rows_in_order` meets its contract. The loop's invariant: the first i rows lead to the first n nodes, or are not in order. The
 -- measure is what is left. Assumes nothing.
 use Prim.Native.Nat.{◌-◌, ◌≤◌}
-use mathlib.Core.Path.{◌≡◌}
-use mathlib.Core.Logic.{⊎_elim}
-use native.Mathlib.Omega.{arith}
-use lib.ListN.{get_or}
-use Rattle.keeping.proofs.OrderLaws.{Followed, followed, followed_not, RowsFollowed, rows_none, rows_more, rows_short, rows_whole}
+use Rattle.keeping.proofs.OrderLaws.{RowsFollowed}
 use Rattle.keeping.proofs.order.rows_in_order.Given as goal
 
 abbrev pub invariant-loop-i : goal.invariant-loop-i

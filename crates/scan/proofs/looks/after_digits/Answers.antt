@@ -2,7 +2,6 @@
 use native.Mathlib.Omega.{arith}
 use mathlib.Core.Path.{sym, ◌∙◌}
 use Rattle.scan.proofs.StepLaws.{digits_more, digits_stop, digits_end}
-use borrow.Author.Rules.{rules}
 use Rattle.scan.proofs.looks.after_digits.Goals as goal
 
 pub returns-then-class_of-eq1 : goal.returns-then-class_of-eq1

@@ -3,7 +3,6 @@ use native.Mathlib.Omega.{arith}
 use mathlib.Core.Path.{sym, ◌∙◌}
 use Rattle.spelling.proofs.KindLaws.{code_lt}
 use Rattle.scan.proofs.StepLaws.{letters_more, letters_stop, letters_end}
-use borrow.Author.Rules.{rules}
 use Rattle.scan.proofs.looks.after_letters.Goals as goal
 
 pub returns-then-grows : goal.returns-then-grows

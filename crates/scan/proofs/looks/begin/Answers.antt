@@ -1,7 +1,6 @@
 -- `looks::begin` meets its contract, by the class of the byte. Assumes nothing.
 use native.Mathlib.Omega.{arith}
 use Rattle.scan.proofs.BeginLaws.{class_lt, letter_begins, letter_stops, digit_begins, digit_stops, dash_begins, dash_stops, blank_begins, foreign_stops, sign_begins}
-use borrow.Author.Rules.{rules}
 use Rattle.scan.proofs.looks.begin.Goals as goal
 
 pub returns-then-leads : goal.returns-then-leads

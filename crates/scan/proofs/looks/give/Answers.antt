@@ -1,7 +1,6 @@
 -- `looks::give` meets its contract, way by way. Assumes nothing.
 use native.Mathlib.Omega.{arith}
 use Rattle.scan.proofs.GiveLaws.{halts, opened, called, finished, unopened, shuts, goes_on}
-use borrow.Author.Rules.{rules}
 use Rattle.scan.proofs.looks.give.Goals as goal
 
 pub returns-then-next-eq7 : goal.returns-then-next-eq7

@@ -1,6 +1,5 @@
 -- `looks::leads` meets its contract. Assumes nothing.
 use Rattle.scan.proofs.MayLaws.{leads_grown, leads_other, leads_since}
-use borrow.Author.Rules.{rules}
 use Rattle.scan.proofs.looks.leads.Goals as goal
 
 pub returns-then-grows : goal.returns-then-grows

@@ -1,6 +1,5 @@
 -- `looks::may_end` meets its contract. Assumes nothing.
 use Rattle.scan.proofs.MayLaws.{end_no, end_yes}
-use borrow.Author.Rules.{rules}
 use Rattle.scan.proofs.looks.may_end.Goals as goal
 
 pub returns-then-depth-ne0 : goal.returns-then-depth-ne0

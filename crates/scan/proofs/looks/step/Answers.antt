@@ -1,7 +1,5 @@
 -- `looks::step` meets its contract. Assumes nothing.
-use native.Mathlib.Omega.{arith}
 use Rattle.scan.proofs.StepLaws.{gap_steps, arrow_steps, arrow_stops}
-use borrow.Author.Rules.{rules}
 use Rattle.scan.proofs.looks.step.Goals as goal
 
 pub returns-then-pending-eq0 : goal.returns-then-pending-eq0
