@@ -4,4 +4,4 @@ use borrow.Author.Rules.{rules}
 use Rattle.session.proofs.over.Goals as goal
 
 pub returns : goal.returns
-returns c = not_over c.args.s.part c.in_default.keys2
+returns c = not_over c.args.s.part c.in_default-own.keys2
