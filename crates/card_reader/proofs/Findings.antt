@@ -1,9 +1,8 @@
 -- Two findings on one card are the same. Assumes nothing.
 use Prim.Native.Nat.{ℕ}
 use native.Mathlib.Omega.{arith}
-use mathlib.Core.Path.{◌≡◌, refl, sym, ap, ◌∙◌}
+use mathlib.Core.Path.{◌≡◌, refl, sym, ◌∙◌}
 use mathlib.Core.List.{List}
-use Rattle.cards.specs.Blocks
 use Rattle.cards.specs.Reading.{refused}
 use Rattle.card_block.specs.declared.Reason.{Reason}
 use Rattle.card_block.specs.Judging.{meant}

@@ -1,27 +1,25 @@
 -- One step of the reader, and the steps over a card: what is still to come, from here, gives the whole. Assumes nothing.
-use Prim.Native.Nat.{ℕ, zero, suc, ◌+◌, ◌-◌, ◌*◌, ◌≤◌, ◌<◌, min}
+use Prim.Native.Nat.{ℕ, suc, ◌+◌, ◌-◌, ◌≤◌, ◌<◌, min}
 use native.Mathlib.Omega.{arith}
 use native.Mathlib.Numerals.{add-one}
 use mathlib.Core.Path.{◌≡◌, refl, sym, ap, ◌∙◌}
 use mathlib.Core.Bool.{Bool, true, false, not, ◌&&◌}
-use mathlib.Core.List.{List, [], ◌∷◌, map}
-use lib.Dec.{eqb, ltb, eqb-suc-suc}
-use lib.ListN.{length, take, drop, get_or, length-drop, length-map, length-take, drop_of_length-le}
-use lib.Seq.{drop-drop, take_all}
-use borrow.Author.Tests.{eq-eqb, ne_eqb, ltb-true, ltb-false}
+use mathlib.Core.List.{List, [], ◌∷◌}
+use lib.Dec.{eqb, eqb-suc-suc}
+use lib.ListN.{length, take, drop, get_or, length-drop}
+use borrow.Author.Tests.{eq-eqb, ne_eqb}
 use Rattle.cards.specs.Moments.{Record}
 use Rattle.cards.specs.Blocks.{Block, block_of, piece_of, pieces, shape}
-use Rattle.cards.specs.Reading.{Before, start, runs_on, after, stays, goes, fate, Fault, fine, bad, last_place, some, open_at_gap, fault_from, blocks, stretches, moments_of, taken, refused, read_by, read_pieces, read}
+use Rattle.cards.specs.Reading.{Before, start, runs_on, after, stays, goes, fate, fine, bad, last_place, some, open_at_gap, fault_from, read_by, read_pieces, read}
 use Rattle.cards.specs.Counting.{opening_of}
 use Rattle.cards.specs.Counting
 use Rattle.cards.proofs.Tests.{and_no}
 use Rattle.cards.proofs.BlockLaws.{good_written}
 use Rattle.cards.proofs.FateLaws.{stays_good, fault_stays, fault_open, fault_goes}
-use Rattle.cards.proofs.PieceLaws.{pieces_some, pieces_none}
-use Rattle.cards.proofs.BytesLaws.{length_parts}
+use Rattle.cards.proofs.PieceLaws.{pieces_none}
 use Rattle.card_block.specs.declared.Carried.{Carried}
 use Rattle.card_block.specs.declared.Reason.{Reason}
-use Rattle.card_block.specs.declared.Reason.TheVariants.{Check, Shape, Number}
+use Rattle.card_block.specs.declared.Reason.TheVariants.{Shape}
 use Rattle.card_block.specs.declared.Judged.{Judged}
 use Rattle.card_block.specs.declared.Judged.TheVariants.{Stays, Goes}
 use Rattle.card_block.specs.Judging.{open_at, judgement, nothing, Carries, meant, Kept, Judges}
@@ -33,7 +31,6 @@ use Rattle.card_reader.specs.declared.Step.{Step}
 use Rattle.card_reader.specs.declared.Step.TheVariants.{On, Bad, Open}
 use Rattle.card_reader.specs.declared.Found.{Found}
 use Rattle.card_reader.specs.declared.Found.TheVariants.{Fine}
-use Rattle.card_reader.specs.declared.Found.TheVariants as Found
 use Rattle.card_reader.specs.Finding.{Finds}
 use Rattle.card_reader.specs.Stepping.{onward_by, stepped_by, stepped_to, stepped}
 

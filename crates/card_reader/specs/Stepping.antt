@@ -4,7 +4,6 @@ use Rattle.card_block.specs.declared.Carried.{Carried}
 use Rattle.card_block.specs.declared.Judged.{Judged}
 use Rattle.card_block.specs.declared.Judged.TheVariants.{Stays, Goes}
 use Rattle.card_block.specs.Judging.{judgement}
-use Rattle.card_reader.specs.declared.Onward.{Onward}
 use Rattle.card_reader.specs.declared.Step.{Step}
 use Rattle.card_reader.specs.declared.Step.TheVariants.{On, Bad, Open}
 

@@ -1,16 +1,15 @@
 -- A record's bytes, put one part after the other, and read one number after the other. Assumes nothing.
-use Prim.Native.Nat.{ℕ, zero, suc, ◌+◌, ◌-◌, ◌*◌, ◌/◌, ◌%◌, ◌≤◌, ◌<◌, min}
+use Prim.Native.Nat.{ℕ, zero, suc, ◌+◌, ◌-◌, ◌/◌, ◌%◌, ◌≤◌, ◌<◌, min}
 use native.Mathlib.Omega.{arith}
 use native.Mathlib.Numerals.{add-one, add-two, add-three}
 use mathlib.Core.Path.{◌≡◌, refl, sym, ap, ◌∙◌}
 use mathlib.Core.Bool.{Bool, true, false}
 use mathlib.Core.List.{List, [], ◌∷◌, ◌++◌, map}
-use lib.Dec.{eqb, ltb}
-use lib.ListN.{length, take, drop, get_or, set, length-take, length-drop}
+use lib.Dec.{eqb}
+use lib.ListN.{length, take, drop, get_or, set, length-take}
 use lib.Seq.{sets, take-take, drop-drop, get_or-take, get_or-drop}
 use borrow.Author.Tests.{lt-ltb, le-ltb}
 use Rattle.cards.specs.Bytes.{bytes_of, number_of, filled, parts, joined}
-use Rattle.cards.specs.Moments.{Record}
 use Rattle.cards.specs.Blocks.{flag_byte, record_of, record_bytes}
 use Rattle.card_block.proofs.ShapeLaws.{drop_take}
 use Rattle.card_records.specs.declared.Fact.{Fact}

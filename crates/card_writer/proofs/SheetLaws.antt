@@ -4,8 +4,8 @@ use native.Mathlib.Omega.{arith}
 use native.Mathlib.Numerals.{add-one}
 use mathlib.Core.Path.{◌≡◌, refl, sym, ap, ◌∙◌}
 use mathlib.Core.List.{List, [], ◌∷◌, ◌++◌, map, append-nil, append_assoc}
-use lib.ListN.{length, take, drop, get_or, set, length-append, length-set, take-append-drop}
-use lib.Seq.{sets, length-sets, take-set-lt, take-set-le, drop-cons, drop-length, take-suc-set, take_all, get_or-set_same, get_or-set_other}
+use lib.ListN.{length, take, drop, set, length-append, length-set, take-append-drop}
+use lib.Seq.{sets, length-sets, take-set-lt, take-set-le, take-suc-set, take_all, get_or-set_same, get_or-set_other}
 use Rattle.cards.specs.Bytes.{bytes_of, filled, joined, sums, check}
 use Rattle.cards.specs.Moments.{Record}
 use Rattle.cards.specs.Blocks.{record_bytes, body, block_bytes}

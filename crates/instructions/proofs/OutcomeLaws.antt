@@ -1,12 +1,12 @@
 -- A step with the plan of an event leaves what the meaning says. Assumes nothing.
-use Prim.Native.Nat.{ℕ, zero, suc, ◌+◌, ◌-◌, ◌*◌, ◌/◌, ◌<◌, ◌≤◌}
+use Prim.Native.Nat.{ℕ, zero, suc, ◌+◌, ◌*◌, ◌/◌, ◌<◌, ◌≤◌}
 use mathlib.Core.Path.{◌≡◌, refl, ap, sym, subst, ◌∙◌}
 use mathlib.Core.Bool.{Bool, true, false}
-use mathlib.Core.List.{List, [], ◌∷◌, ◌++◌, map}
+use mathlib.Core.List.{List, [], ◌∷◌, map}
 use native.Mathlib.Omega.{arith}
 use lib.Dec.{leb}
-use lib.ListN.{length, get_or, replicate, length-map, drop as from}
-use Rattle.trees.specs.Tree.{Tree, off, tree_of}
+use lib.ListN.{length, get_or, length-map}
+use Rattle.trees.specs.Tree.{Tree}
 use Rattle.trees.specs.Table.{add_trees, ref_of, show, trees_of}
 use Rattle.trees.specs.Kept.{diagrams}
 use Rattle.trees.proofs.TreeLaws.{fine_off}
@@ -14,7 +14,7 @@ use Rattle.trees.proofs.ShowLaws.{sound_nil, sound_adds, show_length}
 use Rattle.meaning.specs.Qtl.{Fact}
 use Rattle.meaning.specs.Rows.{Row, truth}
 use Rattle.meaning.specs.Numbering.{Lists, ask_facts}
-use Rattle.meaning.specs.Step.{row_trees, Shown, step, room_of}
+use Rattle.meaning.specs.Step.{Shown, step, room_of}
 use Rattle.meaning.specs.Tables.{padded, kept_table, lay_state, lay_nodes}
 use Rattle.meaning.specs.Outcome as Meant
 use Rattle.meaning.proofs.RowsLaws.{RowOk, RowsOk}
@@ -22,8 +22,7 @@ use Rattle.meaning.proofs.AskingLaws.{DistinctL, CoveredBy, Covers, covers_row, 
 use Rattle.meaning.proofs.Simulation.{Enough}
 use Rattle.meaning.proofs.StepLaws.{AllFine, fine_rows, trees_length}
 use Rattle.diagram.specs.declared.Instruction.TheVariants.{Yes}
-use Rattle.diagram.specs.declared.Told.TheVariants.{Full, Done}
-use Rattle.diagram.specs.Steps.{Task, does, new_trees, stages, work_table, Outcome, cleared, layout, work_outcome}
+use Rattle.diagram.specs.Steps.{Task, does, new_trees, work_table, cleared, layout, work_outcome}
 use Rattle.instructions.specs.Plan.{task_of}
 use Rattle.instructions.specs.Worked.{worked_outcome}
 use Rattle.instructions.proofs.PlanLaws.{new_rows}

@@ -1,15 +1,14 @@
 -- The plan of an event works the rows' functions. Assumes nothing.
-use Prim.Native.Nat.{ℕ, zero, suc, ◌+◌, ◌-◌, ◌*◌, ◌<◌, ◌≤◌}
+use Prim.Native.Nat.{ℕ, zero, suc, ◌+◌, ◌*◌, ◌<◌}
 use mathlib.Core.Path.{◌≡◌, refl, ap, ap₂, sym, ◌∙◌}
 use mathlib.Core.Bool.{Bool, true, false, cond, ◌&&◌, ◌||◌}
 use mathlib.Core.List.{List, [], ◌∷◌, ◌++◌, map}
 use native.Mathlib.Omega.{arith}
 use lib.Dec.{eqb}
-use lib.ListN.{length, get_or, take, length-append}
-use borrow.Author.Tests.{eqb-true}
+use lib.ListN.{length, get_or, length-append}
 use Rattle.trees.specs.Bits.{Bits, Function, Same}
-use Rattle.trees.specs.Tree.{Tree, off, eval, tree_of}
-use Rattle.trees.proofs.Tests.{bool, not_true, false_true}
+use Rattle.trees.specs.Tree.{Tree, off, eval}
+use Rattle.trees.proofs.Tests.{not_true, false_true}
 use Rattle.trees.proofs.FunctionLaws.{tree_same}
 use Rattle.meaning.specs.Qtl.{Fact, Argument}
 use Rattle.meaning.specs.Rows.{Row, truth, atom, both, neg, since, previous, exists}
@@ -19,10 +18,8 @@ use Rattle.meaning.proofs.RowsLaws.{ArgumentsOk, RowOk, RowsOk}
 use Rattle.meaning.proofs.AskingLaws.{DistinctL, Covered, CoveredBy, Covers, covers_row, covers_rest}
 use Rattle.meaning.proofs.Simulation.{Enough, fits_of, says_matches}
 use Rattle.meaning.proofs.VerdictLaws.{some_assignment}
-use Rattle.making.specs.declared.Place.{Place}
 use Rattle.diagram.specs.declared.Turn.TheVariants.{Miss, Hit}
 use Rattle.diagram.specs.declared.Instruction.TheVariants.{Yes}
-use Rattle.making.specs.Cubes.{cube_says}
 use Rattle.diagram.specs.Steps.{Task, does, says, turn_says, turns_say, instruction_says, task_says, with_row, new_trees}
 use Rattle.instructions.specs.Plan.{place_of, turn_of, task_of}
 use Rattle.instructions.proofs.CubeLaws.{arguments_four, cube_four}

@@ -1,16 +1,15 @@
 -- The plan that is read off the rows is the event's. Assumes nothing.
-use Prim.Native.Nat.{ℕ, zero, suc, ◌+◌, ◌≤◌, ◌<◌}
+use Prim.Native.Nat.{ℕ, zero, suc, ◌<◌}
 use mathlib.Core.Path.{◌≡◌, refl, ap, ap₂, sym, ◌∙◌}
-use mathlib.Core.Bool.{Bool, true, false}
 use mathlib.Core.List.{List, [], ◌∷◌, ◌++◌, map}
 use mathlib.Core.Logic.{⊎_elim}
 use native.Mathlib.Nat.{eq-or-lt_of_le}
 use native.Mathlib.Numerals.{add-one}
 use native.Mathlib.Omega.{arith}
-use lib.ListN.{length, get_or, take, length-append, length-map, get_or-append}
+use lib.ListN.{length, get_or, length-append, length-map, get_or-append}
 use lib.Seq.{get_or-append_seam}
 use Rattle.meaning.specs.declared.Event.{Event}
-use Rattle.meaning.specs.Qtl.{Argument, Fact}
+use Rattle.meaning.specs.Qtl.{Argument}
 use Rattle.meaning.specs.Rows.{Row, truth, atom, both, neg, since, previous, exists, count_of_rows, row_at, rule_of}
 use Rattle.meaning.specs.Numbering.{Lists, ask_facts}
 use Rattle.meaning.specs.Outcome.{facts_of}
@@ -20,7 +19,7 @@ use Rattle.numbers.specs.Asking.{fact_at}
 use Rattle.diagram.specs.declared.Turn.{Turn}
 use Rattle.diagram.specs.declared.Turn.TheVariants.{Miss}
 use Rattle.diagram.specs.declared.Instruction.TheVariants.{Yes}
-use Rattle.diagram.specs.Steps.{Task, facts, does}
+use Rattle.diagram.specs.Steps.{facts, does}
 use Rattle.instructions.specs.Plan.{turn_of, task_of}
 use Rattle.instructions.specs.Read.{row_turn, is_atom, instruction_read}
 use Rattle.instructions.specs.Planned.{turns_to, asked, planned_to, planned}

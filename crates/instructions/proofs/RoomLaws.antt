@@ -25,7 +25,7 @@ use Rattle.diagram.specs.declared.Instruction.TheVariants.{Yes}
 use Rattle.diagram.specs.Steps.{Task, does, says, task_says, task_stages, with_row, new_trees, stages}
 use Rattle.instructions.specs.Plan.{task_of}
 use Rattle.instructions.proofs.InLaws.{In, in_l, in_r, in_split, has_in, all_in, fine_in, in_fine}
-use Rattle.instructions.proofs.MetLaws.{each, each_in, in_each, own_removals, removed_each, own_turns, turns_each, row_met, removals_met, turns_met, new_of}
+use Rattle.instructions.proofs.MetLaws.{each_in, in_each, own_removals, removed_each, own_turns, turns_each, row_met, removals_met, turns_met, new_of}
 
 -- every table has no
 has_no : (ts : List Tree) → Has ts off

@@ -1,7 +1,7 @@
 -- Two calls of the same text and slices say the same, leave the same rows, and answer with the same first five numbers. Assumes nothing.
 use Prim.Native.Nat.{ℕ}
 use mathlib.Core.Path.{◌≡◌, refl, sym, ap, ◌∙◌}
-use mathlib.Core.Bool.{Bool, true, false}
+use mathlib.Core.Bool.{Bool, true}
 use mathlib.Core.List.{List, ◌++◌}
 use mathlib.Core.Logic.{⊎_elim}
 use lib.Dec.{eqb}
@@ -11,7 +11,7 @@ use borrow.Author.Tests.{eqb-true, eqb-false}
 use Rattle.trees.proofs.Tests.{bool}
 use Rattle.translate.specs.declared.Told.{Told}
 use Rattle.translate.specs.declared.Told.TheVariants.{Refused, Rows}
-use Rattle.translate.proofs.OneOutcome.{Same, one_outcome}
+use Rattle.translate.proofs.OneOutcome.{one_outcome}
 use Rattle.linked_rule.specs.Ruling.{packed_told, packed, Ruled, LinkedRule}
 
 five_long : (t : Told) → length (packed_told t) ≡ 5

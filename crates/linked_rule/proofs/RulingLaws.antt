@@ -1,15 +1,15 @@
 -- The answer's numbers are written one after the other. Assumes nothing.
-use Prim.Native.Nat.{ℕ, ◌+◌, ◌-◌, ◌≤◌}
+use Prim.Native.Nat.{ℕ, ◌+◌}
 use native.Mathlib.Omega.{arith}
 use mathlib.Core.Path.{◌≡◌, refl, sym, ap, ◌∙◌}
-use mathlib.Core.Bool.{Bool, true, false}
+use mathlib.Core.Bool.{true, false}
 use mathlib.Core.List.{List, [], ◌∷◌, ◌++◌, append_assoc, append-nil}
 use lib.ListN.{length, take, drop, length-drop, length-append}
 use lib.Seq.{take_at, drop-append-add}
 use Rattle.translate.specs.declared.Told.{Told}
 use Rattle.translate.specs.declared.Told.TheVariants.{Refused, Rows}
 use Rattle.translate.specs.Translated.{Translated}
-use Rattle.linked_rule.specs.Ruling.{packed_told, wrapped_told, packed, Ruled, LinkedRule}
+use Rattle.linked_rule.specs.Ruling.{packed_told, wrapped_told, packed, LinkedRule}
 
 pub told_length : (t : Told) → length (wrapped_told t) ≡ 5
 unfolding wrapped_told

@@ -1,21 +1,21 @@
 -- What is told fits into 32 bits. Assumes nothing.
 use Prim.Native.Nat.{ℕ, ◌%◌, ◌≤◌}
 use native.Mathlib.Omega.{arith}
-use mathlib.Core.Path.{◌≡◌, refl, sym, ap, ◌∙◌}
+use mathlib.Core.Path.{◌≡◌, refl}
 use mathlib.Core.Bool.{Bool, true, false}
-use mathlib.Core.List.{List, [], ◌∷◌}
+use mathlib.Core.List.{List}
 use lib.Dec.{leb}
 use lib.ListN.{length}
 use borrow.Author.Tests.{leb-true}
 use Rattle.text.specs.Grammar.{Reading}
-use Rattle.text.specs.Unfold.{atoms, predicate_names, variable_names, formula_of}
+use Rattle.text.specs.Unfold.{atoms, variable_names, formula_of}
 use Rattle.text.specs.Parts.{rows_of}
 use Rattle.text.specs.Translate.{any_atom, too_large, too_many, clashes, sentence, Answer, refuses, makes, judge_reading, answer_of, Says, wrong_slice, too_long, no_text, a_text}
 use Rattle.census.specs.Tables.{names_at}
 use Rattle.census.proofs.TableLaws.{table_length}
 use Rattle.translate.specs.declared.Told.{Told}
 use Rattle.translate.specs.declared.Told.TheVariants.{Refused, Rows}
-use Rattle.translate.specs.Translated.{Named, Translated}
+use Rattle.translate.specs.Translated.{Translated}
 use Rattle.translate.proofs.PredicateLaws.{few_predicates}
 use Rattle.linked_rule.specs.Ruling.{packed_told, wrapped_told}
 

@@ -1,6 +1,6 @@
 -- Laws of looking a value up. Assumes nothing.
 use Prim.Native.Nat.{ℕ, ◌*◌, ◌+◌, ◌-◌, ◌≤◌, ◌<◌}
-use mathlib.Core.Path.{◌≡◌, refl, ap, sym, ◌∙◌}
+use mathlib.Core.Path.{◌≡◌, refl, ap, ◌∙◌}
 use mathlib.Core.Bool.{Bool, true, false, cond, ◌&&◌}
 use mathlib.Core.List.{List}
 use native.Mathlib.Omega.{arith}
@@ -15,7 +15,7 @@ use Rattle.meaning.specs.Outcome.{k_right, values_right}
 use Rattle.meaning.proofs.ValuesLaws.{Placed, here, nowhere, placed}
 use Rattle.numbers.specs.declared.Lookup.{Lookup}
 use Rattle.numbers.specs.declared.Lookup.TheVariants.{Has, OneLeft, NoneLeft, Misfit}
-use Rattle.numbers.specs.Asking.{with_counts, number_in, part_of}
+use Rattle.numbers.specs.Asking.{number_in, part_of}
 use Rattle.numbers.specs.Looking.{looked_up, readable, look_up, number_told}
 use Rattle.numbers.proofs.PlaceLaws.{place_first}
 use Rattle.numbers.proofs.StartLaws.{most_le}

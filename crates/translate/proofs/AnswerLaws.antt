@@ -1,19 +1,15 @@
 -- The answer to a text by what the passes tell of it. Assumes nothing.
-use Prim.Native.Nat.{ℕ, suc, ◌+◌, ◌-◌, ◌*◌, ◌≤◌, ◌<◌}
-use native.Mathlib.Omega.{arith}
-use mathlib.Core.Path.{◌≡◌, refl, sym, ap, ◌∙◌}
-use mathlib.Core.Bool.{Bool, true, false, not}
-use mathlib.Core.List.{List, [], ◌∷◌, ◌++◌, map}
-use lib.Dec.{eqb, leb}
-use lib.ListN.{length, take, drop, replicate, length-map, length-append}
+use Prim.Native.Nat.{◌≤◌, ◌<◌}
+use mathlib.Core.Path.{◌≡◌}
+use mathlib.Core.Bool.{true, false}
+use mathlib.Core.List.{[]}
+use lib.ListN.{length}
 use borrow.Author.Tests.{le-leb, lt-leb}
-use Rattle.meaning.specs.Qtl.{Formula}
-use Rattle.text.specs.Grammar.{Reading, RuleText, HasReading, Place}
+use Rattle.text.specs.Grammar.{Reading}
 use Rattle.text.specs.Unfold.{atoms, predicate_names, variable_names, formula_of}
-use Rattle.text.specs.Parts.{parts, row_in, rows_of, nine, numbers}
-use Rattle.text.specs.Emit.{nines}
+use Rattle.text.specs.Parts.{rows_of, numbers}
 use Rattle.text.specs.Scope.{loose}
-use Rattle.text.specs.Translate.{any_atom, too_large, too_many, clashes, sentence, padded, Answer, refuses, makes, judge_reading, answer_of, Says, wrong_slice, too_long, no_text, a_text}
+use Rattle.text.specs.Translate.{any_atom, too_large, too_many, clashes, padded, refuses, makes, judge_reading, answer_of}
 use Rattle.text.proofs.LooseLaws.{scope}
 
 -- which refusal a reading is answered with

@@ -1,10 +1,10 @@
 -- Two outcomes that keep the call's promise are the same: the answer, the row slice and the names. Assumes nothing.
-use Prim.Native.Nat.{ℕ, ◌≤◌}
+use Prim.Native.Nat.{ℕ}
 use native.Mathlib.Omega.{arith}
 use mathlib.Core.Path.{◌≡◌, refl, sym, ap, ◌∙◌}
 use mathlib.Core.List.{List}
 use lib.ListN.{length}
-use Rattle.text.specs.Translate.{Answer, refuses, makes, Says}
+use Rattle.text.specs.Translate.{refuses, makes}
 use Rattle.text.proofs.Theorems.{one_answer}
 use Rattle.census.specs.Tables.{names_at}
 use Rattle.census.proofs.TableLaws.{table_length}

@@ -1,20 +1,19 @@
 -- There are no more predicates than rows: each new name makes a new atom. Assumes nothing.
-use Prim.Native.Nat.{ℕ, suc, ◌+◌, ◌≤◌, ◌<◌}
+use Prim.Native.Nat.{ℕ, suc, ◌≤◌, ◌<◌}
 use native.Mathlib.Omega.{arith}
 use mathlib.Core.Path.{◌≡◌, refl, sym, ap, ◌∙◌}
-use mathlib.Core.Bool.{Bool, true, false, ◌&&◌, ◌||◌}
+use mathlib.Core.Bool.{Bool, true, false}
 use mathlib.Core.List.{List, [], ◌∷◌, ◌++◌, map}
-use mathlib.Core.Logic.{◌⊎◌, inl, inr, ⊎_elim}
-use lib.Dec.{eqb}
+use mathlib.Core.Logic.{⊎_elim}
 use lib.ListN.{length, length-append, length-map}
 use borrow.Author.Tests.{ne_eqb}
 use Rattle.trees.proofs.Tests.{bool}
 use Rattle.meaning.specs.Qtl.{Argument, Formula}
 use Rattle.meaning.specs.Qtl
-use Rattle.text.specs.Words.{same, Prefix, once, historically, previously, negation, Binary, sinces, ands, ors, implies, Quantifier, universal, existential}
-use Rattle.text.specs.Grammar.{Term, Reading, truth, atom, under, joined, quantified, grouped}
+use Rattle.text.specs.Words.{Prefix, once, historically, previously, negation, Binary, sinces, ands, ors, implies, Quantifier, universal, existential}
+use Rattle.text.specs.Grammar.{Reading, truth, atom, under, joined, quantified, grouped}
 use Rattle.text.specs.Unfold.{Atom, atoms, listed, uses_after, first_uses, number_in, predicate_names, variable_names, argument_in, either, prefixed, connected, quantify, constant_of, unfolded, formula_of}
-use Rattle.text.specs.Parts.{same_arguments, same_formula, has, note, parts_after, parts, row_in, rows_of}
+use Rattle.text.specs.Parts.{same_formula, has, note, parts_after, parts, row_in, rows_of}
 use Rattle.text.proofs.PlaceLaws.{note_old, note_new}
 use Rattle.text.proofs.PartsLaws.{note_longer}
 use Rattle.text.proofs.NameLaws.{listed_last, number_lt, number_keeps, uses_append}

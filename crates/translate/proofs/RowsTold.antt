@@ -1,16 +1,16 @@
 -- The rows that the pass leaves are the answer's, and the names that were laid are those of the tables. Assumes nothing.
-use Prim.Native.Nat.{ℕ, zero, suc, ◌+◌, ◌-◌, ◌*◌, ◌≤◌, ◌<◌}
+use Prim.Native.Nat.{ℕ, zero, suc, ◌+◌, ◌*◌, ◌≤◌, ◌<◌}
 use native.Mathlib.Omega.{arith}
 use mathlib.Core.Path.{◌≡◌, refl, sym, ap, ◌∙◌}
-use mathlib.Core.List.{List, [], ◌∷◌, ◌++◌, map}
-use lib.ListN.{length, get_or, take, drop, replicate, length-map}
+use mathlib.Core.List.{List, [], ◌∷◌, map}
+use lib.ListN.{length, get_or, take, drop, length-map}
 use lib.Seq.{take-add, length-take-le, get_or-take}
 use Rattle.meaning.specs.Qtl.{Formula}
-use Rattle.text.specs.Parts.{parts, row_in, rows_of, nine, numbers}
+use Rattle.text.specs.Parts.{parts, row_in, rows_of, numbers}
 use Rattle.text.specs.Emit.{nines}
 use Rattle.text.specs.Translate.{padded}
 use Rattle.text.proofs.MakeLaws.{nines_length}
-use Rattle.census.specs.Tables.{names_of, names_at, Table}
+use Rattle.census.specs.Tables.{names_at, Table}
 use Rattle.rowing.specs.Denoted.{chunks, Holds, fits, over}
 use Rattle.rowing.proofs.ChunkLaws.{chunks_length}
 use Rattle.translate.specs.Translated.{laid, Named}

@@ -1,27 +1,27 @@
 -- What each way through the call promises. Assumes nothing.
-use Prim.Native.Nat.{ℕ, suc, ◌+◌, ◌-◌, ◌*◌, ◌≤◌, ◌<◌}
+use Prim.Native.Nat.{ℕ, ◌-◌, ◌*◌, ◌≤◌, ◌<◌}
 use native.Mathlib.Omega.{arith}
 use mathlib.Core.Path.{◌≡◌, refl, sym, ap, ◌∙◌}
 use mathlib.Core.Bool.{Bool, true, false}
-use mathlib.Core.List.{List, [], ◌∷◌, ◌++◌}
-use mathlib.Core.Logic.{◌⊎◌, inl, inr, ⊎_elim}
+use mathlib.Core.List.{List}
+use mathlib.Core.Logic.{⊎_elim}
 use lib.Dec.{eqb}
-use lib.ListN.{length, take, drop, replicate}
+use lib.ListN.{length, take, drop}
 use borrow.Author.Tests.{eqb-true, eqb-false}
-use Rattle.trees.proofs.Tests.{bool, false_true}
+use Rattle.trees.proofs.Tests.{bool}
 use Rattle.text.specs.Grammar.{Reading, RuleText, HasReading, Place}
-use Rattle.text.specs.Unfold.{atoms, predicate_names, variable_names, formula_of}
-use Rattle.text.specs.Parts.{rows_of, numbers}
-use Rattle.text.specs.Translate.{any_atom, too_large, too_many, padded, Answer, refuses, makes, answer_of, Says, wrong_slice, too_long, no_text, a_text}
+use Rattle.text.specs.Unfold.{variable_names, formula_of}
+use Rattle.text.specs.Parts.{rows_of}
+use Rattle.text.specs.Translate.{Answer, refuses, makes, answer_of, Says, wrong_slice, too_long, no_text, a_text}
 use Rattle.census.specs.Told.{ToldLarge, ToldMany}
-use Rattle.census.specs.Tables.{names_at, Table, ToldNames, names_for}
+use Rattle.census.specs.Tables.{names_at, ToldNames, names_for}
 use Rattle.census.specs.Clashes.{Predicates, ToldClash}
 use Rattle.census.specs.Scopes.{Variables, ToldLoose}
 use Rattle.census.proofs.TableLaws.{table_length}
 use Rattle.drive.specs.Driving.{Passed, RowsOf}
-use Rattle.translate.specs.Translated.{laid, Blank, Named, Translated, Limits}
+use Rattle.translate.specs.Translated.{laid, Blank, Translated, Limits}
 use Rattle.translate.specs.declared.Told.{Told}
-use Rattle.translate.specs.declared.Told.TheVariants.{Refused, Rows}
+use Rattle.translate.specs.declared.Told.TheVariants.{Rows}
 use Rattle.translate.proofs.PredicateLaws.{few_predicates}
 use Rattle.translate.proofs.AnswerLaws.{answer_4, answer_5, answer_6, answer_7, answer_8, answer_9, answer_rows}
 use Rattle.translate.proofs.LayingLaws.{whole_part}

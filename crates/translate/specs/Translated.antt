@@ -1,5 +1,5 @@
 -- What the call promises, in the words of the crate text. Assumes nothing: these are definitions.
-use Rattle.std.specs.Prelude.{ℕ, ◌-◌, ◌≤◌, ◌≡◌, true, false, List, ◌++◌, length, take, drop, replicate}
+use Rattle.std.specs.Prelude.{ℕ, ◌-◌, ◌≡◌, true, false, List, ◌++◌, length, drop, replicate}
 use Rattle.text.specs.Grammar.{Reading, RuleText}
 use Rattle.text.specs.Unfold.{atoms}
 use Rattle.text.specs.Translate.{refuses, makes, any_atom, too_large, too_many, Says}

@@ -1,6 +1,5 @@
 -- `go_on` meets its contract. Assumes nothing.
 use native.Mathlib.Omega.{arith}
-use borrow.Author.Rules.{rules}
 use Rattle.card_reader.proofs.StepLaws.{runs, gap_open, gap_anew}
 use Prim.Native.Nat.{◌-◌}
 use Rattle.card_reader.proofs.go_on.Goals as goal

@@ -1,10 +1,7 @@
 -- `read` meets its contract: the pieces still to come give what the reader finds. The measure is what is left of the card. Assumes nothing.
 use Prim.Native.Nat.{◌-◌}
-use native.Mathlib.Omega.{arith}
-use mathlib.Core.Logic.{⊎_elim}
-use borrow.Author.Rules.{rules}
 use lib.ListN.{length}
-use Rattle.card_reader.proofs.StepLaws.{Reached, reached_start, reached_bad, reached_open, reached_some, reached_none, reached_end_open, reached_end_fine, finds_fine, finds_bad, finds_open}
+use Rattle.card_reader.proofs.StepLaws.{Reached}
 use Rattle.card_reader.proofs.read.Given as goal
 
 abbrev pub invariant-loop-at : goal.invariant-loop-at

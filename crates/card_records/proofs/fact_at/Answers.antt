@@ -1,7 +1,5 @@
 -- `fact_at` meets its contract. Assumes nothing.
-use native.Mathlib.Omega.{arith}
 use mathlib.Core.Path.{refl}
-use borrow.Author.Rules.{rules}
 use Rattle.card_records.proofs.FactLaws.{fact_says}
 use Rattle.card_records.proofs.fact_at.Goals as goal
 

@@ -1,6 +1,4 @@
 -- `put_fact` meets its contract. Assumes nothing.
-use native.Mathlib.Omega.{arith}
-use borrow.Author.Rules.{rules}
 use Rattle.card_records.proofs.FactLaws.{fact_put}
 use Rattle.card_records.proofs.put_fact.Goals as goal
 

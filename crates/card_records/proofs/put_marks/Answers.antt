@@ -1,6 +1,5 @@
 -- `put_marks` meets its contract. Assumes nothing.
 use native.Mathlib.Omega.{arith}
-use borrow.Author.Rules.{rules}
 use lib.ListN.{length-set}
 use Rattle.card_records.proofs.FactLaws.{sets_marks}
 use Rattle.card_records.proofs.put_marks.Goals as goal

@@ -1,6 +1,5 @@
 -- `put_number` meets its contract. Assumes nothing.
 use native.Mathlib.Omega.{arith}
-use borrow.Author.Rules.{rules}
 use lib.ListN.{length-set}
 use Rattle.card_records.proofs.FactLaws.{sets_number}
 use Rattle.card_records.proofs.put_number.Goals as goal

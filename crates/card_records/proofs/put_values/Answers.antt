@@ -1,6 +1,4 @@
 -- `put_values` meets its contract. Assumes nothing.
-use native.Mathlib.Omega.{arith}
-use borrow.Author.Rules.{rules}
 use Rattle.card_records.proofs.FactLaws.{values_put}
 use Rattle.card_records.proofs.put_values.Goals as goal
 

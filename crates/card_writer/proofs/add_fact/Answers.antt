@@ -1,8 +1,5 @@
 -- `add_fact` meets its contract. Assumes nothing.
-use native.Mathlib.Omega.{arith}
-use mathlib.Core.Path.{refl, ap}
-use borrow.Author.Rules.{rules}
-use lib.ListN.{set}
+use mathlib.Core.Path.{refl}
 use Rattle.card_writer.proofs.SheetLaws.{holding_more}
 use Rattle.card_writer.proofs.add_fact.Goals as goal
 

@@ -1,8 +1,5 @@
-use Prim.Native.Nat.{◌-◌}
 use native.Mathlib.Omega.{arith}
-use borrow.Author.Rules.{rules}
-use lib.ListN.{length, length-set}
-use Rattle.card_writer.proofs.SheetLaws.{Cleared, cleared_none, cleared_more, cleared_all}
+use Rattle.card_writer.proofs.SheetLaws.{cleared_none, cleared_more, cleared_all}
 use Rattle.card_writer.proofs.clear.Goals as goal
 
 pub loop-i-init : goal.loop-i-init

@@ -1,9 +1,7 @@
 -- `clear` meets its contract: the bytes passed are 0. The measure is what is left of them. Assumes nothing.
 use Prim.Native.Nat.{◌-◌}
-use native.Mathlib.Omega.{arith}
-use borrow.Author.Rules.{rules}
-use lib.ListN.{length, length-set}
-use Rattle.card_writer.proofs.SheetLaws.{Cleared, cleared_none, cleared_more, cleared_all}
+use lib.ListN.{length}
+use Rattle.card_writer.proofs.SheetLaws.{Cleared}
 use Rattle.card_writer.proofs.clear.Given as goal
 
 abbrev pub invariant-loop-i : goal.invariant-loop-i

@@ -1,7 +1,5 @@
-use Prim.Native.Nat.{◌-◌}
 use native.Mathlib.Omega.{arith}
-use borrow.Author.Rules.{rules}
-use Rattle.card_writer.proofs.StoreLaws.{Copied, copied_start, copied_more, copied_size, copied_all}
+use Rattle.card_writer.proofs.StoreLaws.{copied_start, copied_more, copied_size, copied_all}
 use Rattle.card_writer.proofs.copy_block.Goals as goal
 
 pub loop-i-init : goal.loop-i-init

@@ -1,8 +1,6 @@
 -- `copy_block` meets its contract: the bytes passed are stored. The measure is what is left of them. Assumes nothing.
 use Prim.Native.Nat.{◌-◌}
-use native.Mathlib.Omega.{arith}
-use borrow.Author.Rules.{rules}
-use Rattle.card_writer.proofs.StoreLaws.{Copied, copied_start, copied_more, copied_size, copied_all}
+use Rattle.card_writer.proofs.StoreLaws.{Copied}
 use Rattle.card_writer.proofs.copy_block.Given as goal
 
 abbrev pub invariant-loop-i : goal.invariant-loop-i

@@ -1,7 +1,6 @@
 -- `end_block` meets its contract. Assumes nothing.
 use native.Mathlib.Omega.{arith}
 use mathlib.Core.Path.{refl}
-use borrow.Author.Rules.{rules}
 use Rattle.card_writer.proofs.SheetLaws.{check_small, holding_end}
 use Rattle.card_writer.proofs.end_block.Goals as goal
 

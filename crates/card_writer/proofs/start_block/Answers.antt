@@ -2,7 +2,6 @@
 use native.Mathlib.Omega.{arith}
 use mathlib.Core.Path.{◌∙◌, sym, ap}
 use mathlib.Core.List.{[]}
-use borrow.Author.Rules.{rules}
 use lib.ListN.{length-set}
 use Rattle.cards.specs.Bytes.{filled}
 use Rattle.card_writer.proofs.SheetLaws.{cleared_long, holding_none}

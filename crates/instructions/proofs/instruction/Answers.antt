@@ -1,34 +1,33 @@
 -- `instruction` meets its contract: each kind of row by its own arm. Assumes nothing.
 use mathlib.Core.Path.{refl}
-use borrow.Author.Rules.{rules}
 use Rattle.rule.specs.Decoded.{row_of}
 use Rattle.instructions.specs.Read.{instruction_read}
 use Rattle.instructions.proofs.instruction.Goals as goal
 
 pub returns-in-True : goal.returns-in-True
 unfolding row_of instruction_read
-returns-in-True c = rw c.enum_told-1.given.1 refl
+returns-in-True c = rw c.in-True.is refl
 
 pub returns-in-Atom : goal.returns-in-Atom
 unfolding row_of instruction_read
-returns-in-Atom c = rw c.enum_told-in-Atom-1.given.1 refl
+returns-in-Atom c = rw c.in-Atom.is refl
 
 pub returns-in-And : goal.returns-in-And
 unfolding row_of instruction_read
-returns-in-And c = rw c.row-1.given.1 refl
+returns-in-And c = rw c.in-And.is refl
 
 pub returns-in-Not : goal.returns-in-Not
 unfolding row_of instruction_read
-returns-in-Not c = rw c.row-in-Not-1.given.1 refl
+returns-in-Not c = rw c.in-Not.is refl
 
 pub returns-in-Since : goal.returns-in-Since
 unfolding row_of instruction_read
-returns-in-Since c = rw c.row-in-Since-1.given.1 refl
+returns-in-Since c = rw c.in-Since.is refl
 
 pub returns-in-Previous : goal.returns-in-Previous
 unfolding row_of instruction_read
-returns-in-Previous c = rw c.row-in-Previous-1.given.1 refl
+returns-in-Previous c = rw c.in-Previous.is refl
 
 pub returns-in-Exists : goal.returns-in-Exists
 unfolding row_of instruction_read
-returns-in-Exists c = rw c.row-in-Exists-1.given.1 refl
+returns-in-Exists c = rw c.in-Exists.is refl

@@ -2,7 +2,6 @@
 use Prim.Native.Nat.{◌-◌}
 use mathlib.Core.Path.{sym, ◌∙◌}
 use native.Mathlib.Omega.{arith}
-use borrow.Author.Rules.{rules}
 use Rattle.instructions.proofs.ReadLaws.{place_none, place_end, place_here, place_next}
 use Rattle.instructions.proofs.place_of.Goals as goal
 
@@ -14,7 +13,7 @@ returns-then-count-eq0 c =
 pub returns-then-is_variable : goal.returns-then-is_variable
 returns-then-is_variable c =
     let q = c.args.count in
-    place_here _ 0 _ _ q _ _ (omega arith) (sym c.is_variable.ensures ∙ c.if-is_variable.true) c.number_of_law.ensures
+    place_here _ 0 _ _ q _ _ (omega arith) (sym c.is_variable.ensures ∙ c.if-is_variable.true) c.number_of.ensures
 
 pub returns-then-count-eq1 : goal.returns-then-count-eq1
 returns-then-count-eq1 c =

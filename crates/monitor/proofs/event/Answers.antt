@@ -7,9 +7,9 @@ use Rattle.monitor.proofs.event.Goals as goal
 pub event_on-said-requires : goal.event_on-said-requires
 event_on-said-requires c =
     let s = c in (
-      sym (length-map s.args.state.counts _) ∙ s.well-formed.0.1.1.1.1.1.0.1.0.1,
-      sym (length-map s.args.state.refs _) ∙ s.well-formed.0.1.1.1.1.1.1.0.1.0.1,
-      sym (length-map s.args.state.sizes _) ∙ s.well-formed.0.1.1.1.1.1.1.1.0.1.0.1,
+      omega arith,
+      omega arith,
+      omega arith,
     )
 
 pub returns : goal.returns

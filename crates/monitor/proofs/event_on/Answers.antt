@@ -15,7 +15,7 @@ pub returns-in-Refused : goal.returns-in-Refused
 returns-in-Refused c =
     let s = c in
     let m = machine (whole s.args.figures s.args.refs.now s.args.sizes.now) s.args.nodes.now s.args.values.now s.args.work.now in
-    record { happens = early _ m _ _ _ c.check-rule.ensures.found c.judge-decision.ensures _ _ _ _ _ _ c.decision-1.given.1 (kept_turn _ _ _ _ _ _ _ _ c.refused.ensures refl refl) refl refl refl; looks = kept_looks _ m _ _ _ _ _ c.refused.ensures; numbers = kept_numbers _ m _ _ _ _ _ c.refused.ensures }
+    record { happens = early _ m _ _ _ c.check-rule.ensures.found c.judge-decision.ensures _ _ _ _ _ _ c.in-Refused.is (kept_turn _ _ _ _ _ _ _ _ c.refused.ensures refl refl) refl refl refl; looks = kept_looks _ m _ _ _ _ _ c.refused.ensures; numbers = kept_numbers _ m _ _ _ _ _ c.refused.ensures }
 
 pub returns-then-work-w : goal.returns-then-work-w
 returns-then-work-w c =

@@ -1,6 +1,5 @@
 -- `number_of` meets its contract: it reads the place that its variable, value and fact have in the table. Assumes nothing.
 use mathlib.Core.Path.{refl}
-use borrow.Author.Rules.{rules}
 use Rattle.numbers.proofs.number_of.Goals as goal
 
 pub returns : goal.returns

@@ -1,6 +1,5 @@
 -- `value_at` meets its contract. Assumes nothing.
 use mathlib.Core.Path.{sym}
-use borrow.Author.Rules.{rules}
 use Rattle.numbers.proofs.MatchingLaws.{value_is}
 use Rattle.numbers.proofs.value_at.Goals as goal
 

@@ -1,49 +1,39 @@
 -- `well_formed` meets its contract: one law for each case. Assumes nothing.
-use mathlib.Core.Path.{sym, ◌∙◌}
+use mathlib.Core.Path.{ap, sym, ◌∙◌}
+use mathlib.Core.Bool.{not}
 use native.Mathlib.Omega.{arith}
-use lib.ListN.{length}
-use Rattle.diagram.specs.Works.{Fits}
-use Rattle.keeping.proofs.CheckLaws.{says_yes}
 use Rattle.stepping.proofs.CaseLaws.{cleared_after, unfit_tells, bad_tells, good_tells}
-use borrow.Author.Rules.{rules}
 use Rattle.stepping.proofs.well_formed.Goals as goal
 
 pub returns-then-not-fit : goal.returns-then-not-fit
 returns-then-not-fit c =
-    let first = c in
-    let s = first in
-    unfit_tells s.args.k s.args.count s.args.allowed.now s.args.refs.now s.args.sizes.now s.args.kept s.args.nodes.now s.args.work.now first.fit.result first.fit.ensures c.if-not-fit.true-raw
+    let s = c.args in
+    unfit_tells s.k s.count s.allowed.now s.refs.now s.sizes.now s.kept s.nodes.now s.work.now c.fit.result c.fit.ensures (ap not c.if-not-fit.true)
 
 pub kept_right-good-requires : goal.kept_right-good-requires
 kept_right-good-requires c =
-    let test = c in
-    let first = test in
-    let s = first in
-    let f = says_yes (Fits s.args.k s.args.count (length s.args.nodes.now) (length s.args.work.now)) first.fit.result first.fit.ensures test.if-not-fit.false-raw in
-    (f, s.requires.0, s.requires.1)
+    let f = rw c.if-not-fit.false at c.fit.ensures in
+    (f, c.requires.0, c.requires.1)
 
 pub zero-requires : goal.zero-requires
 zero-requires c =
-    let test = c in
-    let first = test in
-    let s = first in
-    let f = says_yes (Fits s.args.k s.args.count (length s.args.nodes.now) (length s.args.work.now)) first.fit.result first.fit.ensures test.if-not-fit.false-raw in
-    omega (arith, f.room, c.kept_right-good.auto.1.1.1.1.1.1.1.0)
+    let f = rw c.if-not-fit.false at c.fit.ensures in
+    omega (arith, f.room, c.kept_right-good.auto.work)
 
 pub returns-then-good : goal.returns-then-good
 returns-then-good c =
-    let checked = c in
-    let test = checked in
-    let first = test in
-    let s = first in
-    let f = says_yes (Fits s.args.k s.args.count (length s.args.nodes.now) (length s.args.work.now)) first.fit.result first.fit.ensures test.if-not-fit.false-raw in
-    good_tells s.args.k s.args.count s.args.allowed.now s.args.refs.now s.args.sizes.now s.args.kept s.args.nodes.now s.args.work.now f (cleared_after s.args.k s.args.count s.args.allowed.now s.args.refs.now s.args.sizes.now s.args.kept s.args.nodes.now s.args.work.now f checked.kept_right-good.ensures.check_leaves.rest checked.kept_right-good.auto.1.1.1.1.1.1.1.0 c.zero.ensures) (sym checked.kept_right-good.ensures.value ∙ c.if-good.true)
+    let s = c.args in
+    let done = c.kept_right-good in
+    let f = rw c.if-not-fit.false at c.fit.ensures in
+    good_tells s.k s.count s.allowed.now s.refs.now s.sizes.now s.kept s.nodes.now s.work.now f
+    (cleared_after s.k s.count s.allowed.now s.refs.now s.sizes.now s.kept s.nodes.now s.work.now f done.ensures.check_leaves.rest done.auto.work c.zero.ensures)
+    (sym done.ensures.value ∙ c.if-good.true)
 
 pub returns : goal.returns
 returns c =
-    let checked = c in
-    let test = checked in
-    let first = test in
-    let s = first in
-    let f = says_yes (Fits s.args.k s.args.count (length s.args.nodes.now) (length s.args.work.now)) first.fit.result first.fit.ensures test.if-not-fit.false-raw in
-    bad_tells s.args.k s.args.count s.args.allowed.now s.args.refs.now s.args.sizes.now s.args.kept s.args.nodes.now s.args.work.now f (cleared_after s.args.k s.args.count s.args.allowed.now s.args.refs.now s.args.sizes.now s.args.kept s.args.nodes.now s.args.work.now f checked.kept_right-good.ensures.check_leaves.rest checked.kept_right-good.auto.1.1.1.1.1.1.1.0 c.zero.ensures) (sym checked.kept_right-good.ensures.value ∙ c.if-good.false)
+    let s = c.args in
+    let done = c.kept_right-good in
+    let f = rw c.if-not-fit.false at c.fit.ensures in
+    bad_tells s.k s.count s.allowed.now s.refs.now s.sizes.now s.kept s.nodes.now s.work.now f
+    (cleared_after s.k s.count s.allowed.now s.refs.now s.sizes.now s.kept s.nodes.now s.work.now f done.ensures.check_leaves.rest done.auto.work c.zero.ensures)
+    (sym done.ensures.value ∙ c.if-good.false)

@@ -2,7 +2,6 @@
 use native.Mathlib.Omega.{arith}
 use Rattle.making.proofs.NodesLaws.{shelved_same}
 use Rattle.aging.proofs.ChainLaws.{shown_none, shown_chain}
-use borrow.Author.Rules.{rules}
 use Rattle.aging.proofs.age.make_age.Goals as goal
 
 pub returns-then-age-eq0 : goal.returns-then-age-eq0

@@ -1,7 +1,6 @@
 -- `read_age` meets its contract. Assumes nothing.
 use native.Mathlib.Omega.{arith}
 use Rattle.aging.proofs.ChainLaws.{read_none, read_some, read_small, under_chain}
-use borrow.Author.Rules.{rules}
 use Rattle.aging.proofs.age.read_age.Goals as goal
 
 pub returns-then-p-eq0 : goal.returns-then-p-eq0

@@ -1,6 +1,5 @@
 -- `age_walk` meets its contract. Assumes nothing.
 use Rattle.aging.proofs.TaskLaws.{does_ages}
-use borrow.Author.Rules.{rules}
 use Rattle.aging.proofs.walk.age_walk.Goals as goal
 
 pub returns : goal.returns

@@ -2,24 +2,18 @@
 use native.Mathlib.Omega.{arith}
 use Rattle.nodes.proofs.ReadLaws.{grown_ref}
 use Rattle.aging.proofs.SlateLaws.{spot_inside, slate_keep}
-use borrow.Author.Rules.{rules}
 use Rattle.aging.proofs.walk.keep.Goals as goal
 
 pub returns-in_default : goal.returns-in_default
-returns-in_default c = rw c.enum_told-1.given.1 at c.make.ensures
+returns-in_default c = c.in_default.ensures
 
 pub note-requires : goal.note-requires
 note-requires c =
-    let after = c in
-    let s = after in
-    let g = rw c.j-1.given.1 at after.make.ensures in
-    (omega (arith, g.1.shelf.long, spot_inside s.requires.slate s.requires.spot.0), omega (arith, grown_ref g.0, g.0.table.fits, g.0.table.small))
+    let g = c.in-At.ensures in
+    (omega (arith, g.1.shelf.long, spot_inside c.requires.slate c.requires.spot.0), omega (arith, grown_ref g.0, g.0.table.fits, g.0.table.small))
 
 pub returns : goal.returns
 returns c =
-    let noted = c in
-    let after = noted in
-    let s = after in
-    let p = s.requires.spot in
-    let g = rw noted.j-1.given.1 at after.make.ensures in
-    (g.0, rw noted.note.ensures (slate_keep s.requires.slate _ _ _ _ p.0 p.1 s.requires.o_value g.0 g.1))
+    let p = c.requires.spot in
+    let g = c.in-At.ensures in
+    (g.0, rw c.note.ensures (slate_keep c.requires.slate _ _ _ _ p.0 p.1 c.requires.o_value g.0 g.1))

@@ -1,7 +1,6 @@
 -- `ripe_walk` meets its contract. Assumes nothing.
 use Rattle.trees.specs.Table.{at, trees_of}
 use Rattle.aging.proofs.TaskLaws.{does_ripe, plain_no}
-use borrow.Author.Rules.{rules}
 use Rattle.aging.proofs.walk.ripe_walk.Goals as goal
 
 pub run-requires : goal.run-requires

@@ -3,7 +3,6 @@ use Prim.Native.Nat.{◌+◌, ◌*◌}
 use native.Mathlib.Omega.{arith}
 use Rattle.aging.specs.Tasks.{does}
 use Rattle.aging.proofs.WipeLaws.{plain_within, ageing_dated, wiped, walked}
-use borrow.Author.Rules.{rules}
 use Rattle.aging.proofs.walk.run.Goals as goal
 
 pub walk-made-requires : goal.walk-made-requires
@@ -17,4 +16,4 @@ returns c =
     let last = c in
     let done = last in
     let s = done in
-    walked (4 * s.args.k + 11) (does s.args.k s.args.task) done.walk-made.new.0 _ s.requires.desk done.zero.ensures last.zero-2.ensures done.walk-made.result done.walk-made.ensures
+    walked (4 * s.args.k + 11) (does s.args.k s.args.task) c.walk-made.new.nodes _ s.requires.desk done.zero.ensures last.zero-2.ensures done.walk-made.result done.walk-made.ensures

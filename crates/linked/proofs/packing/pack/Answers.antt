@@ -10,15 +10,15 @@ use Rattle.linked.proofs.packing.pack.Goals.{After-copy, After-copy-2, Start}
 
 -- four counts
 few : (s : Start) → length s.args.figures.counts ≡ 4
-few s = sym (length-map s.args.figures.counts _) ∙ s.well-formed.0.1.1.1.1.1.0.1.0.1
+few s = omega arith
 
 -- 64 references
-many : (s : Start) → length s.args.t2 ≡ 64
-many s = s.well-formed.1.0.1.0.1
+many : (s : Start) → length s.args.refs ≡ 64
+many s = s.well_formed.1.0.1.0.1
 
 -- 64 sizes
-many_sizes : (s : Start) → length s.args.t3 ≡ 64
-many_sizes s = s.well-formed.1.1.0.1.0.1
+many_sizes : (s : Start) → length s.args.sizes ≡ 64
+many_sizes s = s.well_formed.1.1.0.1.0.1
 
 -- the slice has 135 numbers after the counts are written, and after the references are
 still : (c : After-copy) → length c.copy.new.1.0 ≡ 135
@@ -51,5 +51,5 @@ returns c =
     let counted = c.copy in
     let referred = c.copy-2 in
     let sized = c.copy-3 in
-    state_written (whole s.args.figures s.args.t2 s.args.t3) s.args.numbers.now counted.new.1.0 referred.new.1.0 sized.new.1.0 s.requires (few s) (many s) (many_sizes s)
+    state_written (whole s.args.figures s.args.refs s.args.sizes) s.args.numbers.now counted.new.1.0 referred.new.1.0 sized.new.1.0 s.requires (few s) (many s) (many_sizes s)
     counted.ensures referred.ensures sized.ensures

@@ -7,4 +7,4 @@ use Rattle.linked.proofs.packing.put.Goals as goal
 pub returns : goal.returns
 returns c =
     let s = c in
-    answer_written _ _ _ _ s.args.numbers.now _ _ _ s.requires s.well-formed.1.1.1.0.1.0.1 c.put_six.ensures refl c.copy.ensures
+    answer_written _ _ _ _ s.args.numbers.now _ _ _ s.requires s.well_formed.1.1.1.0.1.0.1 c.put_six.ensures refl c.copy.ensures

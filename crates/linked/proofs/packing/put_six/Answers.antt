@@ -10,7 +10,7 @@ pub returns-in-Started : goal.returns-in-Started
 unfolding first_six
 returns-in-Started c =
     let s = c in
-    c.six.ensures ∙ sym (ap (λ (x : Answer). first_six x s.args.complements s.args.swept) c.enum_told-1.given.1)
+    c.six.ensures ∙ sym (ap (λ (x : Answer). first_six x s.args.complements s.args.swept) c.in-Started.is)
 
 pub returns-in-Verdict : goal.returns-in-Verdict
 returns-in-Verdict c =

@@ -1,16 +1,12 @@
 -- `packing::five_of` meets its contract, case by case. Assumes nothing.
 use mathlib.Core.Path.{refl}
 use Rattle.linked_rule.specs.Ruling.{wrapped_told}
-use borrow.Author.Rules.{rules}
-use Rattle.linked_rule.proofs.packing.five_of.Lts as lts
 use Rattle.linked_rule.proofs.packing.five_of.Goals as goal
 
--- src/packing.rt:15:1
 pub returns-in-Refused : goal.returns-in-Refused
 unfolding wrapped_told
-returns-in-Refused c = rw c.told-1.given.1 refl
+returns-in-Refused c = rw c.in-Refused.is refl
 
--- src/packing.rt:15:1
 pub returns-in-Rows : goal.returns-in-Rows
 unfolding wrapped_told
-returns-in-Rows c = rw c.told-in-Rows-1.given.1 refl
+returns-in-Rows c = rw c.in-Rows.is refl

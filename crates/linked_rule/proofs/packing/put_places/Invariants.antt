@@ -1,12 +1,8 @@
 -- `packing::put_places` meets its contract. Assumes nothing.
-use Prim.Native.Nat.{◌-◌, ◌+◌, ◌≤◌, ◌<◌}
-use mathlib.Core.Path.{◌≡◌, refl, sym, ap, ◌∙◌}
-use native.Mathlib.Numerals.{add-one}
-use native.Mathlib.Omega.{arith}
-use borrow.Author.Rules.{rules}
+use Prim.Native.Nat.{◌-◌, ◌≤◌}
+use mathlib.Core.Path.{◌≡◌}
 use lib.ListN.{length}
-use lib.Seq.{paste, paste-zero, paste-suc, length-paste, take-length}
-use Rattle.linked_rule.proofs.packing.put_places.Lts as lts
+use lib.Seq.{paste}
 use Rattle.linked_rule.proofs.packing.put_places.Given as goal
 
 abbrev pub invariant-loop-i : goal.invariant-loop-i

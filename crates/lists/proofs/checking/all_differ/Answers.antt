@@ -1,11 +1,10 @@
-use Prim.Native.Nat.{ℕ, ◌+◌, ◌≤◌, ◌-◌}
+use Prim.Native.Nat.{ℕ, ◌+◌}
 use mathlib.Core.Path.{◌≡◌, refl, ap, ◌∙◌}
 use mathlib.Core.List.{List}
 use native.Mathlib.Omega.{arith}
-use lib.ListN.{length, get_or, drop, length-set}
+use lib.ListN.{get_or, drop, length-set}
 use lib.Seq.{drop-set-lt}
-use borrow.Author.Rules.{rules}
-use Rattle.lists.specs.Slots.{Table, Searchable, Apart}
+use Rattle.lists.specs.Slots.{Searchable}
 use Rattle.lists.proofs.ListsLaws.{clear_zero, clear_beyond}
 use Rattle.lists.proofs.SlotsLaws.{table_none, table_more, apart_more, apart_distinct, twice_distinct}
 use Rattle.lists.proofs.checking.all_differ.Goals as goal
@@ -23,17 +22,17 @@ searchable c =
       place = omega arith;
       more = omega (arith, z.more);
       few = z.few;
-      inside = omega (arith, z.inside, l.loop-j.invariant.2, l.clear.auto.0, t.requires.0.inside);
+      inside = omega (arith, z.inside, l.loop-j.invariant.2, l.clear.auto.work, t.requires.0.inside);
     }
 
 -- what lies beyond the room is as it was at entry
 beyond : (l : At-loop-j) → let s = l in
-    drop s.args.room l.loop.work ≡ drop s.args.room s.args.work.now
+    drop s.args.room l.loop-j.work ≡ drop s.args.room s.args.work.now
 beyond l =
     let t = l in
     let a = t.args in
-    l.loop.invariant.3
-    ∙ (ap (drop a.room) l.clear.ensures ∙ clear_beyond t.slots.result a.room a.work.now t.slots.ensures.inside)
+    l.loop-j.invariant.3
+    ∙ (ap (drop a.room) l.clear.ensures ∙ clear_beyond t.slots-size.result a.room a.work.now t.slots-size.ensures.inside)
 
 pub loop-j-init : goal.loop-j-init
 loop-j-init c =
@@ -44,7 +43,7 @@ loop-j-init c =
       refl,
       refl,
       refl,
-      table_none a.list.now w.new.0 t.slots-size.result (λ p h. ap (λ (xs : List ℕ). get_or xs p 0) w.ensures ∙ clear_zero t.slots-size.result a.work.now p h),
+      table_none a.list.now w.new.work t.slots-size.result (λ p h. ap (λ (xs : List ℕ). get_or xs p 0) w.ensures ∙ clear_zero t.slots-size.result a.work.now p h),
       λ i j h. absurd (omega arith),
     )
 
@@ -56,7 +55,7 @@ returns-then-work-p-ne0 c =
     let l = c in
     let a = l.args in
     let f = c.seek-p.ensures.met c.if-work-p-ne0.true in
-    record { answer = twice_distinct a.list.now f.0 l.loop-j.j f.1 (omega arith) f.2; beyond = beyond l }
+    record { answer = twice_distinct a.list.now f.0 l.loop-j.j f.1 (omega arith) f.2; beyond = beyond (goal.at.returns-then-work-p-ne0 c).At-loop-j }
 
 pub loop-j-preserved : goal.loop-j-preserved
 loop-j-preserved c =
@@ -69,12 +68,12 @@ loop-j-preserved c =
       refl,
       simp length-set l.loop-j.invariant.2,
       drop-set-lt a.room l.loop-j.work r.result (l.loop-j.j + 1) (omega (arith, r.ensures.inside, t.slots-size.ensures.inside)) ∙ l.loop-j.invariant.3,
-      table_more a.list.now l.loop-j.work t.slots-size.result l.loop-j.j r.result (searchable i) r.ensures c.if-work-p-ne0.false,
-      apart_more a.list.now l.loop-j.work t.slots-size.result l.loop-j.j r.result (searchable i) r.ensures c.if-work-p-ne0.false l.loop-j.invariant.5,
+      table_more a.list.now l.loop-j.work t.slots-size.result l.loop-j.j r.result (searchable (goal.at.loop-j-preserved c).In-loop-j) r.ensures c.if-work-p-ne0.false,
+      apart_more a.list.now l.loop-j.work t.slots-size.result l.loop-j.j r.result (searchable (goal.at.loop-j-preserved c).In-loop-j) r.ensures c.if-work-p-ne0.false l.loop-j.invariant.5,
     )
 
 pub returns : goal.returns
 returns c =
     let l = c in
     let a = l.args in
-    record { answer = apart_distinct a.list.now l.loop-j.j (omega arith) l.loop-j.invariant.5; beyond = beyond l }
+    record { answer = apart_distinct a.list.now l.loop-j.j (omega arith) l.loop-j.invariant.5; beyond = beyond (goal.at.returns c).At-loop-j }

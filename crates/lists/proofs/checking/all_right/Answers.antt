@@ -1,15 +1,13 @@
 use native.Mathlib.Omega.{arith}
-use Prim.Native.Nat.{ℕ, ◌+◌, ◌*◌, ◌≤◌, ◌<◌, ◌-◌}
+use Prim.Native.Nat.{◌+◌, ◌*◌, ◌≤◌, ◌-◌}
 use mathlib.Core.Path.{◌≡◌, refl, sym, ◌∙◌}
-use mathlib.Core.Bool.{true}
-use lib.ListN.{length, get_or, take, drop, length-drop}
+use lib.ListN.{get_or, take, drop, length-drop}
 use lib.Seq.{length-take-le}
 use borrow.Author.Count.{below_more}
 use borrow.Author.Tests.{not-true, not-false}
 use Rattle.lists.specs.Slots.{part_right}
 use Rattle.numbers.proofs.PartLaws.{part_inside}
 use Rattle.lists.proofs.ListsLaws.{all_false, all_true}
-use borrow.Author.Rules.{rules}
 use Rattle.lists.proofs.checking.all_right.Goals as goal
 use Rattle.lists.proofs.checking.all_right.Goals.{In-loop-v}
 
@@ -25,10 +23,10 @@ pub loop-v-init : goal.loop-v-init
 loop-v-init c = (omega arith, refl, refl, λ w h. absurd (omega arith))
 
 pub overflow_mul-at : goal.overflow_mul-at
-overflow_mul-at c = omega (arith, inside c, c.requires.1)
+overflow_mul-at c = omega (arith, part_inside c.loop-v.v c.args.m c.args.m (omega arith) (omega arith), c.requires.1)
 
 pub overflow_add-end : goal.overflow_add-end
-overflow_add-end c = omega (arith, inside c, c.requires.1)
+overflow_add-end c = omega (arith, part_inside c.loop-v.v c.args.m c.args.m (omega arith) (omega arith), c.requires.1)
 
 pub offset_bounds-values-at : goal.offset_bounds-values-at
 offset_bounds-values-at c = omega (arith, inside c, c.requires.1)
@@ -41,17 +39,17 @@ list_right-requires c =
     let z : l.loop-v.v * a.m + a.m - l.loop-v.v * a.m ≡ a.m = omega arith in (
       record { some = s.requires.0.some; inside = omega (arith, l.loop-v.invariant.1, s.requires.0.inside) },
       s.requires.1,
-      rw z (length-take-le a.m (drop (l.loop-v.v * a.m) a.values.now) (rw (length-drop, s.requires.2) (omega (arith, inside c)))),
+      rw z (length-take-le a.m (drop (l.loop-v.v * a.m) a.values.now) (rw (length-drop, s.requires.2) (omega (arith, inside (goal.at.list_right-requires c).In-loop-v)))),
     )
 
 pub returns-then-not-list_right : goal.returns-then-not-list_right
 returns-then-not-list_right c =
     let l = c in
     let a = l.args in
-    let d = c.List-right.ensures in
+    let d = c.list_right.ensures in
     let z : l.loop-v.v * a.m + a.m - l.loop-v.v * a.m ≡ a.m = omega arith in
     record {
-      answer = all_false 4 (λ v. part_right a.m (get_or a.t2 v 0) (take a.m (drop (v * a.m) a.values.now))) l.loop-v.v (omega arith) (sym (rw z at d.answer) ∙ not-true _ c.if-not-list_right.true-raw);
+      answer = all_false 4 (λ v. part_right a.m (get_or a.counts v 0) (take a.m (drop (v * a.m) a.values.now))) l.loop-v.v (omega arith) (sym (rw z at d.answer) ∙ not-true _ c.if-not-list_right.true-raw);
       beyond = d.beyond ∙ l.loop-v.invariant.2;
     }
 
@@ -59,10 +57,10 @@ pub loop-v-preserved : goal.loop-v-preserved
 loop-v-preserved c =
     let l = c in
     let a = l.args in
-    let w = c.List-right in
+    let w = c.list_right in
     let z : l.loop-v.v * a.m + a.m - l.loop-v.v * a.m ≡ a.m = omega arith in (
       omega arith,
-      w.auto.1.1.1.1.0 ∙ l.loop-v.invariant.1,
+      w.auto.work ∙ l.loop-v.invariant.1,
       w.ensures.beyond ∙ l.loop-v.invariant.2,
       below_more _ _ l.loop-v.invariant.3 (sym (rw z at w.ensures.answer) ∙ not-false _ c.if-not-list_right.false-raw),
     )
@@ -73,6 +71,6 @@ returns c =
     let s = l in
     let a = s.args in
     record {
-      answer = all_true 4 (λ v. part_right a.m (get_or a.t2 v 0) (take a.m (drop (v * a.m) a.values.now))) (λ v h. l.loop-v.invariant.3 v (omega arith));
+      answer = all_true 4 (λ v. part_right a.m (get_or a.counts v 0) (take a.m (drop (v * a.m) a.values.now))) (λ v h. l.loop-v.invariant.3 v (omega arith));
       beyond = l.loop-v.invariant.2;
     }

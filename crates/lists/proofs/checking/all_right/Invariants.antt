@@ -1,17 +1,10 @@
 -- `all_right` meets its contract. The loop's invariant: the lists of the first v variables are right. The measure is the count of variables
 -- left. Assumes nothing.
-use native.Mathlib.Omega.{arith}
-use Prim.Native.Nat.{ℕ, ◌+◌, ◌*◌, ◌≤◌, ◌<◌, ◌-◌}
-use mathlib.Core.Path.{◌≡◌, refl, sym, ◌∙◌}
+use Prim.Native.Nat.{ℕ, ◌*◌, ◌≤◌, ◌<◌, ◌-◌}
+use mathlib.Core.Path.{◌≡◌}
 use mathlib.Core.Bool.{true}
-use lib.ListN.{length, get_or, take, drop, length-drop}
-use lib.Seq.{length-take-le}
-use borrow.Author.Count.{below_more}
-use borrow.Author.Tests.{not-true, not-false}
+use lib.ListN.{length, get_or, take, drop}
 use Rattle.lists.specs.Slots.{part_right}
-use Rattle.numbers.proofs.PartLaws.{part_inside}
-use Rattle.lists.proofs.ListsLaws.{all_false, all_true}
-use borrow.Author.Rules.{rules}
 use Rattle.lists.proofs.checking.all_right.Given as goal
 
 abbrev pub invariant-loop-v : goal.invariant-loop-v

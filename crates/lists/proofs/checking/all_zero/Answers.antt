@@ -1,9 +1,6 @@
-use Prim.Native.Nat.{◌≤◌, ◌-◌}
 use mathlib.Core.Path.{◌≡◌, refl}
 use native.Mathlib.Omega.{arith}
-use lib.Dec.{eqb}
-use lib.ListN.{length, get_or}
-use borrow.Author.Rules.{rules}
+use lib.ListN.{length}
 use Rattle.trees.specs.Kept.{all_below}
 use Rattle.lists.proofs.ListsLaws.{zero_more}
 use Rattle.lists.proofs.checking.all_zero.Goals as goal

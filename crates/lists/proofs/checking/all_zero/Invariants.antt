@@ -1,13 +1,10 @@
 -- `all_zero` meets its contract. The loop's invariant: the bits so far are 0 exactly if the first i numbers are. The measure is what is left of
 -- the list. Assumes nothing.
 use Prim.Native.Nat.{◌≤◌, ◌-◌}
-use mathlib.Core.Path.{◌≡◌, refl}
-use native.Mathlib.Omega.{arith}
+use mathlib.Core.Path.{◌≡◌}
 use lib.Dec.{eqb}
 use lib.ListN.{length, get_or}
-use borrow.Author.Rules.{rules}
 use Rattle.trees.specs.Kept.{all_below}
-use Rattle.lists.proofs.ListsLaws.{zero_more}
 use Rattle.lists.proofs.checking.all_zero.Given as goal
 
 abbrev pub invariant-loop-i : goal.invariant-loop-i

@@ -1,12 +1,9 @@
 -- `clear` meets its contract. The loop's invariant: the first i numbers are 0, and the others as they were. The measure is what is left.
 -- Assumes nothing.
-use native.Mathlib.Omega.{arith}
-use Prim.Native.Nat.{ℕ, ◌≤◌, ◌-◌}
-use mathlib.Core.List.{List, ◌++◌}
-use mathlib.Core.Path.{◌≡◌, ap, ◌∙◌}
-use lib.ListN.{length, replicate, drop, set}
-use borrow.Author.Fill.{fill_more}
-use borrow.Author.Rules.{rules}
+use Prim.Native.Nat.{◌≤◌, ◌-◌}
+use mathlib.Core.List.{◌++◌}
+use mathlib.Core.Path.{◌≡◌}
+use lib.ListN.{length, replicate, drop}
 use Rattle.lists.proofs.checking.clear.Given as goal
 
 abbrev pub invariant-loop-i : goal.invariant-loop-i

@@ -3,7 +3,6 @@ use native.Mathlib.Omega.{arith}
 use mathlib.Core.Path.{refl, sym, ◌∙◌}
 use borrow.Author.Tests.{not-true, not-false}
 use Rattle.lists.proofs.ListsLaws.{part_over, part_rest, part_differ}
-use borrow.Author.Rules.{rules}
 use Rattle.lists.proofs.checking.list_right.Goals as goal
 
 pub returns-then-m-count : goal.returns-then-m-count

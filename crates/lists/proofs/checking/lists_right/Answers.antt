@@ -3,7 +3,6 @@ use native.Mathlib.Omega.{arith}
 use mathlib.Core.Path.{◌∙◌}
 use Rattle.numbers.proofs.StartLaws.{most_le}
 use Rattle.lists.proofs.ListsLaws.{lists_same}
-use borrow.Author.Rules.{rules}
 use Rattle.lists.proofs.checking.lists_right.Goals as goal
 
 pub all_right-requires : goal.all_right-requires

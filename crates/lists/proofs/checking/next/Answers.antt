@@ -3,7 +3,6 @@ use mathlib.Core.Path.{sym}
 use native.Mathlib.Omega.{arith}
 use borrow.Author.Tests.{eq-eqb, ne_eqb}
 use Rattle.lists.specs.Slots.{next_of}
-use borrow.Author.Rules.{rules}
 use Rattle.lists.proofs.checking.next.Goals as goal
 
 pub returns-then-p-size : goal.returns-then-p-size

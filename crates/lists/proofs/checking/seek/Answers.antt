@@ -1,6 +1,5 @@
 use native.Mathlib.Omega.{arith}
-use borrow.Author.Rules.{rules}
-use Rattle.lists.proofs.SlotsLaws.{Searching, distance, vacancy, begin, go_on, closer, sought_one, sought_none}
+use Rattle.lists.proofs.SlotsLaws.{begin, go_on, closer, sought_one, sought_none}
 use Rattle.lists.proofs.checking.seek.Goals as goal
 
 pub overflow_cast-q : goal.overflow_cast-q

@@ -1,8 +1,6 @@
 -- `seek` meets its contract. The loop's invariant: the search has come to the slot p over taken slots, and the earlier places of the value
 -- are still ahead. The measure is the distance to a free slot. Assumes nothing.
-use native.Mathlib.Omega.{arith}
-use borrow.Author.Rules.{rules}
-use Rattle.lists.proofs.SlotsLaws.{Searching, distance, vacancy, begin, go_on, closer, sought_one, sought_none}
+use Rattle.lists.proofs.SlotsLaws.{Searching, distance, vacancy}
 use Rattle.lists.proofs.checking.seek.Given as goal
 
 abbrev pub invariant-loop-q : goal.invariant-loop-q

@@ -5,7 +5,6 @@ use mathlib.Core.Path.{refl}
 use native.Mathlib.Omega.{arith}
 use native.Mathlib.Nat.{mod-lt}
 use Rattle.lists.proofs.SlotsLaws.{turned, scaled, slot_low}
-use borrow.Author.Rules.{rules}
 use Rattle.lists.proofs.checking.slot.Goals as goal
 
 pub overflow_mul-mixed : goal.overflow_mul-mixed

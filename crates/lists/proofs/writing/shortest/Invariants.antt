@@ -1,16 +1,10 @@
 -- `shortest` meets its contract. The loop's invariant: no variable below v is short. The measure is the count of variables left. Assumes nothing.
-use native.Mathlib.Omega.{arith}
 use Prim.Native.Nat.{ℕ, ◌≤◌, ◌<◌, ◌-◌}
 use mathlib.Core.Bool.{false}
-use mathlib.Core.Path.{◌≡◌, sym}
+use mathlib.Core.Path.{◌≡◌}
 use lib.Dec.{ltb}
 use lib.ListN.{get_or}
-use borrow.Author.Count.{below_more}
-use borrow.Author.Tests.{lt-ltb, le-ltb}
 use Rattle.meaning.specs.Tables
-use Rattle.numbers.proofs.StartLaws.{most_le}
-use Rattle.lists.proofs.WritingLaws.{first_is}
-use borrow.Author.Rules.{rules}
 use Rattle.lists.proofs.writing.shortest.Given as goal
 
 abbrev pub invariant-loop-v : goal.invariant-loop-v

@@ -1,23 +1,22 @@
 use native.Mathlib.Omega.{arith}
-use Prim.Native.Nat.{ℕ, ◌*◌, ◌≤◌, ◌<◌, ◌-◌}
+use Prim.Native.Nat.{ℕ, ◌<◌}
 use mathlib.Core.Path.{◌≡◌, refl, sym, ◌∙◌}
 use lib.ListN.{length, get_or, length-map}
 use Rattle.meaning.specs.declared.Value.{Value}
-use Rattle.meaning.specs.Tables.{list_of, lay_values}
+use Rattle.meaning.specs.Tables.{list_of}
 use Rattle.numbers.specs.Asking.{bare, with_counts}
 use Rattle.numbers.proofs.StartLaws.{most_le, list_length}
-use Rattle.lists.proofs.WritingLaws.{first_fresh, fresh_none, fresh_more, fresh_all}
-use borrow.Author.Rules.{rules}
+use Rattle.lists.proofs.WritingLaws.{fresh_none, fresh_more, fresh_all}
 use Rattle.lists.proofs.writing.write_fresh.Goals as goal
 use Rattle.lists.proofs.writing.write_fresh.Goals.{Start}
 
 -- the lists before are as long as the counts say
-start : (s : Start) (v : ℕ) → v < 4 → length (list_of s.args.k (with_counts s.args.t2) s.args.values.now v) ≡ get_or s.args.t2 v 0
-start s v h = list_length s.args.k s.args.t2 s.args.values.now v h s.requires.parts (omega (arith, s.requires.grown v h, s.requires.room v h))
+start : (s : Start) (v : ℕ) → v < 4 → length (list_of s.args.k (with_counts s.args.before) s.args.values.now v) ≡ get_or s.args.before v 0
+start s v h = list_length s.args.k s.args.before s.args.values.now v h s.requires.parts (omega (arith, s.requires.grown v h, s.requires.room v h))
 
 -- the array of fresh values
 size : (s : Start) → length (bare s.args.asked.fresh) ≡ 96
-size s = length-map s.args.asked.fresh (λ (x : Value). x.0) ∙ (sym (length-map s.args.asked.fresh _) ∙ s.well-formed.1.1.0.1.1.1.0.1.0.1)
+size s = length-map s.args.asked.fresh (λ (x : Value). x.0) ∙ (omega arith)
 
 pub most-m-requires : goal.most-m-requires
 most-m-requires c = c.requires.bits
@@ -31,7 +30,7 @@ loop-v-init c =
     let a = s.args in (
       omega arith,
       refl,
-      sym (fresh_none a.k a.t2 a.asked.counts (bare a.asked.fresh) (list_of a.k (with_counts a.t2) a.values.now) (size s) (start s) s.requires.few s.requires.room s.requires.grown ∙ s.requires.laid),
+      sym (fresh_none a.k a.before a.asked.counts (bare a.asked.fresh) (list_of a.k (with_counts a.before) a.values.now) (size (goal.at.loop-v-init c).Start) (start (goal.at.loop-v-init c).Start) s.requires.few s.requires.room s.requires.grown ∙ s.requires.laid),
     )
 
 pub write_list-requires : goal.write_list-requires
@@ -51,8 +50,8 @@ loop-v-preserved c =
     let m = c.most-m.ensures in
     let v : l.v < 4 = omega (arith, c.loop-v-test.true) in (
       omega arith,
-      w.auto.1.1.1.1.0 ∙ l.invariant.1,
-      w.ensures ∙ rw m (fresh_more a.k a.t2 a.asked.counts (bare a.asked.fresh) (list_of a.k (with_counts a.t2) a.values.now) (size s) (start s) s.requires.few s.requires.room s.requires.grown l.v l.values v l.invariant.2),
+      w.auto.values ∙ l.invariant.1,
+      w.ensures ∙ rw m (fresh_more a.k a.before a.asked.counts (bare a.asked.fresh) (list_of a.k (with_counts a.before) a.values.now) (size (goal.at.loop-v-preserved c).Start) (start (goal.at.loop-v-preserved c).Start) s.requires.few s.requires.room s.requires.grown l.v l.values v l.invariant.2),
     )
 
 pub shape_of-values : goal.shape_of-values
@@ -64,4 +63,4 @@ returns c =
     let a = s.args in
     let l = c.loop-v in
     let z : l.v ≡ 4 = omega (arith, c.loop-v-test.false) in
-    l.invariant.2 ∙ fresh_all a.k a.t2 a.asked.counts (bare a.asked.fresh) (list_of a.k (with_counts a.t2) a.values.now) (size s) (start s) s.requires.few s.requires.room s.requires.grown l.v z
+    l.invariant.2 ∙ fresh_all a.k a.before a.asked.counts (bare a.asked.fresh) (list_of a.k (with_counts a.before) a.values.now) (size (goal.at.returns c).Start) (start (goal.at.returns c).Start) s.requires.few s.requires.room s.requires.grown l.v z

@@ -1,12 +1,10 @@
 use native.Mathlib.Omega.{arith}
 use Prim.Native.Nat.{◌+◌, ◌-◌, ◌*◌, ◌≤◌}
 use mathlib.Core.Path.{◌≡◌, refl, ◌∙◌}
-use lib.ListN.{length, length-set}
-use Rattle.lists.specs.Writing.{written}
+use lib.ListN.{length-set}
 use Rattle.numbers.specs.Asking.{bare}
 use Rattle.numbers.proofs.PartLaws.{part_inside}
 use Rattle.lists.proofs.WritingLaws.{written_none, written_more}
-use borrow.Author.Rules.{rules}
 use Rattle.lists.proofs.writing.write_list.Goals as goal
 use Rattle.lists.proofs.writing.write_list.Goals.{Start}
 
@@ -32,7 +30,7 @@ overflow_cast-many c = let s = c in omega (arith, s.requires.few)
 pub loop-j-init : goal.loop-j-init
 loop-j-init c =
     let a = c.args in
-    (omega arith, refl, written_none a.m a.b a.v (bare a.t4) a.values.now)
+    (omega arith, refl, written_none a.m a.b a.v (bare a.fresh) a.values.now)
 
 pub overflow_add-y : goal.overflow_add-y
 overflow_add-y c = let s = c in omega (arith, s.requires.variable, s.requires.few, c.loop-j-test.true)
@@ -48,18 +46,18 @@ bounds-fresh-from c =
 pub overflow_add-values : goal.overflow_add-values
 overflow_add-values c =
     let s = c in
-    omega (arith, inside s, s.requires.small, s.requires.grown, c.loop-j-test.true)
+    omega (arith, inside (goal.at.overflow_add-values c).Start, s.requires.small, s.requires.grown, c.loop-j-test.true)
 
 pub offset_bounds-values-at : goal.offset_bounds-values-at
 offset_bounds-values-at c =
     let s = c in
-    omega (arith, inside s, s.requires.small, s.requires.grown, c.loop-j-test.true)
+    omega (arith, inside (goal.at.offset_bounds-values-at c).Start, s.requires.small, s.requires.grown, c.loop-j-test.true)
 
 pub bounds-values-at : goal.bounds-values-at
 bounds-values-at c =
     let s = c in
     let l = c.loop-j in
-    omega (arith, inside s, s.requires.grown, s.requires.parts, l.invariant.1, c.loop-j-test.true)
+    omega (arith, inside (goal.at.bounds-values-at c).Start, s.requires.grown, s.requires.parts, l.invariant.1, c.loop-j-test.true)
 
 pub loop-j-preserved : goal.loop-j-preserved
 loop-j-preserved c =
@@ -68,7 +66,7 @@ loop-j-preserved c =
     let l = c.loop-j in (
       omega (arith, c.loop-j-test.true),
       length-set l.values _ _ ∙ l.invariant.1,
-      written_more a.m a.b a.v l.j a.t4 a.values.now l.values l.invariant.2,
+      written_more a.m a.b a.v l.j a.fresh a.values.now l.values l.invariant.2,
     )
 
 pub shape_of-values : goal.shape_of-values

@@ -1,13 +1,9 @@
 -- `write_list` meets its contract. The loop's invariant: the first j fresh values are written. The measure is the count of values left. Assumes nothing.
-use native.Mathlib.Omega.{arith}
-use Prim.Native.Nat.{◌+◌, ◌-◌, ◌*◌, ◌≤◌}
-use mathlib.Core.Path.{◌≡◌, refl, ◌∙◌}
-use lib.ListN.{length, length-set}
+use Prim.Native.Nat.{◌-◌, ◌≤◌}
+use mathlib.Core.Path.{◌≡◌}
+use lib.ListN.{length}
 use Rattle.lists.specs.Writing.{written}
 use Rattle.numbers.specs.Asking.{bare}
-use Rattle.numbers.proofs.PartLaws.{part_inside}
-use Rattle.lists.proofs.WritingLaws.{written_none, written_more}
-use borrow.Author.Rules.{rules}
 use Rattle.lists.proofs.writing.write_list.Given as goal
 
 abbrev pub invariant-loop-j : goal.invariant-loop-j

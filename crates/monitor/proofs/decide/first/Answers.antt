@@ -6,8 +6,8 @@ use Rattle.monitor.proofs.decide.first.Goals as goal
 
 pub returns-in-Taken : goal.returns-in-Taken
 unfolding first_of
-returns-in-Taken c = rw c.enum_told-1.given.1 refl
+returns-in-Taken c = rw c.in-Taken.is refl
 
 pub returns-in-Refused : goal.returns-in-Refused
 unfolding first_of
-returns-in-Refused c = rw c.a-1.given.1 refl
+returns-in-Refused c = rw c.in-Refused.is refl

@@ -6,8 +6,8 @@ use Rattle.monitor.proofs.decide.of_rule.Goals as goal
 
 pub returns-in-Right : goal.returns-in-Right
 unfolding of_rule
-returns-in-Right c = sym (ap of_rule c.enum_told-1.given.1)
+returns-in-Right c = sym (ap of_rule c.in-Right.is)
 
 pub returns-in-Fault : goal.returns-in-Fault
 unfolding of_rule
-returns-in-Fault c = sym (ap of_rule c.checked-1.given.1)
+returns-in-Fault c = sym (ap of_rule c.in-Fault.is)

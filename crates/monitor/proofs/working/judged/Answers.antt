@@ -44,4 +44,4 @@ work_on-requires c =
     let test = ask in
     let first = test in
     let s = first in
-    asking _ _ _ _ s.requires _ ask.ask-asked.ensures (sym first.agrees.ensures ∙ not-false _ test.if-not-agrees.false-raw) _ short.shortest-v.ensures short.if-v-lt4.false (sym (length-map s.args.event.facts _) ∙ s.well-formed.1.1.1.1.1.1.1.1.0.1.1.1.0.1.0.1)
+    asking _ _ _ _ s.requires _ ask.ask-asked.ensures (sym first.agrees.ensures ∙ not-false _ test.if-not-agrees.false-raw) _ short.shortest-v.ensures short.if-v-lt4.false (omega arith)

@@ -10,18 +10,18 @@ unfolding formed_said
 returns-in-Good c =
     let f = c in
     let s = f in
-    record { value = c.refused.ensures ∙ sym (ap (λ (y : Formed). formed_said y s.args.figures s.args.number s.args.place) (sym f.well-formed-2.ensures.result ∙ c.enum_told-1.given.1)); work_after = f.well-formed-2.ensures.work }
+    record { value = c.refused.ensures ∙ sym (ap (λ (y : Formed). formed_said y s.args.figures s.args.number s.args.place) (sym f.well_formed-2.ensures.result ∙ c.in-Good.is)); work_after = f.well_formed-2.ensures.work }
 
 pub returns-in-Bad : goal.returns-in-Bad
 unfolding formed_said
 returns-in-Bad c =
     let f = c in
     let s = f in
-    record { value = c.refused-in-Bad.ensures ∙ sym (ap (λ (y : Formed). formed_said y s.args.figures s.args.number s.args.place) (sym f.well-formed-2.ensures.result ∙ c.enum_told-in-Bad-1.given.1)); work_after = f.well-formed-2.ensures.work }
+    record { value = c.refused-in-Bad.ensures ∙ sym (ap (λ (y : Formed). formed_said y s.args.figures s.args.number s.args.place) (sym f.well_formed-2.ensures.result ∙ c.in-Bad.is)); work_after = f.well_formed-2.ensures.work }
 
 pub returns-in-Unfit : goal.returns-in-Unfit
 unfolding formed_said
 returns-in-Unfit c =
     let f = c in
     let s = f in
-    record { value = c.refused-in-Unfit.ensures ∙ sym (ap (λ (y : Formed). formed_said y s.args.figures s.args.number s.args.place) (sym f.well-formed-2.ensures.result ∙ c.enum_told-in-Unfit-1.given.1)); work_after = f.well-formed-2.ensures.work }
+    record { value = c.refused-in-Unfit.ensures ∙ sym (ap (λ (y : Formed). formed_said y s.args.figures s.args.number s.args.place) (sym f.well_formed-2.ensures.result ∙ c.in-Unfit.is)); work_after = f.well_formed-2.ensures.work }

@@ -8,7 +8,7 @@ use Rattle.monitor.proofs.NumberedLaws.{kept_numbers, grown, taken_numbers}
 use Rattle.monitor.proofs.working.work_on.Goals as goal
 
 pub step-stepped-requires : goal.step-stepped-requires
-step-stepped-requires c = let s = c in (s.requires.listed.rule_right, few_facts _ _ s.requires.count_is_right, sym (length-map s.args.asked.given _) ∙ s.well-formed.1.1.1.1.1.1.1.1.1.0.1.1.1.1.0.1.0.1, s.requires.listed.refs, s.requires.listed.sizes)
+step-stepped-requires c = let s = c in (s.requires.listed.rule_right, few_facts _ _ s.requires.count_is_right, omega arith, s.requires.listed.refs, s.requires.listed.sizes)
 
 pub write_fresh-requires : goal.write_fresh-requires
 write_fresh-requires c =
@@ -29,22 +29,22 @@ returns-in-Done c =
     let step = told in
     let s = step in
     let did = step.step-stepped.ensures in
-    let four : length s.args.asked.counts ≡ 4 = sym (length-map s.args.asked.counts _) ∙ s.well-formed.1.1.1.1.1.1.1.1.1.0.1.1.0.1.0.1 in record { happens = takes _ _ _ _ _ s.requires _ _ _ _ _ did.0 _ _ told.told-1.given.1 four _ _
+    let four : length s.args.asked.counts ≡ 4 = omega arith in record { happens = takes _ _ _ _ _ s.requires _ _ _ _ _ did.0 _ _ told.told-1.given.1 four _ _
           (taken_turn _ _ _ _ _ _ _ _ _ _ _ _ _ c.taken.ensures) c.write_fresh.ensures; looks = (taken_looks _ _ _ _ _ _ _ _ _ _ _ _ c.taken.ensures (looks _ _ _ _ _ s.requires _ _ _ _ _ did.0 _ _ told.told-1.given.1 _ _ did.1), taken_numbers _ _ _ _ _ s.requires _ _ _ _ _ _ _ _ _ c.taken.ensures c.newly-numbered.ensures); numbers =  }
 
 pub returns-in-Full : goal.returns-in-Full
 returns-in-Full c =
     let step = c in
-    let did = step.step-stepped.ensures in record { happens = refuses_full _ _ _ _ _ step.requires _ _ _ _ _ did.0 _ _ c.enum_told-1.given.1 (kept_turn _ _ _ _ _ _ _ _ c.refused.ensures) refl; looks = (kept_looks _ _ _ _ _ _ _ c.refused.ensures, kept_numbers _ _ _ _ _ _ _ c.refused.ensures); numbers =  }
+    let did = step.step-stepped.ensures in record { happens = refuses_full _ _ _ _ _ step.requires _ _ _ _ _ did.0 _ _ c.in-Full.is (kept_turn _ _ _ _ _ _ _ _ c.refused.ensures) refl; looks = (kept_looks _ _ _ _ _ _ _ c.refused.ensures, kept_numbers _ _ _ _ _ _ _ c.refused.ensures); numbers =  }
 
 pub returns-in-Bad : goal.returns-in-Bad
 returns-in-Bad c =
     let step = c in
-    let did = step.step-stepped.ensures in record { happens = refuses_bad _ _ _ _ _ step.requires _ _ _ _ _ did.0 _ _ c.enum_told-in-Bad-1.given.1 (kept_turn _ _ _ _ _ _ _ _ c.refused-in-Bad.ensures) refl; looks = (kept_looks _ _ _ _ _ _ _ c.refused-in-Bad.ensures, kept_numbers _ _ _ _ _ _ _ c.refused-in-Bad.ensures); numbers =  }
+    let did = step.step-stepped.ensures in record { happens = refuses_bad _ _ _ _ _ step.requires _ _ _ _ _ did.0 _ _ c.in-Bad.is (kept_turn _ _ _ _ _ _ _ _ c.refused-in-Bad.ensures) refl; looks = (kept_looks _ _ _ _ _ _ _ c.refused-in-Bad.ensures, kept_numbers _ _ _ _ _ _ _ c.refused-in-Bad.ensures); numbers =  }
 
 -- TODO record of ['happens', 'looks', 'numbers']
 pub returns-in-Unfit : goal.returns-in-Unfit
 returns-in-Unfit c =
     let step = c in
     let did = step.step-stepped.ensures in
-    never_unfit _ _ _ _ _ step.requires _ _ _ _ _ did.0 c.enum_told-in-Unfit-1.given.1
+    never_unfit _ _ _ _ _ step.requires _ _ _ _ _ did.0 c.in-Unfit.is

@@ -1,7 +1,5 @@
 use native.Mathlib.Omega.{arith}
-use Prim.Native.Nat.{◌-◌}
-use Rattle.numbers.proofs.CopyLaws.{Copied, copied_none, copied_more, copied_all}
-use borrow.Author.Rules.{rules}
+use Rattle.numbers.proofs.CopyLaws.{copied_none, copied_more, copied_all}
 use Rattle.numbers.proofs.asking.as_values.Goals as goal
 
 pub loop-t-init : goal.loop-t-init

@@ -1,8 +1,6 @@
 -- `as_values` meets its contract. The loop's invariant: the first t values are there. The measure is the count of values left. Assumes nothing.
-use native.Mathlib.Omega.{arith}
 use Prim.Native.Nat.{◌-◌}
-use Rattle.numbers.proofs.CopyLaws.{Copied, copied_none, copied_more, copied_all}
-use borrow.Author.Rules.{rules}
+use Rattle.numbers.proofs.CopyLaws.{Copied}
 use Rattle.numbers.proofs.asking.as_values.Given as goal
 
 abbrev pub invariant-loop-t : goal.invariant-loop-t

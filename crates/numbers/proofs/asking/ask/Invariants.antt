@@ -1,15 +1,7 @@
 -- `ask` meets its contract. The loop's invariant: the facts before f have asked. The measure is the count of facts left. Assumes nothing.
-use Prim.Native.Nat.{ℕ, ◌-◌, ◌≤◌, ◌<◌}
-use mathlib.Core.Path.{◌≡◌, sym, ◌∙◌}
-use native.Mathlib.Omega.{arith}
-use lib.ListN.{length, get_or, length-map}
-use Rattle.meaning.specs.Rows.{rule_of}
-use Rattle.numbers.specs.Asking.{Parted, part_of}
-use Rattle.numbers.proofs.PartLaws.{part_size}
-use Rattle.numbers.proofs.StartLaws.{most_le}
-use Rattle.numbers.proofs.FactsLaws.{Going, going_none, going_steady, going_next}
-use Rattle.numbers.proofs.AskedLaws.{eight, three, facts_inside, fact_is, asks_all}
-use borrow.Author.Rules.{rules}
+use Prim.Native.Nat.{◌-◌, ◌≤◌}
+use Rattle.numbers.specs.Asking.{part_of}
+use Rattle.numbers.proofs.FactsLaws.{Going}
 use Rattle.numbers.proofs.asking.ask.Given as goal
 
 abbrev pub invariant-loop-f : goal.invariant-loop-f

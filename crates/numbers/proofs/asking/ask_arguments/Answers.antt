@@ -1,13 +1,9 @@
 use native.Mathlib.Omega.{arith}
-use Prim.Native.Nat.{◌≤◌, ◌-◌}
 use mathlib.Core.Path.{sym, ◌∙◌}
-use lib.ListN.{take}
-use Rattle.meaning.specs.Numbering.{ask_arguments}
 use Rattle.meaning.specs.Outcome.{fact_of}
 use Rattle.numbers.specs.Matching.{arguments_of}
-use Rattle.numbers.specs.Asking.{sheet, Carried, AtPlaces, part_of}
+use Rattle.numbers.specs.Asking.{sheet, part_of}
 use Rattle.numbers.proofs.WalkLaws.{arguments_none, arguments_more, arguments_all}
-use borrow.Author.Rules.{rules}
 use Rattle.numbers.proofs.asking.ask_arguments.Goals as goal
 
 pub loop-j-init : goal.loop-j-init
@@ -15,7 +11,7 @@ loop-j-init c =
     let s = c in
     let a = s.args in (
       omega arith,
-      arguments_none a (part_of a.m a a.values.now) (fact_of a.fact).values a.rows.now a.i (arguments_of a.rows.now a.i a.fact.count) (sheet a.asked.counts a.fresh.now a.asked.numbers) s.requires.0,
+      arguments_none a.before (part_of a.m a.before a.values.now) (fact_of a.fact).values a.rows.now a.i (arguments_of a.rows.now a.i a.fact.count) (sheet a.asked.counts a.fresh.now a.asked.numbers) s.requires.0,
     )
 
 pub ask_argument-a-requires : goal.ask_argument-a-requires
@@ -29,7 +25,7 @@ loop-j-preserved c =
     let a = s.args in
     let l = c.loop-j in (
       omega arith,
-      arguments_more a (part_of a.m a a.values.now) a.rows.now a.i a.fact s.requires.2.readable l.j _ _ _ (omega arith) l.invariant.1 c.ask_argument-a.ensures,
+      arguments_more a.before (part_of a.m a.before a.values.now) a.rows.now a.i a.fact s.requires.2.readable l.j _ _ _ (omega arith) l.invariant.1 c.ask_argument-a.ensures,
     )
 
 pub shape_of-fresh : goal.shape_of-fresh
@@ -43,4 +39,4 @@ returns c =
     let s = c in
     let a = s.args in
     let l = c.loop-j in
-    arguments_all a (part_of a.m a a.values.now) a.rows.now a.i a.fact s.requires.2.readable l.j _ _ (omega arith) l.invariant.1
+    arguments_all a.before (part_of a.m a.before a.values.now) a.rows.now a.i a.fact s.requires.2.readable l.j _ _ (omega arith) l.invariant.1

@@ -1,15 +1,11 @@
 -- `ask_arguments` meets its contract. The loop's invariant: the first j arguments have asked. The measure is the count of arguments left.
 -- Assumes nothing.
-use native.Mathlib.Omega.{arith}
 use Prim.Native.Nat.{◌≤◌, ◌-◌}
-use mathlib.Core.Path.{sym, ◌∙◌}
 use lib.ListN.{take}
 use Rattle.meaning.specs.Numbering.{ask_arguments}
 use Rattle.meaning.specs.Outcome.{fact_of}
 use Rattle.numbers.specs.Matching.{arguments_of}
 use Rattle.numbers.specs.Asking.{sheet, Carried, AtPlaces, part_of}
-use Rattle.numbers.proofs.WalkLaws.{arguments_none, arguments_more, arguments_all}
-use borrow.Author.Rules.{rules}
 use Rattle.numbers.proofs.asking.ask_arguments.Given as goal
 
 abbrev pub invariant-loop-j : goal.invariant-loop-j

@@ -1,18 +1,14 @@
 -- `ask_fact` meets its contract. The loop's invariant: the rows before i have asked, and row i matches, if there is one. The measure is the count of
 -- rows left. Assumes nothing.
 use Prim.Native.Nat.{◌/◌, ◌-◌, ◌≤◌, ◌<◌}
-use mathlib.Core.Path.{◌≡◌, sym, ◌∙◌}
+use mathlib.Core.Path.{◌≡◌}
 use mathlib.Core.Bool.{true}
-use native.Mathlib.Omega.{arith}
 use lib.ListN.{length}
-use Rattle.meaning.specs.Rows.{row_at, count_of_rows, rule_of}
+use Rattle.meaning.specs.Rows.{row_at}
 use Rattle.meaning.specs.Outcome.{fact_of}
-use Rattle.numbers.specs.Matching.{matches_row, Sized}
-use Rattle.numbers.specs.Asking.{sheet, nothing_given, part_of}
-use Rattle.numbers.proofs.MatchingLaws.{sized_of}
-use Rattle.numbers.proofs.WalkLaws.{Rows, rows_none, rows_to, rows_next, asking_of}
-use Rattle.numbers.proofs.StartLaws.{row_right_law}
-use borrow.Author.Rules.{rules}
+use Rattle.numbers.specs.Matching.{matches_row}
+use Rattle.numbers.specs.Asking.{sheet, part_of}
+use Rattle.numbers.proofs.WalkLaws.{Rows}
 use Rattle.numbers.proofs.asking.ask_fact.Given as goal
 
 abbrev pub invariant-loop-i : goal.invariant-loop-i

@@ -4,7 +4,6 @@ use native.Mathlib.Omega.{arith}
 use lib.ListN.{length-take}
 use Rattle.numbers.proofs.PartLaws.{known_old, known_none, new_low, known_new}
 use Rattle.numbers.proofs.LookLaws.{told_is}
-use borrow.Author.Rules.{rules}
 use Rattle.numbers.proofs.asking.known.Goals as goal
 
 -- TODO no goal for slice-bounds-look-in-end
@@ -22,7 +21,7 @@ pub returns-then-old : goal.returns-then-old
 returns-then-old c =
     let s = c in
     let a = s.args in
-    known_old a.m a.t2 a.values.now a.t3 a.fresh.now a.v a.y.0 c.number_told-old.result.0 s.requires.1 s.requires.2 (told_is _ _ _ _ _ c.look_part.ensures c.number_told-old.ensures) c.if-old.true
+    known_old a.m a.before a.values.now a.counts a.fresh.now a.v a.y.0 c.number_told-old.result.0 s.requires.1 s.requires.2 (told_is _ _ _ _ _ c.look_part.ensures c.number_told-old.ensures) c.if-old.true
 
 pub overflow_sub-to : goal.overflow_sub-to
 overflow_sub-to c = c.requires.3
@@ -42,17 +41,17 @@ pub returns-then-new : goal.returns-then-new
 returns-then-new c =
     let s = c in
     let a = s.args in
-    c.if-new.true ∙ known_none a.m a.t2 a.values.now a.t3 a.fresh.now a.v a.y.0 c.number_told-old.result.0 s.requires.1 s.requires.2 (told_is _ _ _ _ _ c.look_part.ensures c.number_told-old.ensures) c.if-old.false s.requires.4 c.number_told-new.result.0 (told_is _ _ _ _ _ c.look_in.ensures c.number_told-new.ensures) c.if-new.true
+    c.if-new.true ∙ known_none a.m a.before a.values.now a.counts a.fresh.now a.v a.y.0 c.number_told-old.result.0 s.requires.1 s.requires.2 (told_is _ _ _ _ _ c.look_part.ensures c.number_told-old.ensures) c.if-old.false s.requires.4 c.number_told-new.result.0 (told_is _ _ _ _ _ c.look_in.ensures c.number_told-new.ensures) c.if-new.true
 
 pub overflow_add-result : goal.overflow_add-result
 overflow_add-result c =
     let s = c in
     let a = s.args in
-    let n = new_low a.m a.t2 a.values.now a.t3 a.fresh.now a.v a.y.0 c.number_told-old.result.0 s.requires.1 s.requires.2 (told_is _ _ _ _ _ c.look_part.ensures c.number_told-old.ensures) c.if-old.false s.requires.4 c.number_told-new.result.0 (told_is _ _ _ _ _ c.look_in.ensures c.number_told-new.ensures) c.if-new.false in
+    let n = new_low a.m a.before a.values.now a.counts a.fresh.now a.v a.y.0 c.number_told-old.result.0 s.requires.1 s.requires.2 (told_is _ _ _ _ _ c.look_part.ensures c.number_told-old.ensures) c.if-old.false s.requires.4 c.number_told-new.result.0 (told_is _ _ _ _ _ c.look_in.ensures c.number_told-new.ensures) c.if-new.false in
     omega (arith, n, s.requires.1.counts_fit a.v s.requires.2, s.requires.1.small)
 
 pub returns : goal.returns
 returns c =
     let s = c in
     let a = s.args in
-    known_new a.m a.t2 a.values.now a.t3 a.fresh.now a.v a.y.0 c.number_told-old.result.0 s.requires.1 s.requires.2 (told_is _ _ _ _ _ c.look_part.ensures c.number_told-old.ensures) c.if-old.false s.requires.4 c.number_told-new.result.0 (told_is _ _ _ _ _ c.look_in.ensures c.number_told-new.ensures) c.if-new.false
+    known_new a.m a.before a.values.now a.counts a.fresh.now a.v a.y.0 c.number_told-old.result.0 s.requires.1 s.requires.2 (told_is _ _ _ _ _ c.look_part.ensures c.number_told-old.ensures) c.if-old.false s.requires.4 c.number_told-new.result.0 (told_is _ _ _ _ _ c.look_in.ensures c.number_told-new.ensures) c.if-new.false

@@ -1,14 +1,9 @@
 use native.Mathlib.Omega.{arith}
-use Prim.Native.Nat.{ℕ, ◌≤◌, ◌<◌, ◌-◌, ◌/◌}
 use mathlib.Core.Path.{◌≡◌, ap, sym, ◌∙◌}
-use mathlib.Core.Bool.{false}
 use mathlib.Core.Logic.{⊎_elim}
-use lib.ListN.{length}
 use Rattle.trees.proofs.Tests.{lt_or_ge}
-use Rattle.meaning.specs.Rows.{row_at}
 use Rattle.meaning.specs.Outcome.{fact_of}
 use Rattle.numbers.specs.Matching.{matches_row}
-use borrow.Author.Rules.{rules}
 use Rattle.numbers.proofs.asking.next_match.Goals as goal
 
 pub loop-i-init : goal.loop-i-init
@@ -27,7 +22,7 @@ returns-then-matches c =
       later = l.invariant.0;
       within = l.invariant.1;
       skipped = l.invariant.2;
-      matches = λ h. sym (c.matches.ensures ∙ ap (matches_row (fact_of c.args.fact)) c.row_at_law.ensures.says) ∙ c.if-matches.true;
+      matches = λ h. sym (c.matches.ensures ∙ ap (matches_row (fact_of c.args.fact)) c.row_at-row.ensures.says) ∙ c.if-matches.true;
     }
 
 pub loop-i-preserved : goal.loop-i-preserved
@@ -37,7 +32,7 @@ loop-i-preserved c =
       λ h. omega arith,
       λ j h k. ⊎_elim
           (λ p. l.invariant.2 j h p)
-          (λ p. let z : j ≡ l.i = omega arith in rw z (sym (c.matches.ensures ∙ ap (matches_row (fact_of c.args.fact)) c.row_at_law.ensures.says) ∙ c.if-matches.false))
+          (λ p. let z : j ≡ l.i = omega arith in rw z (sym (c.matches.ensures ∙ ap (matches_row (fact_of c.args.fact)) c.row_at-row.ensures.says) ∙ c.if-matches.false))
           (lt_or_ge j l.i),
     )
 

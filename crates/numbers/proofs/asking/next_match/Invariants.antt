@@ -1,15 +1,11 @@
 -- `next_match` meets its contract. The loop's invariant: no row passed matches. The measure is the count of rows left. Assumes nothing.
-use native.Mathlib.Omega.{arith}
 use Prim.Native.Nat.{ℕ, ◌≤◌, ◌<◌, ◌-◌, ◌/◌}
-use mathlib.Core.Path.{◌≡◌, ap, sym, ◌∙◌}
+use mathlib.Core.Path.{◌≡◌}
 use mathlib.Core.Bool.{false}
-use mathlib.Core.Logic.{⊎_elim}
 use lib.ListN.{length}
-use Rattle.trees.proofs.Tests.{lt_or_ge}
 use Rattle.meaning.specs.Rows.{row_at}
 use Rattle.meaning.specs.Outcome.{fact_of}
 use Rattle.numbers.specs.Matching.{matches_row}
-use borrow.Author.Rules.{rules}
 use Rattle.numbers.proofs.asking.next_match.Given as goal
 
 abbrev pub invariant-loop-i : goal.invariant-loop-i

@@ -6,7 +6,6 @@ use lib.ListN.{get_or}
 use Rattle.meaning.specs.Outcome.{fact_of}
 use Rattle.numbers.specs.Asking.{part_of}
 use Rattle.numbers.proofs.SheetLaws.{noted_old, noted_known, new_inside, noted_new}
-use borrow.Author.Rules.{rules}
 use Rattle.numbers.proofs.asking.note.Goals as goal
 use Rattle.numbers.proofs.asking.note.Goals.{Else-found, Start}
 
@@ -15,17 +14,17 @@ place : (s : Start) → s.args.j < 3
 place s = omega (arith, s.requires.4, s.requires.2.few)
 
 -- there is a place for one more value
-fits : (c : Else-found) → let a = c.args in 24 * a.v + (get_or a.a.counts a.v 0 - get_or a.t2 a.v 0) < 96
+fits : (c : Else-found) → let a = c.args in 24 * a.v + (get_or a.a.counts a.v 0 - get_or a.before a.v 0) < 96
 fits c =
     let s = c in
     let a = s.args in
-    new_inside a.t2 (part_of a.m a.t2 a.values.now) (fact_of a.fact).values a.a.counts a.fresh.now a.a.numbers a.v a.j s.requires.0 s.requires.3 (place s) c.value_at-y.result.0 c.if-had.false c.value_at-y.ensures (sym c.known-found.ensures ∙ c.if-found.false)
+    new_inside a.before (part_of a.m a.before a.values.now) (fact_of a.fact).values a.a.counts a.fresh.now a.a.numbers a.v a.j s.requires.0 s.requires.3 (omega (arith, s.requires.4, s.requires.2.few)) c.value_at-y.result.0 c.if-had.false c.value_at-y.ensures (sym c.known-found.ensures ∙ c.if-found.false)
 
 pub returns-then-had : goal.returns-then-had
 returns-then-had c =
     let s = c in
     let a = s.args in
-    noted_old a.t2 (part_of a.m a.t2 a.values.now) (fact_of a.fact).values a.a.counts a.fresh.now a.a.numbers a.v a.j s.requires.0 s.requires.3 (place s) c.if-had.true
+    noted_old a.before (part_of a.m a.before a.values.now) (fact_of a.fact).values a.a.counts a.fresh.now a.a.numbers a.v a.j s.requires.0 s.requires.3 (place (goal.at.returns-then-had c).Start) c.if-had.true
 
 pub value_at-y-requires : goal.value_at-y-requires
 value_at-y-requires c =
@@ -41,7 +40,7 @@ pub returns-then-found : goal.returns-then-found
 returns-then-found c =
     let s = c in
     let a = s.args in
-    noted_known a.t2 (part_of a.m a.t2 a.values.now) (fact_of a.fact).values a.a.counts a.fresh.now a.a.numbers a.v a.j s.requires.0 s.requires.3 (place s) c.value_at-y.result.0 c.if-had.false c.value_at-y.ensures c.known-found.result c.if-found.true c.known-found.ensures
+    noted_known a.before (part_of a.m a.before a.values.now) (fact_of a.fact).values a.a.counts a.fresh.now a.a.numbers a.v a.j s.requires.0 s.requires.3 (place (goal.at.returns-then-found c).Start) c.value_at-y.result.0 c.if-had.false c.value_at-y.ensures c.known-found.result c.if-found.true c.known-found.ensures
 
 pub overflow_add-counts : goal.overflow_add-counts
 overflow_add-counts c =
@@ -69,4 +68,4 @@ pub returns : goal.returns
 returns c =
     let s = c in
     let a = s.args in
-    noted_new a.t2 (part_of a.m a.t2 a.values.now) (fact_of a.fact).values a.a.counts a.fresh.now a.a.numbers a.v a.j s.requires.0 s.requires.3 (place s) c.value_at-y.result.0 c.if-had.false c.value_at-y.ensures (sym c.known-found.ensures ∙ c.if-found.false)
+    noted_new a.before (part_of a.m a.before a.values.now) (fact_of a.fact).values a.a.counts a.fresh.now a.a.numbers a.v a.j s.requires.0 s.requires.3 (place (goal.at.returns c).Start) c.value_at-y.result.0 c.if-had.false c.value_at-y.ensures (sym c.known-found.ensures ∙ c.if-found.false)

@@ -1,8 +1,6 @@
 use native.Mathlib.Omega.{arith}
-use Prim.Native.Nat.{ℕ, ◌≤◌, ◌<◌, ◌-◌}
-use mathlib.Core.Path.{◌≡◌, sym}
+use mathlib.Core.Path.{sym}
 use borrow.Author.Count.{below_more}
-use lib.ListN.{length, get_or}
 use Rattle.numbers.proofs.LookLaws.{looked_first, looked_left, looked_none}
 use borrow.Author.Rules.{rules}
 use Rattle.numbers.proofs.looking.look_in.Goals as goal

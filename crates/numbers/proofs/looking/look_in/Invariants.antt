@@ -1,11 +1,7 @@
 -- `look_in` meets its contract. The loop's invariant: no place before i has y. The measure is what is left of the list. Assumes nothing.
-use native.Mathlib.Omega.{arith}
 use Prim.Native.Nat.{ℕ, ◌≤◌, ◌<◌, ◌-◌}
-use mathlib.Core.Path.{◌≡◌, sym}
-use borrow.Author.Count.{below_more}
+use mathlib.Core.Path.{◌≡◌}
 use lib.ListN.{length, get_or}
-use Rattle.numbers.proofs.LookLaws.{looked_first, looked_left, looked_none}
-use borrow.Author.Rules.{rules}
 use Rattle.numbers.proofs.looking.look_in.Given as goal
 
 abbrev pub invariant-loop-i : goal.invariant-loop-i

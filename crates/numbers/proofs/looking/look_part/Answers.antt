@@ -7,26 +7,25 @@ use lib.ListN.{get_or, length-take}
 use Rattle.numbers.specs.Looking.{looked_up}
 use Rattle.numbers.proofs.PartLaws.{part_inside}
 use Rattle.numbers.proofs.LookLaws.{piece}
-use borrow.Author.Rules.{rules}
 use Rattle.numbers.proofs.looking.look_part.Goals as goal
 use Rattle.numbers.proofs.looking.look_part.Goals.{Start}
 
 -- the part of v ends within the value slice
-within : (s : Start) → s.args.v * s.args.m + get_or s.args.t2 s.args.v 0 ≤ 4 * s.args.m
-within s = part_inside s.args.v s.args.m (get_or s.args.t2 s.args.v 0) s.requires.2 s.requires.3
+within : (s : Start) → s.args.v * s.args.m + get_or s.args.counts s.args.v 0 ≤ 4 * s.args.m
+within s = part_inside s.args.v s.args.m (get_or s.args.counts s.args.v 0) s.requires.2 s.requires.3
 
 -- TODO no goal for slice-bounds-look-in-end
 -- part-look-in-end : tie.Need-slice-bounds-look-in-end
 -- part-look-in-end c = let s = c in omega (arith, within s, s.requires.1)
 
 pub overflow_mul-at : goal.overflow_mul-at
-overflow_mul-at c = let s = c in omega (arith, within s, s.requires.0)
+overflow_mul-at c = let s = c in omega (arith, within (goal.at.overflow_mul-at c).Start, s.requires.0)
 
 pub overflow_add-end : goal.overflow_add-end
-overflow_add-end c = let s = c in omega (arith, within s, s.requires.0)
+overflow_add-end c = let s = c in omega (arith, within (goal.at.overflow_add-end c).Start, s.requires.0)
 
 pub offset_bounds-values-at : goal.offset_bounds-values-at
-offset_bounds-values-at c = let s = c in omega (arith, within s, s.requires.0)
+offset_bounds-values-at c = let s = c in omega (arith, within (goal.at.offset_bounds-values-at c).Start, s.requires.0)
 
 pub look_in-requires : goal.look_in-requires
 look_in-requires c =
@@ -36,4 +35,4 @@ look_in-requires c =
 pub returns : goal.returns
 returns c =
     let a = c.args in
-    c.look_in.ensures ∙ ap (λ (xs : List ℕ). looked_up a.m xs a.y.0) (piece a.m a.t2 a.values.now a.v)
+    c.look_in.ensures ∙ ap (λ (xs : List ℕ). looked_up a.m xs a.y.0) (piece a.m a.counts a.values.now a.v)

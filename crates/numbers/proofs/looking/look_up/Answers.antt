@@ -1,7 +1,5 @@
 -- `look_up` meets its contract: there is nothing to look in, or the part is. Assumes nothing.
 use mathlib.Core.Path.{sym, ◌∙◌}
-use native.Mathlib.Omega.{arith}
-use borrow.Author.Rules.{rules}
 use borrow.Author.Tests.{not-true, not-false}
 use Rattle.numbers.proofs.LookLaws.{few_bits, inside, looks_in, misfit}
 use Rattle.numbers.proofs.looking.look_up.Goals as goal

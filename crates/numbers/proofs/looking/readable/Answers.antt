@@ -1,6 +1,5 @@
 -- `readable` meets its contract: each return by the tests that led there. Assumes nothing.
 use native.Mathlib.Omega.{arith}
-use borrow.Author.Rules.{rules}
 use Rattle.numbers.proofs.StartLaws.{most_le}
 use Rattle.numbers.proofs.LookLaws.{no_k, large_k, no_parts, no_variable, counted}
 use Rattle.numbers.proofs.looking.readable.Goals as goal

@@ -2,7 +2,6 @@
 use mathlib.Core.Path.{sym, ◌∙◌}
 use Rattle.rule.specs.Decoded.{argument_of}
 use Rattle.numbers.proofs.FitLaws.{fits_none, fits_off, fits_one, fits_two, fits_second, fits_all}
-use borrow.Author.Rules.{rules}
 use borrow.Author.Tests.{not-true, not-false}
 use Rattle.numbers.proofs.matching.all_fit.Goals as goal
 

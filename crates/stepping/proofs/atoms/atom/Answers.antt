@@ -20,7 +20,7 @@ overflow_cast-count c = omega (arith, c.requires.1)
 pub loop-f-init : goal.loop-f-init
 loop-f-init c =
     let s = c in
-    (s.requires.1, omega arith, sym (length-map s.args.event.facts _) ∙ s.well-formed.1.1.1.1.1.1.1.0.1.1.1.0.1.0.1, refl, turning_none _ _ s.requires.3)
+    (s.requires.1, omega arith, omega arith, refl, turning_none _ _ s.requires.3)
 
 pub offset_bounds-facts-f : goal.offset_bounds-facts-f
 offset_bounds-facts-f c = omega (arith, c.loop-f.invariant.0)
@@ -42,10 +42,10 @@ take_turn-requires c =
     record { shelf = v.kept.desk.shelf; k_bound = (omega (arith, c.requires.0), v.below, takes v.over c.turn-turn.result (rw c.turn-turn.ensures (shaped (row_of s.args.read) s.args.given.now c.matches-matched.result _))) }
 
 pub shape_of-nodes-in_default : goal.shape_of-nodes-in_default
-shape_of-nodes-in_default c = c.take_turn.auto.0 ∙ c.loop-f.invariant.4.size
+shape_of-nodes-in_default c = c.take_turn.auto.nodes ∙ c.loop-f.invariant.4.size
 
 pub shape_of-work-in_default : goal.shape_of-work-in_default
-shape_of-work-in_default c = c.take_turn.auto.1.0 ∙ c.loop-f.invariant.3
+shape_of-work-in_default c = c.take_turn.auto.work ∙ c.loop-f.invariant.3
 
 pub returns-in_default : goal.returns-in_default
 returns-in_default c =
@@ -55,8 +55,8 @@ returns-in_default c =
     let few = c.loop-f-test.true in
     let t = turn_is (row_of s.args.read) s.args.event s.args.given.now l.f no_fact few (omega (arith, l.invariant.0, l.invariant.2)) c.turn-turn.ensures c.matches-matched.ensures refl in
     let h : l.f < length (turns_to (row_of s.args.read) s.args.event s.args.given.now s.args.event.count) = omega (arith, few, turns_length (row_of s.args.read) s.args.event s.args.given.now s.args.event.count) in
-    let g = desk_added l.invariant.4.kept.desk done.new.1.0 done.new.0 _ done.result done.ensures in
-    turning_short l.invariant.4 h (rw (c.enum_told-1.given.1, t) at g)
+    let g = desk_added l.invariant.4.kept.desk done.new.work done.new.nodes _ done.result done.ensures in
+    turning_short l.invariant.4 h (rw (c.in_default.is, t) at g)
 
 pub overflow_add-f : goal.overflow_add-f
 overflow_add-f c = omega (arith, c.loop-f.invariant.0, c.loop-f-test.true)
@@ -72,9 +72,9 @@ loop-f-preserved c =
     let few = c.loop-f-test.true in
     let t = turn_is (row_of s.args.read) s.args.event s.args.given.now l.f no_fact few (omega (arith, l.invariant.0, l.invariant.2)) c.turn-turn.ensures c.matches-matched.ensures refl in
     let h : l.f < length (turns_to (row_of s.args.read) s.args.event s.args.given.now s.args.event.count) = omega (arith, few, turns_length (row_of s.args.read) s.args.event s.args.given.now s.args.event.count) in
-    let g = desk_added l.invariant.4.kept.desk done.new.1.0 done.new.0 _ done.result done.ensures in
-    let q = rw (c.m1-1.given.1, t) at g in
-    (l.invariant.0, omega (arith, few), l.invariant.2, done.auto.1.0 ∙ l.invariant.3, rw (add-one l.f) (turning_more l.invariant.4 h (rw (← t, c.turn-turn.ensures) (shaped (row_of s.args.read) s.args.given.now _ l.f)) q.0 q.1))
+    let g = desk_added l.invariant.4.kept.desk done.new.work done.new.nodes _ done.result done.ensures in
+    let q = rw (c.in-At.is, t) at g in
+    (l.invariant.0, omega (arith, few), l.invariant.2, done.auto.work ∙ l.invariant.3, rw (add-one l.f) (turning_more l.invariant.4 h (rw (← t, c.turn-turn.ensures) (shaped (row_of s.args.read) s.args.given.now _ l.f)) q.0 q.1))
 
 pub shape_of-nodes : goal.shape_of-nodes
 shape_of-nodes c = c.loop-f.invariant.4.size

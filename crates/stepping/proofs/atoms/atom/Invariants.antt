@@ -19,7 +19,7 @@ use Rattle.stepping.proofs.atoms.atom.Given as goal
 abbrev pub invariant-loop-f : goal.invariant-loop-f
 invariant-loop-f l =
     (l.count ≤ 8) × (l.f ≤ l.count) × (length l.facts ≡ 8) × (length l.work ≡ length l.initial.work)
-    × Turning l.k (turns_to (row_of l.read) (record { l.count = l.count; l.facts = l.facts }) l.given l.count) (places (row_of l.read) l.given) l.initial.nodes l.n l.nodes l.m l.r l.f l.initial.work l.work l.c l.slots
+    × Turning l.k (turns_to (row_of l.read) (record { count = l.count; facts = l.facts }) l.given l.count) (places (row_of l.read) l.given) l.initial.nodes l.n l.nodes l.m l.r l.f l.initial.work l.work l.c l.slots
 
 abbrev pub decreases-loop-f : goal.decreases-loop-f
 decreases-loop-f l = l.count - l.f

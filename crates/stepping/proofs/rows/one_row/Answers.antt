@@ -18,7 +18,7 @@ returns-then-is_atom c =
     let s = c in
     let done = c.atom in
     let e = asked_atom (row_of s.args.read) s.args.event s.args.given.now (sym c.is_atom.ensures ∙ c.if-is_atom.true) in
-    rw (e, c.uncounted.ensures) (row_facts s.args.k s.args.olds.now s.args.news.now s.args.i s.requires.k_bound.2 done.new.0 done.new.1.0 _ done.result done.ensures)
+    rw (e, c.uncounted.ensures) (row_facts s.args.k s.args.olds.now s.args.news.now s.args.i s.requires.k_bound.2 done.new.nodes done.new.work _ done.result done.ensures)
 
 pub returns : goal.returns
 returns c =

@@ -48,18 +48,18 @@ one_row-requires c =
     record { k_bound = (s.requires.k_bound.0, s.requires.k_bound.2, t.desk); leads = (t.old_lead, t.new_lead, s.requires.k_bound.3) }
 
 pub shape_of-nodes-in_default : goal.shape_of-nodes-in_default
-shape_of-nodes-in_default c = c.one_row.auto.0 ∙ c.loop-i.invariant.3.size
+shape_of-nodes-in_default c = c.one_row.auto.nodes ∙ c.loop-i.invariant.3.size
 
 pub shape_of-work-in_default : goal.shape_of-work-in_default
-shape_of-work-in_default c = c.one_row.auto.1.0 ∙ c.loop-i.invariant.2
+shape_of-work-in_default c = c.one_row.auto.work ∙ c.loop-i.invariant.2
 
 pub returns-in_default : goal.returns-in_default
 returns-in_default c =
     let s = c in
     let l = c.loop-i in
     let h : l.i < length s.args.rows.now / 9 = omega (arith, l.invariant.0, c.loop-i-test.true) in
-    let x = reads s.args.rows.now s.args.event s.args.given.now l.i h c.row_at_law.ensures.whole in
-    through_short s.args.k (planned s.args.rows.now s.args.event s.args.given.now) _ s.args.nodes.now s.args.kept l.invariant.3 (count_of_rows s.args.rows.now) (omega (arith, count_is s.args.rows.now)) (rw (c.enum_told-1.given.1, x) at c.one_row.ensures)
+    let x = reads s.args.rows.now s.args.event s.args.given.now l.i h c.row_at-read.ensures.whole in
+    through_short s.args.k (planned s.args.rows.now s.args.event s.args.given.now) _ s.args.nodes.now s.args.kept l.invariant.3 (count_of_rows s.args.rows.now) (omega (arith, count_is s.args.rows.now)) (rw (c.in_default.is, x) at c.one_row.ensures)
 
 pub offset_bounds-news-i : goal.offset_bounds-news-i
 offset_bounds-news-i c = omega (arith, few_rows _ c.requires.k_bound.1, c.loop-i.invariant.0, c.loop-i-test.true)
@@ -72,8 +72,8 @@ overflow_add-visits c =
     let s = c in
     let l = c.loop-i in
     let h : l.i < length s.args.rows.now / 9 = omega (arith, l.invariant.0, c.loop-i-test.true) in
-    let x = reads s.args.rows.now s.args.event s.args.given.now l.i h c.row_at_law.ensures.whole in
-    let g = rw (c.m-1.given.1, x) at c.one_row.ensures in
+    let x = reads s.args.rows.now s.args.event s.args.given.now l.i h c.row_at-read.ensures.whole in
+    let g = rw (c.in-At.is, x) at c.one_row.ensures in
     let t = through_more s.args.k (planned s.args.rows.now s.args.event s.args.given.now) _ s.args.nodes.now s.args.kept l.invariant.3 g.0 (omega (arith, few_rows _ s.requires.k_bound.1)) _ g.1 g.2 in
     omega (arith, t.tally.small, few_rows _ s.requires.k_bound.1)
 
@@ -88,10 +88,10 @@ loop-i-preserved c =
     let s = c in
     let l = c.loop-i in
     let h : l.i < length s.args.rows.now / 9 = omega (arith, l.invariant.0, c.loop-i-test.true) in
-    let x = reads s.args.rows.now s.args.event s.args.given.now l.i h c.row_at_law.ensures.whole in
-    let g = rw (c.m-1.given.1, x) at c.one_row.ensures in
+    let x = reads s.args.rows.now s.args.event s.args.given.now l.i h c.row_at-read.ensures.whole in
+    let g = rw (c.in-At.is, x) at c.one_row.ensures in
     let t = through_more s.args.k (planned s.args.rows.now s.args.event s.args.given.now) _ s.args.nodes.now s.args.kept l.invariant.3 g.0 (omega (arith, few_rows _ s.requires.k_bound.1)) _ g.1 g.2 in
-    (l.invariant.0, omega (arith, c.loop-i-test.true), c.one_row.auto.1.0 ∙ l.invariant.2, t)
+    (l.invariant.0, omega (arith, c.loop-i-test.true), c.one_row.auto.work ∙ l.invariant.2, t)
 
 pub shape_of-nodes : goal.shape_of-nodes
 shape_of-nodes c = c.loop-i.invariant.3.size

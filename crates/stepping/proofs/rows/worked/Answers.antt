@@ -3,7 +3,6 @@ use Prim.Native.Nat.{◌+◌, ◌*◌, ◌-◌, ◌/◌}
 use mathlib.Core.Path.{refl, ◌∙◌}
 use native.Mathlib.Omega.{arith}
 use lib.ListN.{length}
-use borrow.Author.Rules.{rules}
 use borrow.Rule.Slice.PartMut.{put_mid}
 use Rattle.meaning.specs.Rows.{count_of_rows}
 use Rattle.instructions.specs.Planned.{planned}
@@ -15,12 +14,15 @@ use Rattle.stepping.proofs.rows.worked.Goals as goal
 
 pub work_rows-x-requires : goal.work_rows-x-requires
 work_rows-x-requires c =
-    let s = c in
-    let f = s.requires.fits in
-    let r = s.requires.ready.0 in
+    let f = c.requires.fits in
+    let r = c.requires.ready.0 in
     let few = c.slots_for-slots.ensures in
     let z = c.zero.ensures in
-    record { k_bound = (f.most, s.requires.rows_value.0, s.requires.rows_value.1, s.requires.rows_value.2, desk_ready f r s.requires.ready.1 _ few.0 few.1 z); leads = (r.leads, refl); by_index = (r.none, fresh_ready f r _ z) }
+    record {
+      k_bound = (f.most, c.requires.rows_value.0, c.requires.rows_value.1, c.requires.rows_value.2, desk_ready f r c.requires.ready.1 _ few.0 few.1 z);
+      leads = (r.leads, refl);
+      by_index = (r.none, fresh_ready f r _ z);
+    }
 
 pub overflow_mul-c-then-x : goal.overflow_mul-c-then-x
 overflow_mul-c-then-x c = omega (arith, c.requires.fits.small)
@@ -31,26 +33,22 @@ overflow_add-c-then-x c = omega (arith, c.requires.fits.small)
 pub zero-requires-then-x-2 : goal.zero-requires-then-x-2
 zero-requires-then-x-2 c =
     let rows = c.work_rows-x in
-    let s = c in
-    let f = s.requires.fits in
-    let back = lent_back s.args.nodes.now f _ c.slots_for-slots.ensures.1 c.zero.ensures rows.new.1.0 rows.auto.1.0 in
+    let f = c.requires.fits in
+    let back = lent_back c.args.nodes.now f _ c.slots_for-slots.ensures.1 c.zero.ensures rows.new.work rows.auto.work in
     omega (arith, f.room, back.1)
 
-pub refused-requires : goal.refused-requires
-refused-requires c = tt
-
--- TODO record of ['leaves', 'visits']
 pub returns-then-x : goal.returns-then-x
 returns-then-x c =
+    let s = c.args in
     let rows = c.work_rows-x in
-    let s = c in
-    let f = s.requires.fits in
-    let back = lent_back s.args.nodes.now f _ c.slots_for-slots.ensures.1 c.zero.ensures rows.new.1.0 rows.auto.1.0 in
-    rw c.refused.ensures (
-      full_leaves s.args.k (count_of_rows s.args.rows.now) (planned s.args.rows.now s.args.event s.args.given.now) s.args.refs.now s.args.kept s.args.nodes.now s.args.work.now f s.args.sizes.now s.requires.ready.0 (rw c.if-x.true at rows.ensures) c.zero-then-x.ensures
-          (cleared_is (length s.args.nodes.now / 3) s.args.work.now f.room (rest_more back.0 (omega arith)) back.1 c.zero-then-x-2.ensures),
-      (refl, refl),
-    )
+    let f = c.requires.fits in
+    let back = lent_back s.nodes.now f _ c.slots_for-slots.ensures.1 c.zero.ensures rows.new.work rows.auto.work in
+    rw c.refused.ensures
+    (record {
+      leaves = full_leaves s.k (count_of_rows s.rows.now) (planned s.rows.now s.event s.given.now) s.refs.now s.kept s.nodes.now s.work.now f s.sizes.now c.requires.ready.0 (rw c.if-x.true at rows.ensures) c.zero-then-x.ensures
+          (cleared_is (length s.nodes.now / 3) s.work.now f.room (rest_more back.0 (omega arith)) back.1 c.zero-then-x-2.ensures);
+      visits = (refl, refl);
+    })
 
 pub overflow_cast-count : goal.overflow_cast-count
 overflow_cast-count c = omega (arith, few_rows _ c.requires.rows_value.0)
@@ -58,24 +56,24 @@ overflow_cast-count c = omega (arith, few_rows _ c.requires.rows_value.0)
 pub renew-y-requires : goal.renew-y-requires
 unfolding count_of_rows
 renew-y-requires c =
+    let s = c.args in
     let rows = c.work_rows-x in
-    let s = c in
-    let f = s.requires.fits in
-    let back = lent_back s.args.nodes.now f _ c.slots_for-slots.ensures.1 c.zero.ensures rows.new.1.0 rows.auto.1.0 in
-    let t = sweep_ready s.args.k (count_of_rows s.args.rows.now) (planned s.args.rows.now s.args.event s.args.given.now) s.args.refs.now s.args.kept s.args.nodes.now s.args.work.now f (rw c.if-x.false at rows.ensures) (put_mid 0 (15 * (length s.args.nodes.now / 3) - 0) c.zero.new.0 rows.new.1.0) back.1 s.requires.ready.0 in
+    let f = c.requires.fits in
+    let back = lent_back s.nodes.now f _ c.slots_for-slots.ensures.1 c.zero.ensures rows.new.work rows.auto.work in
+    let t = sweep_ready s.k (count_of_rows s.rows.now) (planned s.rows.now s.event s.given.now) s.refs.now s.kept s.nodes.now s.work.now f (rw c.if-x.false at rows.ensures) (put_mid 0 (15 * (length s.nodes.now / 3) - 0) c.zero.new.xs rows.new.work) back.1 c.requires.ready.0 in
     record { table = t.0; nodes_len = t.1; awaits = t.2; rows = t.3 }
 
 pub sizes-requires : goal.sizes-requires
 unfolding count_of_rows
 sizes-requires c =
+    let s = c.args in
     let swept = c.renew-y in
     let rows = c.work_rows-x in
-    let s = c in
-    let f = s.requires.fits in
-    let back = lent_back s.args.nodes.now f _ c.slots_for-slots.ensures.1 c.zero.ensures rows.new.1.0 rows.auto.1.0 in
+    let f = c.requires.fits in
+    let back = lent_back s.nodes.now f _ c.slots_for-slots.ensures.1 c.zero.ensures rows.new.work rows.auto.work in
     let t = rw c.if-x.false at rows.ensures in
-    let asked = sizes_ready s.args.k (count_of_rows s.args.rows.now) (planned s.args.rows.now s.args.event s.args.given.now) s.args.refs.now s.args.kept s.args.nodes.now s.args.work.now f t swept.ensures swept.auto.0 (swept.auto.1.1.0 ∙ back.1) in
-    record { table = asked.0; kept_in_bounds = (asked.1, omega (arith, s.requires.rows_value.3, t.new_lead.wide)) }
+    let asked = sizes_ready s.k (count_of_rows s.rows.now) (planned s.rows.now s.event s.given.now) s.refs.now s.kept s.nodes.now s.work.now f t swept.ensures swept.auto.nodes (swept.auto.work ∙ back.1) in
+    record { table = asked.0; kept_in_bounds = (asked.1, omega (arith, c.requires.rows_value.3, t.new_lead.wide)) }
 
 pub overflow_mul-c-4 : goal.overflow_mul-c-4
 overflow_mul-c-4 c = omega (arith, c.requires.fits.small)
@@ -86,29 +84,32 @@ overflow_add-c-2 c = omega (arith, c.requires.fits.small)
 pub zero-requires-2 : goal.zero-requires-2
 zero-requires-2 c =
     let rows = c.work_rows-x in
-    let s = c in
-    let f = s.requires.fits in
-    let back = lent_back s.args.nodes.now f _ c.slots_for-slots.ensures.1 c.zero.ensures rows.new.1.0 rows.auto.1.0 in
-    omega (arith, f.room, back.1, c.renew-y.auto.1.1.0, c.sizes.auto.1.1.1.1.0)
+    let f = c.requires.fits in
+    let back = lent_back c.args.nodes.now f _ c.slots_for-slots.ensures.1 c.zero.ensures rows.new.work rows.auto.work in
+    omega (arith, f.room, back.1, c.renew-y.auto.work, c.sizes.auto.work)
 
 pub shape_of-work : goal.shape_of-work
 shape_of-work c =
     let rows = c.work_rows-x in
-    let s = c in
-    let f = s.requires.fits in
-    let back = lent_back s.args.nodes.now f _ c.slots_for-slots.ensures.1 c.zero.ensures rows.new.1.0 rows.auto.1.0 in
-    c.zero-2.auto.0 ∙ c.sizes.auto.1.1.1.1.0 ∙ c.renew-y.auto.1.1.0 ∙ back.1
+    let back = lent_back c.args.nodes.now c.requires.fits _ c.slots_for-slots.ensures.1 c.zero.ensures rows.new.work rows.auto.work in
+    c.zero-2.auto.xs ∙ c.sizes.auto.work ∙ c.renew-y.auto.work ∙ back.1
 
 pub returns : goal.returns
 unfolding count_of_rows
 returns c =
+    let s = c.args in
     let swept = c.renew-y in
     let found = c.sizes in
     let rows = c.work_rows-x in
-    let s = c in
-    let f = s.requires.fits in
-    let back = lent_back s.args.nodes.now f _ c.slots_for-slots.ensures.1 c.zero.ensures rows.new.1.0 rows.auto.1.0 in
+    let f = c.requires.fits in
+    let back = lent_back s.nodes.now f _ c.slots_for-slots.ensures.1 c.zero.ensures rows.new.work rows.auto.work in
     let t = rw c.if-x.false at rows.ensures in
-    let ready = sweep_ready s.args.k (count_of_rows s.args.rows.now) (planned s.args.rows.now s.args.event s.args.given.now) s.args.refs.now s.args.kept s.args.nodes.now s.args.work.now f t (put_mid 0 (15 * (length s.args.nodes.now / 3) - 0) c.zero.new.0 rows.new.1.0) back.1 s.requires.ready.0 in
-    let asked = sizes_ready s.args.k (count_of_rows s.args.rows.now) (planned s.args.rows.now s.args.event s.args.given.now) s.args.refs.now s.args.kept s.args.nodes.now s.args.work.now f t swept.ensures swept.auto.0 (swept.auto.1.1.0 ∙ back.1) in record { leaves = done_leaves s.args.k (count_of_rows s.args.rows.now) (planned s.args.rows.now s.args.event s.args.given.now) s.args.refs.now s.args.kept s.args.nodes.now s.args.work.now f t s.args.sizes.now swept.ensures found.ensures.0
-          (cleared_is (length s.args.nodes.now / 3) s.args.work.now f.room (rest_two (16 * (length s.args.nodes.now / 3) + 1024) (rest_two (15 * (length s.args.nodes.now / 3)) back.0 swept.ensures.rest (omega arith) (omega arith)) found.ensures.1 (omega arith) (omega (arith, asked.1))) (found.auto.1.1.1.1.0 ∙ swept.auto.1.1.0 ∙ back.1) c.zero-2.ensures); visits = (done_visits s.args.k (count_of_rows s.args.rows.now) (planned s.args.rows.now s.args.event s.args.given.now) s.args.refs.now s.args.kept s.args.nodes.now s.args.work.now f t ready.3 swept.ensures,) }
+    let ready = sweep_ready s.k (count_of_rows s.rows.now) (planned s.rows.now s.event s.given.now) s.refs.now s.kept s.nodes.now s.work.now f t (put_mid 0 (15 * (length s.nodes.now / 3) - 0) c.zero.new.xs rows.new.work) back.1 c.requires.ready.0 in
+    let asked = sizes_ready s.k (count_of_rows s.rows.now) (planned s.rows.now s.event s.given.now) s.refs.now s.kept s.nodes.now s.work.now f t swept.ensures swept.auto.nodes (swept.auto.work ∙ back.1) in
+    record {
+      leaves = done_leaves s.k (count_of_rows s.rows.now) (planned s.rows.now s.event s.given.now) s.refs.now s.kept s.nodes.now s.work.now f t s.sizes.now swept.ensures found.ensures.sizes_after
+          (cleared_is (length s.nodes.now / 3) s.work.now f.room
+          (rest_two (16 * (length s.nodes.now / 3) + 1024) (rest_two (15 * (length s.nodes.now / 3)) back.0 swept.ensures.rest (omega arith) (omega arith)) found.ensures.rest (omega arith) (omega (arith, asked.1)))
+          (found.auto.work ∙ swept.auto.work ∙ back.1) c.zero-2.ensures);
+      visits = done_visits s.k (count_of_rows s.rows.now) (planned s.rows.now s.event s.given.now) s.refs.now s.kept s.nodes.now s.work.now f t ready.3 swept.ensures;
+    }

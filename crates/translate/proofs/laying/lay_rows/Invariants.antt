@@ -1,10 +1,7 @@
 -- `laying::lay_rows` meets its contract. Assumes nothing.
 use Prim.Native.Nat.{◌-◌}
-use native.Mathlib.Omega.{arith}
 use lib.ListN.{length}
-use borrow.Author.Rules.{rules}
-use Rattle.translate.proofs.LayingLaws.{Laying, lay_begins, lay_sized, lay_more, lay_ends}
-use Rattle.translate.proofs.laying.lay_rows.Lts as lts
+use Rattle.translate.proofs.LayingLaws.{Laying}
 use Rattle.translate.proofs.laying.lay_rows.Given as goal
 
 abbrev pub invariant-loop-i : goal.invariant-loop-i
