@@ -3,7 +3,6 @@ use Prim.Native.Nat.{◌*◌}
 use mathlib.Core.Path.{refl, ap, sym, ◌∙◌}
 use mathlib.Core.List.{List}
 use native.Mathlib.Omega.{arith}
-use borrow.Author.Rules.{rules}
 use lib.Seq.{sets}
 use Rattle.cards.specs.Moments.{Record}
 use Rattle.cards.specs.Blocks.{block_bytes}

@@ -2,11 +2,10 @@ use Prim.Native.Nat.{◌-◌, ◌*◌}
 use mathlib.Core.Path.{ap, sym, ◌∙◌}
 use native.Mathlib.Omega.{arith}
 use lib.ListN.{length, drop}
-use borrow.Author.Rules.{rules}
 use Rattle.cards.proofs.BlockLaws.{length_block}
 use Rattle.card_writer.specs.Sheets.{block_with}
 use Rattle.card_log.specs.Rows.{rows_from}
-use Rattle.card_log.proofs.RowLaws.{Rowing, rowing_start, rowing_more, rowing_all}
+use Rattle.card_log.proofs.RowLaws.{rowing_start, rowing_more, rowing_all}
 use Rattle.card_log.proofs.put_rows.Goals as goal
 
 pub start_block-requires : goal.start_block-requires

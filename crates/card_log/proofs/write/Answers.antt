@@ -1,9 +1,7 @@
-use Prim.Native.Nat.{◌-◌}
-use mathlib.Core.Path.{refl, sym, ap, ◌∙◌}
+use mathlib.Core.Path.{refl, sym, ◌∙◌}
 use mathlib.Core.Bool.{true≢false}
 use native.Mathlib.Omega.{arith}
-use borrow.Author.Rules.{rules}
-use Rattle.card_log.proofs.FillLaws.{Filling, filling_start, filling_more, filling_end, block_inside}
+use Rattle.card_log.proofs.FillLaws.{filling_start, filling_more, filling_end, block_inside}
 use Rattle.card_log.proofs.write.Goals as goal
 
 pub returns-then-rows-ne0 : goal.returns-then-rows-ne0
