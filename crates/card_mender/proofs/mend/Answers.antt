@@ -1,10 +1,6 @@
-use Prim.Native.Nat.{◌+◌, ◌-◌, ◌*◌, ◌<◌}
 use mathlib.Core.Path.{refl}
 use native.Mathlib.Omega.{arith}
 use lib.ListN.{length}
-use borrow.Author.Rules.{rules}
-use Rattle.card_mender.specs.Turning.{Going}
-use Rattle.card_mender.specs.Lines.{pieces_in}
 use Rattle.card_mender.proofs.GoingLaws.{going_start, going_end, counted_pieces, ready_lines}
 use Rattle.card_mender.proofs.mend.Goals as goal
 

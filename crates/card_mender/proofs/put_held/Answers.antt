@@ -1,9 +1,7 @@
 -- `put_held` meets its contract. Assumes nothing.
-use Prim.Native.Nat.{◌-◌}
 use mathlib.Core.Path.{ap, ◌∙◌}
 use native.Mathlib.Omega.{arith}
 use borrow.Author.Rules.{rules}
-use lib.ListN.{take, drop, length-take, length-drop}
 use lib.Seq.{sets}
 use Rattle.card_mender.proofs.GoingLaws.{whole_long, to_between}
 use Rattle.card_mender.proofs.put_held.Goals as goal

@@ -5,10 +5,9 @@ use Rattle.cards.proofs.BlockLaws.{length_block}
 use Rattle.card_block.specs.Shapes.{records_from}
 use Rattle.card_writer.specs.Sheets.{block_with}
 use native.Mathlib.Omega.{arith}
-use borrow.Author.Rules.{rules}
 use Rattle.cards.specs.Blocks.{block_of}
 use Rattle.card_block.proofs.JudgeLaws.{block_number}
-use Rattle.card_mender.proofs.WeighLaws.{Copying, copying_start, copying_more, copying_all}
+use Rattle.card_mender.proofs.WeighLaws.{copying_start, copying_more, copying_all}
 use Rattle.card_mender.proofs.put_kept.Goals as goal
 
 pub number_at-requires : goal.number_at-requires

@@ -1,7 +1,6 @@
 -- `turn` meets its contract. Assumes nothing.
 use mathlib.Core.Path.{refl, sym, ◌∙◌}
 use native.Mathlib.Omega.{arith}
-use borrow.Author.Rules.{rules}
 use Rattle.card_mender.proofs.GoingLaws.{going_gone, going_kept, held_whole, to_between}
 use Rattle.card_mender.proofs.turn.Goals as goal
 

@@ -2,7 +2,6 @@
 use Prim.Native.Nat.{◌-◌}
 use mathlib.Core.Path.{sym, ◌∙◌}
 use native.Mathlib.Omega.{arith}
-use borrow.Author.Rules.{rules}
 use Rattle.card_block.proofs.StayLaws.{stays_next, stays_shaped}
 use Rattle.card_mender.proofs.WeighLaws.{weighed_on, weighed_gap, weighed_gone}
 use Rattle.card_mender.proofs.weigh.Goals as goal

@@ -1,5 +1,4 @@
 -- `word_of` meets its contract. Assumes nothing.
-use borrow.Author.Rules.{rules}
 use Rattle.card_mender.proofs.PutLaws.{word_check, word_shape, word_number}
 use Rattle.card_mender.proofs.word_of.Goals as goal
 

@@ -1,8 +1,5 @@
-use Prim.Native.Nat.{◌-◌}
 use native.Mathlib.Omega.{arith}
-use lib.ListN.{length}
-use borrow.Author.Rules.{rules}
-use Rattle.card_mender.proofs.LookLaws.{Looking, looking_start, looking_comes, looking_ends, looking_on, looking_none}
+use Rattle.card_mender.proofs.LookLaws.{looking_start, looking_comes, looking_ends, looking_on, looking_none}
 use Rattle.card_mender.proofs.looking.flagged_ahead.Goals as goal
 
 pub loop-at-init : goal.loop-at-init

@@ -2,7 +2,6 @@
 use Prim.Native.Nat.{◌-◌}
 use mathlib.Core.Path.{sym, ◌∙◌}
 use native.Mathlib.Omega.{arith}
-use borrow.Author.Rules.{rules}
 use Rattle.card_block.proofs.StayLaws.{stays_next, stays_shaped}
 use Rattle.card_mender.proofs.WeighLaws.{looked_on_law, looked_gap_law, looked_past}
 use Rattle.card_mender.proofs.looking.look.Goals as goal
