@@ -1,12 +1,12 @@
 -- A log that is written is read back: the rows of right moments are written as those moments' card, and two outcomes of `write` are the same.
 -- Assumes nothing.
-use Prim.Native.Nat.{ℕ, ◌*◌, ◌≤◌}
+use Prim.Native.Nat.{ℕ, ◌≤◌}
 use mathlib.Core.Path.{◌≡◌, refl, sym, ap, ◌∙◌}
 use mathlib.Core.List.{List, [], ◌∷◌, ◌++◌, map}
 use lib.ListN.{length, take, drop}
 use lib.Seq.{take_at}
 use Rattle.cards.specs.Bytes.{joined}
-use Rattle.cards.specs.Moments.{Record, Moment}
+use Rattle.cards.specs.Moments.{Moment}
 use Rattle.cards.specs.Reading.{taken, read}
 use Rattle.cards.specs.Writing.{Every, RightMoment, records_of, written}
 use Rattle.cards.specs.Writing as Writing

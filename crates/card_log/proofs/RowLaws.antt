@@ -12,7 +12,6 @@ use borrow.Author.Tests.{le-leb, lt-leb}
 use Rattle.cards.specs.Moments.{Record}
 use Rattle.cards.specs.Blocks.{flag_byte, block_bytes}
 use Rattle.cards.specs.Counting.{Open, closed, belongs, next}
-use Rattle.cards.proofs.Tests.{and_no}
 use Rattle.card_block.specs.Judging.{open_at, may_belong, onward}
 use Rattle.card_block.proofs.WalkLaws.{belongs_may, next_onward}
 use Rattle.card_records.specs.declared.Fact.{Fact}

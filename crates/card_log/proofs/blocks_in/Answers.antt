@@ -1,6 +1,4 @@
 -- `blocks_in` meets its contract. Assumes nothing.
-use native.Mathlib.Omega.{arith}
-use borrow.Author.Rules.{rules}
 use Rattle.card_log.proofs.FillLaws.{blocks_are}
 use Rattle.card_log.proofs.blocks_in.Goals as goal
 

@@ -1,7 +1,5 @@
 -- `fact_of` meets its contract. Assumes nothing.
-use native.Mathlib.Omega.{arith}
 use mathlib.Core.Path.{refl}
-use borrow.Author.Rules.{rules}
 use Rattle.card_log.proofs.RowLaws.{fact_row}
 use Rattle.card_log.proofs.fact_of.Goals as goal
 

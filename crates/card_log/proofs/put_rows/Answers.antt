@@ -2,11 +2,10 @@ use Prim.Native.Nat.{◌-◌, ◌*◌}
 use mathlib.Core.Path.{ap, sym, ◌∙◌}
 use native.Mathlib.Omega.{arith}
 use lib.ListN.{length, drop}
-use borrow.Author.Rules.{rules}
 use Rattle.cards.proofs.BlockLaws.{length_block}
 use Rattle.card_writer.specs.Sheets.{block_with}
 use Rattle.card_log.specs.Rows.{rows_from}
-use Rattle.card_log.proofs.RowLaws.{Rowing, rowing_start, rowing_more, rowing_all}
+use Rattle.card_log.proofs.RowLaws.{rowing_start, rowing_more, rowing_all}
 use Rattle.card_log.proofs.put_rows.Goals as goal
 
 pub start_block-requires : goal.start_block-requires
@@ -25,13 +24,13 @@ pub add_fact-requires : goal.add_fact-requires
 add_fact-requires c = (c.loop-i.invariant.holds.size, omega (arith, c.requires.2, c.loop-i.invariant.after))
 
 pub loop-i-preserved : goal.loop-i-preserved
-loop-i-preserved c = rowing_more _ _ c.loop-i.invariant (omega arith) c.fact_of_law.ensures.0 c.add_fact.ensures
+loop-i-preserved c = rowing_more _ _ c.loop-i.invariant (omega arith) c.fact_of.ensures.result_value c.add_fact.ensures
 
 pub end_block-requires : goal.end_block-requires
 end_block-requires c = c.loop-i.invariant.holds.size
 
 pub shape_of-out : goal.shape_of-out
-shape_of-out c = ap length (rowing_all c.end_block.new.0 c.loop-i.invariant (omega arith) c.end_block.ensures) ∙ length_block (block_with c.args.number (rows_from (c.args.to - c.args.«from») (drop (7 * c.args.«from») c.args.rows.now))) ∙ sym c.requires.3
+shape_of-out c = ap length (rowing_all c.end_block.new.out c.loop-i.invariant (omega arith) c.end_block.ensures) ∙ length_block (block_with c.args.number (rows_from (c.args.to - c.args.«from») (drop (7 * c.args.«from») c.args.rows.now))) ∙ sym c.requires.3
 
 pub returns : goal.returns
-returns c = rowing_all c.end_block.new.0 c.loop-i.invariant (omega arith) c.end_block.ensures
+returns c = rowing_all c.end_block.new.out c.loop-i.invariant (omega arith) c.end_block.ensures

@@ -1,11 +1,6 @@
 -- `write` meets its contract: what is put, with the blocks to come, is the card. The measure is what is left of the blocks. Assumes nothing.
 use Prim.Native.Nat.{◌-◌}
-use mathlib.Core.Path.{refl, sym, ap, ◌∙◌}
-use mathlib.Core.Bool.{true≢false}
-use native.Mathlib.Omega.{arith}
-use borrow.Author.Rules.{rules}
-use borrow.Author.Tests.{not-true, not-false}
-use Rattle.card_log.proofs.FillLaws.{Filling, filling_start, filling_more, filling_end, block_inside}
+use Rattle.card_log.proofs.FillLaws.{Filling}
 use Rattle.card_log.proofs.write.Given as goal
 
 abbrev pub invariant-loop-b : goal.invariant-loop-b
