@@ -1,15 +1,15 @@
 -- Mending under way: a piece that goes, a block that stays, and the end. Assumes nothing.
-use Prim.Native.Nat.{ℕ, zero, suc, ◌+◌, ◌-◌, ◌*◌, ◌/◌, ◌≤◌, ◌<◌, min}
+use Prim.Native.Nat.{ℕ, ◌+◌, ◌-◌, ◌*◌, ◌/◌, ◌≤◌, ◌<◌, min}
 use native.Mathlib.Omega.{arith}
 use mathlib.Core.Path.{◌≡◌, refl, sym, ap, ◌∙◌}
 use mathlib.Core.Bool.{Bool, true, false, ◌&&◌, ◌||◌}
-use mathlib.Core.List.{List, [], ◌∷◌, ◌++◌, map, append-nil, append_assoc}
-use lib.ListN.{length, take, drop, length-append, length-drop, length-take, take-append-drop}
+use mathlib.Core.List.{List, [], ◌∷◌, ◌++◌, append-nil, append_assoc}
+use lib.ListN.{length, take, drop, length-drop, length-take, take-append-drop}
 use lib.Seq.{sets, length-sets, drop-drop, length-take-le}
 use Rattle.cards.specs.Bytes.{joined}
 use Rattle.cards.specs.Moments.{Record, flagged}
 use Rattle.cards.specs.Blocks.{Block, Reason, block_of, block_bytes, Piece, piece_of, pieces}
-use Rattle.cards.specs.Reading.{Before, start, runs_on, after, Fate, stays, goes, fate, fates}
+use Rattle.cards.specs.Reading.{Before, start, runs_on, after, stays, goes, fate, fates}
 use Rattle.cards.specs.Mending.{kept, from_first, to_last, mend_from, mended_blocks, card_bytes, mended, Listed, kept_less, gone, listing, listed}
 use Rattle.cards.specs.Mending as Mending
 use Rattle.cards.specs.Piecewise.{flagged_ahead}
@@ -17,7 +17,6 @@ use Rattle.cards.proofs.BlockLaws.{length_block}
 use Rattle.cards.proofs.FateLaws.{fates_stays, fates_goes}
 use Rattle.cards.proofs.PieceLaws.{pieces_none}
 use Rattle.cards.proofs.Ahead.{kept_stays, kept_goes, ahead_flagged}
-use Rattle.card_block.specs.declared.Carried.{Carried}
 use Rattle.card_block.specs.Shapes.{records_from}
 use Rattle.card_block.specs.Judging.{Carries, meant, nothing}
 use Rattle.card_block.proofs.Judgements.{carries_start}
@@ -25,13 +24,12 @@ use Rattle.card_block.proofs.PieceEnds.{piece_end}
 use Rattle.card_writer.specs.Sheets.{block_with}
 use Rattle.card_mender.specs.declared.Held.{Held}
 use Rattle.card_mender.specs.declared.State.{State}
-use Rattle.card_mender.specs.declared.Weighed.{Weighed}
 use Rattle.card_mender.specs.declared.Weighed.TheVariants.{Kept, Gone}
 use Rattle.card_mender.specs.Weighing.{weighed, stay_to}
 use Rattle.card_mender.specs.Lines.{word, line_of, lines_of, pieces_in, Room, Mends}
 use Rattle.card_mender.specs.Turning.{bytes_to_come, lines_to_come, Going, Ready, Turns, Whole, PutHeld}
 use Rattle.card_mender.proofs.FlagLaws.{length_from}
-use Rattle.card_mender.proofs.Weights.{Weighs, WeighsRight, weighs_right}
+use Rattle.card_mender.proofs.Weights.{Weighs, weighs_right}
 use Rattle.card_writer.proofs.StoreLaws.{sets_take, sets_drop}
 
 -- the pieces to come, one by one

@@ -1,26 +1,24 @@
 -- What a piece comes to, test by test, and a block that is put with some of its records. Assumes nothing.
-use Prim.Native.Nat.{ℕ, zero, suc, ◌+◌, ◌-◌, ◌*◌, ◌≤◌, ◌<◌}
+use Prim.Native.Nat.{ℕ, suc, ◌+◌, ◌-◌, ◌*◌, ◌≤◌, ◌<◌}
 use native.Mathlib.Omega.{arith}
-use mathlib.Core.Path.{◌≡◌, refl, sym, ap, ◌∙◌}
-use mathlib.Core.Bool.{Bool, true, false, not, ◌&&◌}
+use mathlib.Core.Path.{◌≡◌, sym, ap, ◌∙◌}
+use mathlib.Core.Bool.{Bool, true, false, not}
 use mathlib.Core.List.{List, [], ◌∷◌, ◌++◌}
 use lib.Dec.{eqb}
 use lib.ListN.{length, take, drop, get_or}
 use lib.Seq.{drop-drop}
 use borrow.Author.Tests.{eq-eqb, ne_eqb}
 use Rattle.cards.specs.Moments.{Record, flagged}
-use Rattle.cards.specs.Blocks.{block_of, record_of, block_bytes}
+use Rattle.cards.specs.Blocks.{record_of, block_bytes}
 use Rattle.cards.proofs.Tests.{and_yes, and_no}
 use Rattle.card_block.specs.declared.Carried.{Carried}
 use Rattle.card_block.specs.declared.Reason.{Reason}
-use Rattle.card_block.specs.declared.Judged.{Judged}
 use Rattle.card_block.specs.declared.Judged.TheVariants.{Stays, Goes}
-use Rattle.card_block.specs.Shapes.{records_from, Shaped}
+use Rattle.card_block.specs.Shapes.{records_from}
 use Rattle.card_block.specs.Judging.{judgement}
 use Rattle.card_records.specs.declared.Fact.{Fact}
 use Rattle.card_records.specs.Facts.{record_from}
 use Rattle.card_writer.specs.Sheets.{Holding, block_with}
-use Rattle.card_mender.specs.declared.Held.{Held}
 use Rattle.card_mender.specs.declared.Weighed.{Weighed}
 use Rattle.card_mender.specs.declared.Weighed.TheVariants.{Kept, Gone}
 use Rattle.card_mender.specs.declared.looking.Looked.{Looked}

@@ -1,19 +1,18 @@
 -- What weighing a piece, and looking at one, come to is what mending keeps, wherever what is handed over carries what stands before the piece.
 -- Assumes nothing.
-use Prim.Native.Nat.{ℕ, zero, suc, ◌+◌, ◌-◌, ◌*◌, ◌≤◌, ◌<◌}
+use Prim.Native.Nat.{ℕ, zero, suc, ◌+◌, ◌-◌, ◌*◌, ◌≤◌}
 use native.Mathlib.Omega.{arith}
 use mathlib.Core.Path.{◌≡◌, refl, sym, ap, ◌∙◌}
 use mathlib.Core.Bool.{Bool, true, false, ◌&&◌, ◌||◌}
-use mathlib.Core.List.{List, [], ◌∷◌}
+use mathlib.Core.List.{List, ◌∷◌}
 use lib.Dec.{eqb, eqb-suc-suc}
 use lib.ListN.{length, take, drop, get_or}
 use lib.Seq.{drop-drop}
 use Rattle.cards.specs.Moments.{Record, flagged, past_first}
-use Rattle.cards.specs.Blocks.{Block, record_of, block_of, Piece, piece_of, pieces}
+use Rattle.cards.specs.Blocks.{record_of, block_of, Piece, piece_of}
 use Rattle.cards.specs.Reading.{Before, runs_on, after, stays, goes, fate}
 use Rattle.cards.specs.Mending.{from_first, to_last}
 use Rattle.cards.specs.Piecewise.{flagged_ahead}
-use Rattle.cards.proofs.Tests.{or_no}
 use Rattle.cards.proofs.FateLaws.{stays_good}
 use Rattle.cards.proofs.Ahead.{ahead_on, ahead_gap, ahead_goes}
 use Rattle.card_block.specs.declared.Carried.{Carried}
@@ -27,7 +26,6 @@ use Rattle.card_block.proofs.StayLaws.{good_shaped}
 use Rattle.card_mender.specs.declared.Held.{Held}
 use Rattle.card_mender.specs.declared.Weighed.{Weighed}
 use Rattle.card_mender.specs.declared.Weighed.TheVariants.{Gone}
-use Rattle.card_mender.specs.declared.Weighed.TheVariants as Weighed
 use Rattle.card_mender.specs.declared.looking.Looked.{Looked}
 use Rattle.card_mender.specs.declared.looking.Looked.TheVariants.{Comes, Ends, On}
 use Rattle.card_mender.specs.Weighing.{first_count, whole_count, records_in, held_by, kept_by, weighed_by, weighed, looked_to, looked_on, looked_gap, looked_by, looked, stay_to}

@@ -1,5 +1,5 @@
 -- The list of blocks as numbers, two for each piece, and what `mend` leaves in the slices that it is lent. Assumes nothing.
-use Rattle.std.specs.Prelude.{ℕ, ◌+◌, ◌*◌, ◌/◌, ◌≤◌, ◌<◌, ◌≡◌, List, [], ◌∷◌, ◌++◌, map, length, take, drop}
+use Rattle.std.specs.Prelude.{ℕ, ◌+◌, ◌*◌, ◌/◌, ◌≤◌, ◌≡◌, List, [], ◌∷◌, ◌++◌, map, length, drop}
 use Rattle.cards.specs.Bytes.{joined}
 use Rattle.cards.specs.Blocks.{Reason, check, shape, number}
 use Rattle.cards.specs.Mending.{Listed, kept_less, gone, mended}

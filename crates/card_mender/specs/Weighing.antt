@@ -1,5 +1,5 @@
 -- What one piece comes to in mending, and what a look ahead at it says, for any piece and anything carried. Assumes nothing.
-use Rattle.std.specs.Prelude.{ℕ, suc, ◌+◌, Bool, true, false, not, ◌&&◌, List, [], ◌∷◌, eqb, drop, get_or}
+use Rattle.std.specs.Prelude.{ℕ, suc, ◌+◌, Bool, true, false, ◌&&◌, List, [], ◌∷◌, eqb, drop, get_or}
 use Rattle.cards.specs.Moments.{Record, flagged}
 use Rattle.card_block.specs.declared.Carried.{Carried}
 use Rattle.card_block.specs.declared.Judged.{Judged}

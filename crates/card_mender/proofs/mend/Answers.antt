@@ -1,10 +1,6 @@
-use Prim.Native.Nat.{◌+◌, ◌-◌, ◌*◌, ◌<◌}
 use mathlib.Core.Path.{refl}
 use native.Mathlib.Omega.{arith}
 use lib.ListN.{length}
-use borrow.Author.Rules.{rules}
-use Rattle.card_mender.specs.Turning.{Going}
-use Rattle.card_mender.specs.Lines.{pieces_in}
 use Rattle.card_mender.proofs.GoingLaws.{going_start, going_end, counted_pieces, ready_lines}
 use Rattle.card_mender.proofs.mend.Goals as goal
 
@@ -18,13 +14,13 @@ pub loop-at-init : goal.loop-at-init
 loop-at-init c = (rw c.begun-nothing.ensures (going_start _ _ _ _ refl), omega arith)
 
 pub turn-s-requires : goal.turn-s-requires
-turn-s-requires c = record { before = c.loop-at.invariant.0; carries = c.loop-at.invariant.0.carries; inside = omega arith; ends = c.end_of_lem.ensures; behind = c.loop-at.invariant.0.behind; bytes = omega (arith, c.loop-at.invariant.0.out_size); lines = omega (arith, c.loop-at.invariant.0.list_size, ready_lines (length c.args.card.now) c.loop-at.place (length c.args.list.now) (omega (arith, c.loop-at.invariant.0.here)) (omega (arith, c.pieces_in.ensures))) }
+turn-s-requires c = record { before = c.loop-at.invariant.0.before; carries = c.loop-at.invariant.0.carries; inside = omega arith; ends = c.end_of-end.ensures; behind = c.loop-at.invariant.0.behind; bytes = omega (arith, c.loop-at.invariant.0.out_size); lines = omega (arith, c.loop-at.invariant.0.list_size, ready_lines (length c.args.card.now) c.loop-at.place (length c.args.list.now) (omega (arith, c.loop-at.invariant.0.here)) (omega (arith, c.pieces_in.ensures))) }
 
 pub overflow_add-place : goal.overflow_add-place
 overflow_add-place c = omega (arith, c.loop-at.invariant.1)
 
 pub loop-at-smaller : goal.loop-at-smaller
-loop-at-smaller c = omega (arith, c.end_of_lem.ensures)
+loop-at-smaller c = omega (arith, c.end_of-end.ensures)
 
 pub loop-at-preserved : goal.loop-at-preserved
 loop-at-preserved c = (c.turn-s.ensures.on _ _ c.loop-at.invariant.0, omega (arith, c.loop-at.invariant.0.here))

@@ -1,12 +1,7 @@
 -- `mend` meets its contract: what is put and listed, with what is to come, is the whole. The measure is what is left of the card. Assumes nothing.
 use Prim.Native.Nat.{◌+◌, ◌-◌, ◌*◌, ◌<◌}
-use mathlib.Core.Path.{refl}
-use native.Mathlib.Omega.{arith}
 use lib.ListN.{length}
-use borrow.Author.Rules.{rules}
 use Rattle.card_mender.specs.Turning.{Going}
-use Rattle.card_mender.specs.Lines.{pieces_in}
-use Rattle.card_mender.proofs.GoingLaws.{going_start, going_end, counted_pieces, ready_lines}
 use Rattle.card_mender.proofs.mend.Given as goal
 
 abbrev pub invariant-loop-at : goal.invariant-loop-at

@@ -1,6 +1,4 @@
 -- `pieces_in` meets its contract. Assumes nothing.
-use native.Mathlib.Omega.{arith}
-use borrow.Author.Rules.{rules}
 use Rattle.card_mender.proofs.PutLaws.{pieces_even, pieces_odd}
 use Rattle.card_mender.proofs.pieces_in.Goals as goal
 

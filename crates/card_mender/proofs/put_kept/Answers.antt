@@ -5,10 +5,9 @@ use Rattle.cards.proofs.BlockLaws.{length_block}
 use Rattle.card_block.specs.Shapes.{records_from}
 use Rattle.card_writer.specs.Sheets.{block_with}
 use native.Mathlib.Omega.{arith}
-use borrow.Author.Rules.{rules}
 use Rattle.cards.specs.Blocks.{block_of}
 use Rattle.card_block.proofs.JudgeLaws.{block_number}
-use Rattle.card_mender.proofs.WeighLaws.{Copying, copying_start, copying_more, copying_all}
+use Rattle.card_mender.proofs.WeighLaws.{copying_start, copying_more, copying_all}
 use Rattle.card_mender.proofs.put_kept.Goals as goal
 
 pub number_at-requires : goal.number_at-requires
@@ -36,7 +35,7 @@ pub end_block-requires : goal.end_block-requires
 end_block-requires c = c.loop-i.invariant.holds.size
 
 pub shape_of-out : goal.shape_of-out
-shape_of-out c = ap length (copying_all c.end_block.new.0 c.loop-i.invariant (omega arith) c.end_block.ensures) ∙ length_block (block_with (block_of c.args.piece.now).number (records_from (c.args.to - c.args.«from») (drop (6 + 24 * c.args.«from») c.args.piece.now))) ∙ sym c.requires.3
+shape_of-out c = ap length (copying_all c.end_block.new.out c.loop-i.invariant (omega arith) c.end_block.ensures) ∙ length_block (block_with (block_of c.args.piece.now).number (records_from (c.args.to - c.args.«from») (drop (6 + 24 * c.args.«from») c.args.piece.now))) ∙ sym c.requires.3
 
 pub returns : goal.returns
 returns c = copying_all _ c.loop-i.invariant (omega arith) c.end_block.ensures

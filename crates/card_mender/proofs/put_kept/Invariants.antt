@@ -1,15 +1,7 @@
 -- `put_kept` meets its contract: the records passed stand in the block. The measure is what is left of them. Assumes nothing.
-use Prim.Native.Nat.{◌+◌, ◌-◌, ◌*◌}
-use mathlib.Core.Path.{ap, sym, ◌∙◌}
-use lib.ListN.{length, drop}
-use Rattle.cards.proofs.BlockLaws.{length_block}
-use Rattle.card_block.specs.Shapes.{records_from}
-use Rattle.card_writer.specs.Sheets.{block_with}
-use native.Mathlib.Omega.{arith}
-use borrow.Author.Rules.{rules}
+use Prim.Native.Nat.{◌-◌}
 use Rattle.cards.specs.Blocks.{block_of}
-use Rattle.card_block.proofs.JudgeLaws.{block_number}
-use Rattle.card_mender.proofs.WeighLaws.{Copying, copying_start, copying_more, copying_all}
+use Rattle.card_mender.proofs.WeighLaws.{Copying}
 use Rattle.card_mender.proofs.put_kept.Given as goal
 
 abbrev pub invariant-loop-i : goal.invariant-loop-i

@@ -1,6 +1,5 @@
 -- `put_line` meets its contract. Assumes nothing.
 use native.Mathlib.Omega.{arith}
-use borrow.Author.Rules.{rules}
 use lib.ListN.{length-set}
 use Rattle.card_mender.proofs.PutLaws.{line_put}
 use Rattle.card_mender.proofs.put_line.Goals as goal

@@ -1,6 +1,5 @@
 -- `stay_to` meets its contract. Assumes nothing.
 use mathlib.Core.Path.{sym, ◌∙◌}
-use borrow.Author.Rules.{rules}
 use Rattle.card_mender.proofs.LookLaws.{stays_all, stays_yes, stays_no}
 use Rattle.card_mender.proofs.stay_to.Goals as goal
 

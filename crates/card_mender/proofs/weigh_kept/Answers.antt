@@ -1,6 +1,5 @@
 -- `weigh_kept` meets its contract. Assumes nothing.
 use native.Mathlib.Omega.{arith}
-use borrow.Author.Rules.{rules}
 use Rattle.card_mender.proofs.FlagLaws.{first_few, length_from}
 use Rattle.card_mender.proofs.WeighLaws.{kept_on, kept_anew}
 use lib.ListN.{drop}

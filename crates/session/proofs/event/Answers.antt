@@ -1,4 +1,5 @@
 -- `session::event` meets its contract, by the part that what was due leaves. Assumes nothing.
+use borrow.Enum.Refused.{opened}
 use native.Mathlib.Omega.{arith}
 use borrow.Author.Rules.{rules}
 use mathlib.Core.Path.{sym, subst}
@@ -10,7 +11,7 @@ use Rattle.session.proofs.event.Goals as goal
 pub returns-in_default : goal.returns-in_default
 returns-in_default c =
     let s = c in
-    event_left_other s.args.s s.args.event s.args.rows.now s.args.nodes.now s.args.values.now s.args.work.now _ _ _ c.ready-begun.ensures c.in_default.keys2
+    event_left_other s.args.s s.args.event s.args.rows.now s.args.nodes.now s.args.values.now s.args.work.now _ _ _ c.ready-begun.ensures (opened c.in_default.in_default-own.keys2)
 
 pub happen-requires : goal.happen-requires
 happen-requires c =
@@ -21,4 +22,4 @@ happen-requires c =
 pub returns : goal.returns
 returns c =
     let s = c in
-    judges_same (event_left_started s.args.s s.args.event s.args.rows.now s.args.nodes.now s.args.values.now s.args.work.now _ _ _ c.ready-begun.ensures c.enum_told-1.given.1) c.happen.ensures
+    judges_same (event_left_started s.args.s s.args.event s.args.rows.now s.args.nodes.now s.args.values.now s.args.work.now _ _ _ c.ready-begun.ensures c.in-Events.is) c.happen.ensures

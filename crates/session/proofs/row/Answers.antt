@@ -1,4 +1,5 @@
 -- `session::row` meets its contract, by the part and by how many rows there are. Assumes nothing.
+use borrow.Enum.Refused.{opened}
 use native.Mathlib.Omega.{arith}
 use mathlib.Core.Path.{◌∙◌, ap}
 use Rattle.session.specs.Lefts.{Rowed}
@@ -8,15 +9,15 @@ use Rattle.session.proofs.row.Goals as goal
 
 pub returns-in_default : goal.returns-in_default
 returns-in_default c =
-    let e = row_other _ _ _ _ c.in_default.keys2 in
+    let e = row_other _ _ _ _ (opened c.in_default.in_default-own.keys2) in
     (c.bad.ensures ∙ ap (λ (r : Rowed). r.after) e, ap (λ (r : Rowed). r.rows) e)
 
 pub returns-then-n-gt576 : goal.returns-then-n-gt576
 returns-then-n-gt576 c =
-    let e = row_many _ c.args.s _ _ c.enum_told-1.given.1 (omega (arith, c.if-n-gt576.true)) in
+    let e = row_many _ c.args.s _ _ c.in-Rows.is (omega (arith, c.if-n-gt576.true)) in
     (c.bad-then-n-gt576.ensures ∙ ap (λ (r : Rowed). r.after) e, ap (λ (r : Rowed). r.rows) e)
 
 pub returns : goal.returns
 returns c =
-    let e = row_more _ c.args.s _ _ c.enum_told-1.given.1 (omega (arith, c.if-n-gt576.false)) in
+    let e = row_more _ c.args.s _ _ c.in-Rows.is (omega (arith, c.if-n-gt576.false)) in
     (c.quiet.ensures ∙ ap (λ (r : Rowed). r.after) e, c.put_row.ensures ∙ ap (λ (r : Rowed). r.rows) e)

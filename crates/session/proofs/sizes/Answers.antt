@@ -1,11 +1,12 @@
 -- `session::sizes` meets its contract, by the part. Assumes nothing.
+use borrow.Enum.Refused.{opened}
 use mathlib.Core.Path.{◌∙◌}
 use Rattle.session.proofs.PartLaws.{sizes_first, sizes_other}
 use borrow.Author.Rules.{rules}
 use Rattle.session.proofs.sizes.Goals as goal
 
 pub returns-in_default : goal.returns-in_default
-returns-in_default c = c.bad.ensures ∙ sizes_other _ _ _ _ c.in_default.keys2
+returns-in_default c = c.bad.ensures ∙ sizes_other _ _ _ _ (opened c.in_default.in_default-own.keys2)
 
 pub returns : goal.returns
-returns c = c.quiet.ensures ∙ sizes_first _ _ _ _ c.enum_told-1.given.1
+returns c = c.quiet.ensures ∙ sizes_first _ _ _ _ c.in-First.is

@@ -1,7 +1,5 @@
-use Prim.Native.Nat.{◌-◌}
 use native.Mathlib.Omega.{arith}
-use borrow.Author.Rules.{rules}
-use Rattle.card_mender.proofs.FlagLaws.{Firsts, firsts_start, firsts_found, firsts_more, firsts_none}
+use Rattle.card_mender.proofs.FlagLaws.{firsts_start, firsts_found, firsts_more, firsts_none}
 use Rattle.card_mender.proofs.flags.past_first.Goals as goal
 
 pub loop-i-init : goal.loop-i-init

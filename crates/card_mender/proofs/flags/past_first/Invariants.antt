@@ -1,8 +1,6 @@
 -- `past_first` meets its contract: the records passed are not flagged. The measure is what is left of them. Assumes nothing.
 use Prim.Native.Nat.{◌-◌}
-use native.Mathlib.Omega.{arith}
-use borrow.Author.Rules.{rules}
-use Rattle.card_mender.proofs.FlagLaws.{Firsts, firsts_start, firsts_found, firsts_more, firsts_none}
+use Rattle.card_mender.proofs.FlagLaws.{Firsts}
 use Rattle.card_mender.proofs.flags.past_first.Given as goal
 
 abbrev pub invariant-loop-i : goal.invariant-loop-i

@@ -1,9 +1,6 @@
 -- `past_last` meets its contract: the last flagged record so far, and those still to come. The measure is what is left of them. Assumes nothing.
 use Prim.Native.Nat.{◌-◌}
-use mathlib.Core.Logic.{⊎_elim}
-use native.Mathlib.Omega.{arith}
-use borrow.Author.Rules.{rules}
-use Rattle.card_mender.proofs.FlagLaws.{Lasts, lasts_start, lasts_flag, lasts_plain, lasts_end}
+use Rattle.card_mender.proofs.FlagLaws.{Lasts}
 use Rattle.card_mender.proofs.flags.past_last.Given as goal
 
 abbrev pub invariant-loop-i : goal.invariant-loop-i

@@ -1,9 +1,7 @@
 -- `flagged_ahead` meets its contract: the pieces still to come give the answer. The measure is what is left of the card. Assumes nothing.
 use Prim.Native.Nat.{◌-◌}
-use native.Mathlib.Omega.{arith}
 use lib.ListN.{length}
-use borrow.Author.Rules.{rules}
-use Rattle.card_mender.proofs.LookLaws.{Looking, looking_start, looking_comes, looking_ends, looking_on, looking_none}
+use Rattle.card_mender.proofs.LookLaws.{Looking}
 use Rattle.card_mender.proofs.looking.flagged_ahead.Given as goal
 
 abbrev pub invariant-loop-at : goal.invariant-loop-at

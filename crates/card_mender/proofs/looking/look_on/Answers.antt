@@ -1,7 +1,6 @@
 -- `look_on` meets its contract. Assumes nothing.
 use mathlib.Core.Path.{refl, sym, ◌∙◌}
 use native.Mathlib.Omega.{arith}
-use borrow.Author.Rules.{rules}
 use borrow.Author.Tests.{eq-eqb, ne_eqb}
 use Rattle.card_mender.proofs.WeighLaws.{all_flagged, looked_comes, looked_more}
 use Rattle.card_mender.proofs.looking.look_on.Goals as goal
