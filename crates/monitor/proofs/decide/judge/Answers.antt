@@ -1,6 +1,5 @@
 -- `monitor::decide::judge` meets its contract: refusal 1 by its test, and the others as they are joined. Assumes nothing.
 use mathlib.Core.Path.{refl, sym, ◌∙◌}
-use borrow.Author.Rules.{rules}
 use Rattle.meaning.specs.Outcome.{judge_start}
 use Rattle.monitor.specs.Decisions.{decision_of}
 use Rattle.monitor.proofs.StartLaws.{k_small, joined}

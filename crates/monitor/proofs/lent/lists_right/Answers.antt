@@ -1,5 +1,4 @@
 -- `monitor::lent::lists_right` meets its contract: the count of rows, and then the lists. Assumes nothing.
-use borrow.Author.Rules.{rules}
 use Rattle.monitor.proofs.LentLaws.{beyond_same, other_rows, same_rows}
 use Rattle.monitor.proofs.lent.lists_right.Goals as goal
 
