@@ -6,12 +6,6 @@ use Rattle.numbers.proofs.PartLaws.{known_old, known_none, new_low, known_new}
 use Rattle.numbers.proofs.LookLaws.{told_is}
 use Rattle.numbers.proofs.asking.known.Goals as goal
 
--- TODO no goal for slice-bounds-look-in-end
--- part-look-in-end : tie.Need-slice-bounds-look-in-end
--- part-look-in-end c =
---     let s = c in
---     omega (arith, s.requires.4, s.requires.0)
-
 pub look_part-requires : goal.look_part-requires
 look_part-requires c =
     let s = c in
