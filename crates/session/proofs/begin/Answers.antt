@@ -1,6 +1,4 @@
 -- `session::begin` meets its contract, by the answer of the start. Assumes nothing.
-use native.Mathlib.Omega.{arith}
-use borrow.Author.Rules.{rules}
 use Prim.Native.Nat.{zero-le}
 use mathlib.Core.Path.{refl}
 use Rattle.session.proofs.TurnLaws.{but_refused, begin_refused, begin_started}
