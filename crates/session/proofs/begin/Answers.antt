@@ -1,10 +1,7 @@
 -- `session::begin` meets its contract, by the answer of the start. Assumes nothing.
-use borrow.Enum.Refused.{opened}
-use native.Mathlib.Omega.{arith}
-use borrow.Author.Rules.{rules}
 use Prim.Native.Nat.{zero-le}
 use mathlib.Core.Path.{refl}
-use Rattle.session.proofs.TurnLaws.{begin_refused, begin_started}
+use Rattle.session.proofs.TurnLaws.{but_refused, begin_refused, begin_started}
 use Rattle.session.proofs.begin.Goals as goal
 
 pub lend-lent-requires : goal.lend-lent-requires
@@ -37,4 +34,4 @@ returns c =
     let s = c in
     let lend = c.lend-lent in
     let start = c.start-turn in
-    begin_started s.args.s lend.result lend.ensures s.args.rows.now s.args.nodes.now s.args.values.now start.result start.new.nodes start.new.values start.ensures _ (opened c.in_default.in_default-own.keys2) refl
+    begin_started s.args.s lend.result lend.ensures s.args.rows.now s.args.nodes.now s.args.values.now start.result start.new.nodes start.new.values start.ensures _ (but_refused _ c.in_default.not-Refused) refl

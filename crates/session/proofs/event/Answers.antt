@@ -1,17 +1,16 @@
 -- `session::event` meets its contract, by the part that what was due leaves. Assumes nothing.
-use borrow.Enum.Refused.{opened}
 use native.Mathlib.Omega.{arith}
 use borrow.Author.Rules.{rules}
 use mathlib.Core.Path.{sym, subst}
 use Rattle.session.specs.declared.After.{After}
 use Rattle.session.proofs.KeepLaws.{Stays, ready_stays}
-use Rattle.session.proofs.PartLaws.{event_left_other, event_left_started, judges_same}
+use Rattle.session.proofs.PartLaws.{but_events, event_left_other, event_left_started, judges_same}
 use Rattle.session.proofs.event.Goals as goal
 
 pub returns-in_default : goal.returns-in_default
 returns-in_default c =
     let s = c in
-    event_left_other s.args.s s.args.event s.args.rows.now s.args.nodes.now s.args.values.now s.args.work.now _ _ _ c.ready-begun.ensures (opened c.in_default.in_default-own.keys2)
+    event_left_other s.args.s s.args.event s.args.rows.now s.args.nodes.now s.args.values.now s.args.work.now _ _ _ c.ready-begun.ensures (but_events _ c.in_default.not-Events)
 
 pub happen-requires : goal.happen-requires
 happen-requires c =

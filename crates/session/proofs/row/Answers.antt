@@ -1,15 +1,13 @@
 -- `session::row` meets its contract, by the part and by how many rows there are. Assumes nothing.
-use borrow.Enum.Refused.{opened}
 use native.Mathlib.Omega.{arith}
 use mathlib.Core.Path.{◌∙◌, ap}
 use Rattle.session.specs.Lefts.{Rowed}
-use Rattle.session.proofs.PartLaws.{row_many, row_more, row_other}
-use borrow.Author.Rules.{rules}
+use Rattle.session.proofs.PartLaws.{but_rows, row_many, row_more, row_other}
 use Rattle.session.proofs.row.Goals as goal
 
 pub returns-in_default : goal.returns-in_default
 returns-in_default c =
-    let e = row_other _ _ _ _ (opened c.in_default.in_default-own.keys2) in
+    let e = row_other _ _ _ _ (but_rows _ c.in_default.not-Rows) in
     (c.bad.ensures ∙ ap (λ (r : Rowed). r.after) e, ap (λ (r : Rowed). r.rows) e)
 
 pub returns-then-n-gt576 : goal.returns-then-n-gt576
