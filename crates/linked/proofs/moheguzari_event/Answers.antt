@@ -1,6 +1,5 @@
 -- `moheguzari_event` meets its contract: the lengths first, then what `monitor::event_on` promises of the state and the facts read,
 -- packed. Assumes nothing.
-use Prim.{tt}
 use mathlib.Core.Path.{◌∙◌}
 use Rattle.monitor.specs.Said.{whole, turn_of}
 use Rattle.linked.proofs.PackingLaws.{state_read, four_counts, many_references, many_sizes}
@@ -25,9 +24,6 @@ references-refs-requires c = c.if-state-ne135.false
 pub sizes-sizes-requires : goal.sizes-sizes-requires
 sizes-sizes-requires c = c.if-state-ne135.false
 
-pub event-event-requires : goal.event-event-requires
-event-event-requires c = tt
-
 pub event_on-said-requires : goal.event_on-said-requires
 event_on-said-requires c =
     let h = c.if-state-ne135.false in (
@@ -41,21 +37,6 @@ pack-requires c = c.if-state-ne135.false
 
 pub put-requires : goal.put-requires
 put-requires c = c.if-answer-ne10.false
-
-pub shape_of-nodes : goal.shape_of-nodes
-shape_of-nodes c = c.event_on-said.auto.nodes
-
-pub shape_of-values : goal.shape_of-values
-shape_of-values c = c.event_on-said.auto.values
-
-pub shape_of-work : goal.shape_of-work
-shape_of-work c = c.event_on-said.auto.work
-
-pub shape_of-state : goal.shape_of-state
-shape_of-state c = c.pack.auto.numbers
-
-pub shape_of-answer : goal.shape_of-answer
-shape_of-answer c = c.put.auto.numbers
 
 pub returns : goal.returns
 returns c =

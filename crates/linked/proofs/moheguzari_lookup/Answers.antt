@@ -1,6 +1,5 @@
 -- `moheguzari_lookup` meets its contract: the lengths first, then what `numbers::look_up` promises of the figures read, packed.
 -- Assumes nothing.
-use Prim.{tt}
 use Rattle.linked.proofs.CallLaws.{lookup_no_state, lookup_no_answer, lookup_made}
 use Rattle.linked.proofs.moheguzari_lookup.Goals as goal
 
@@ -13,14 +12,8 @@ returns-then-answer-ne2 c = lookup_no_answer _ _ _ _ _ c.if-state-ne135.false c.
 pub figures-figures-requires : goal.figures-figures-requires
 figures-figures-requires c = c.if-state-ne135.false
 
-pub look_up-found-requires : goal.look_up-found-requires
-look_up-found-requires c = tt
-
 pub put_found-requires : goal.put_found-requires
 put_found-requires c = c.if-answer-ne2.false
-
-pub shape_of-answer : goal.shape_of-answer
-shape_of-answer c = c.put_found.auto.numbers
 
 pub returns : goal.returns
 returns c =

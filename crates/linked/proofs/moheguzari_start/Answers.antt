@@ -1,5 +1,4 @@
 -- `moheguzari_start` meets its contract: the lengths first, then what `monitor::start` promises, packed. Assumes nothing.
-use Prim.{tt}
 use Rattle.linked.proofs.CallLaws.{other_state, other_answer, start_not_made, start_made}
 use Rattle.linked.proofs.moheguzari_start.Goals as goal
 
@@ -9,26 +8,11 @@ returns-then-state-ne135 c = start_not_made _ _ _ _ _ _ (other_state c.args.stat
 pub returns-then-answer-ne10 : goal.returns-then-answer-ne10
 returns-then-answer-ne10 c = start_not_made _ _ _ _ _ _ (other_answer c.args.state.now c.args.answer.now c.if-state-ne135.false c.if-answer-ne10.true)
 
-pub start-turn-requires : goal.start-turn-requires
-start-turn-requires c = tt
-
 pub pack-requires : goal.pack-requires
 pack-requires c = c.if-state-ne135.false
 
 pub put-requires : goal.put-requires
 put-requires c = c.if-answer-ne10.false
-
-pub shape_of-nodes : goal.shape_of-nodes
-shape_of-nodes c = c.start-turn.auto.nodes
-
-pub shape_of-values : goal.shape_of-values
-shape_of-values c = c.start-turn.auto.values
-
-pub shape_of-state : goal.shape_of-state
-shape_of-state c = c.pack.auto.numbers
-
-pub shape_of-answer : goal.shape_of-answer
-shape_of-answer c = c.put.auto.numbers
 
 pub returns : goal.returns
 returns c =
