@@ -4,6 +4,7 @@ use native.Mathlib.Nat.{sub-zero}
 use mathlib.Core.Path.{◌≡◌, refl, sym, ap, ◌∙◌}
 use mathlib.Core.Bool.{Bool, true, false}
 use mathlib.Core.List.{List, [], ◌∷◌, ◌++◌}
+use mathlib.Core.Logic.{inl, inr}
 use lib.ListN.{take, drop}
 use denote.Enum.Declared.{tag_of}
 use types.Run.{OneOf, miss}
@@ -28,6 +29,12 @@ begun_refused : (a : Answer) (s : Session) (o : StartOutcome) (number place : �
     → saying (turned_to s Over) false (said.NoStart number place) ≡ begun_as a s o
 unfolding begun_as
 begun_refused a s o number place e = rw (← e)
+
+-- an answer that refuses nothing is one of the others
+pub not_refused : (a : Answer) → ((number place : ℕ) → a ≡ Refused number place → ⊥) → OneOf (0 ∷ 1 ∷ []) (tag_of the_type a)
+not_refused Started n = inl refl
+not_refused (Verdict holds kept room) n = inr refl
+not_refused (Refused number place) n = absurd (n number place refl)
 
 -- any other start
 begun_other : (a : Answer) (s : Session) (o : StartOutcome) → OneOf (0 ∷ 1 ∷ []) (tag_of the_type a)

@@ -7,6 +7,7 @@ use Rattle.session.proofs.listed.Goals as goal
 pub returns-then-k-gt10 : goal.returns-then-k-gt10
 returns-then-k-gt10 c = record { value = listed_none _ (omega arith); upper_bound = omega arith }
 
--- TODO record of ['value', 'upper_bound']
 pub returns : goal.returns
-returns c = listed_entry _ (omega arith)
+returns c =
+    let e = listed_entry c.args.k (omega arith) in
+    record { value = e.0; upper_bound = e.1 }

@@ -1,7 +1,7 @@
 -- `session::over` meets its contract. Assumes nothing.
-use Rattle.session.proofs.PartLaws.{not_over}
+use Rattle.session.proofs.PartLaws.{not_over_one, not_over}
 use borrow.Author.Rules.{rules}
 use Rattle.session.proofs.over.Goals as goal
 
 pub returns : goal.returns
-returns c = not_over c.args.s.part c.in_default.keys2
+returns c = not_over c.args.s.part (not_over_one _ c.in_default.not-Over)

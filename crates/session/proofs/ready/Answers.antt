@@ -7,20 +7,20 @@ use Rattle.session.proofs.ready.Goals as goal
 
 pub returns-in-First : goal.returns-in-First
 returns-in-First c =
-    let e = ready_first _ _ _ _ _ c.enum_told-1.given.1 in
+    let e = ready_first _ _ _ _ _ c.in-First.is in
     record { after_is = c.bad.ensures ∙ ap (λ (b : Begun). b.after) e; nodes_are = ap (λ (b : Begun). b.nodes) e; values_are = ap (λ (b : Begun). b.values) e }
 
 pub returns-in-Rows : goal.returns-in-Rows
 returns-in-Rows c =
-    let e = ready_rows _ _ _ _ _ c.enum_told-in-Rows-1.given.1 in
+    let e = ready_rows _ _ _ _ _ c.in-Rows.is in
     record { after_is = c.begin.ensures.after_is ∙ ap (λ (b : Begun). b.after) e; nodes_are = c.begin.ensures.nodes_are ∙ ap (λ (b : Begun). b.nodes) e; values_are = c.begin.ensures.values_are ∙ ap (λ (b : Begun). b.values) e }
 
 pub returns-in-Events : goal.returns-in-Events
 returns-in-Events c =
-    let e = ready_events _ _ _ _ _ c.enum_told-in-Events-1.given.1 in
+    let e = ready_events _ _ _ _ _ c.in-Events.is in
     record { after_is = c.quiet.ensures ∙ ap (λ (b : Begun). b.after) e; nodes_are = ap (λ (b : Begun). b.nodes) e; values_are = ap (λ (b : Begun). b.values) e }
 
 pub returns-in-Over : goal.returns-in-Over
 returns-in-Over c =
-    let e = ready_over _ _ _ _ _ c.enum_told-in-Over-1.given.1 in
+    let e = ready_over _ _ _ _ _ c.in-Over.is in
     record { after_is = c.quiet-in-Over.ensures ∙ ap (λ (b : Begun). b.after) e; nodes_are = ap (λ (b : Begun). b.nodes) e; values_are = ap (λ (b : Begun). b.values) e }
