@@ -74,6 +74,9 @@ starts_tell Started Started started started c v c' v' ns ns' e = refl
 starts_tell Started (Refused n p) started (start_refused h) c v c' v' ns ns' e = absurd (omega (arith, ap (λ (l : List ℕ). get_or l 0 0) e))
 starts_tell (Refused n p) Started (start_refused h) started c v c' v' ns ns' e = absurd (omega (arith, ap (λ (l : List ℕ). get_or l 0 0) e))
 starts_tell (Refused n p) (Refused m q) (start_refused h) (start_refused g) c v c' v' ns ns' e = cc e
+starts_tell Started (Verdict _ _ _) _ x c v c' v' ns ns' e = elim x [ ]
+starts_tell (Verdict _ _ _) b x _ c v c' v' ns ns' e = elim x [ ]
+starts_tell (Refused n p) (Verdict _ _ _) _ x c v c' v' ns ns' e = elim x [ ]
 
 events_tell : (a b : Answer) → OfEvent a → OfEvent b → (c v c' v' : ℕ) (ns ns' : List ℕ) → packed_answer a c v ns ≡ packed_answer b c' v' ns' → a ≡ b
 unfolding packed_answer first_six
@@ -85,6 +88,9 @@ events_tell (Verdict y j r) (Verdict z k s) verdict verdict c v c' v' ns ns' e =
 events_tell (Verdict y j r) (Refused n p) verdict (event_refused h) c v c' v' ns ns' e = absurd (omega (arith, ap (λ (l : List ℕ). get_or l 0 0) e))
 events_tell (Refused n p) (Verdict z k s) (event_refused h) verdict c v c' v' ns ns' e = absurd (omega (arith, ap (λ (l : List ℕ). get_or l 0 0) e))
 events_tell (Refused n p) (Refused m q) (event_refused h) (event_refused g) c v c' v' ns ns' e = cc e
+events_tell Started b x _ c v c' v' ns ns' e = elim x [ ]
+events_tell (Verdict y j r) Started _ x c v c' v' ns ns' e = elim x [ ]
+events_tell (Refused n p) Started _ x c v c' v' ns ns' e = elim x [ ]
 
 -- two starts whose answers are written alike answered alike
 pub one_start_answer : (k j : ℕ) (rows nodes values rows' nodes' values' : List ℕ)

@@ -1,6 +1,6 @@
 -- What is decided of an event at each of its tests, and what is then left. Assumes nothing.
-use Prim.Native.Nat.{ℕ, ◌<◌, ◌≤◌}
-use mathlib.Core.Path.{◌≡◌, refl, ap, sym, ◌∙◌}
+use Prim.Native.Nat.{ℕ, ◌<◌}
+use mathlib.Core.Path.{◌≡◌}
 use mathlib.Core.Bool.{Bool, true, false, ◌&&◌}
 use mathlib.Core.List.{List}
 use lib.Dec.{leb, ltb}
@@ -11,7 +11,7 @@ use Rattle.meaning.specs.declared.Answer.TheVariants.{Refused}
 use Rattle.meaning.specs.Rows.{rule_of, right, fault, check_rows}
 use Rattle.meaning.specs.Step.{step, room_of}
 use Rattle.meaning.specs.Tables.{well_formed}
-use Rattle.meaning.specs.Outcome.{k_right, capacity, nodes_right, values_right, work_size, cleared, facts_of, count_right, shortest, Decision, taken, refused, judge_start, judge_event, decide_event, Machine, shows, EventOutcome, settle_event, event_outcome}
+use Rattle.meaning.specs.Outcome.{k_right, capacity, nodes_right, values_right, work_size, cleared, facts_of, count_right, shortest, taken, refused, judge_start, judge_event, decide_event, Machine, shows, settle_event, event_outcome}
 
 module _ (rows : List ℕ) (m : Machine) (e : Event) where
   -- the tests of an event, by name

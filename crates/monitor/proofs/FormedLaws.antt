@@ -1,6 +1,6 @@
 -- Refusal 4 in the terms of the layers below: the diagrams by each row's mask, and the lists. Assumes nothing.
-use Prim.Native.Nat.{ℕ, zero, suc, ◌+◌, ◌*◌, ◌/◌, ◌%◌, ◌^◌, ◌<◌, ◌≤◌}
-use mathlib.Core.Path.{◌≡◌, refl, ap, ap₂, sym, ◌∙◌}
+use Prim.Native.Nat.{ℕ, zero, suc, ◌/◌, ◌%◌, ◌^◌, ◌<◌}
+use mathlib.Core.Path.{◌≡◌, refl, ap₂, sym}
 use mathlib.Core.Bool.{Bool, true, false, ◌&&◌}
 use mathlib.Core.List.{List}
 use native.Mathlib.Omega.{arith}
@@ -11,7 +11,7 @@ use Rattle.trees.specs.Table.{at, trees_of}
 use Rattle.trees.specs.Kept.{all_below, levels, well_kept}
 use Rattle.trees.proofs.Tests.{LtCase, below, above, lt_case}
 use Rattle.meaning.specs.Qtl.{free}
-use Rattle.meaning.specs.Rows.{Row, count_of_rows, rule_of, formula_at, right, check_rows}
+use Rattle.meaning.specs.Rows.{count_of_rows, rule_of, formula_at, right, check_rows}
 use Rattle.meaning.specs.Tables.{free_level}
 use Rattle.meaning.proofs.RowsLaws.{checked, rows_length, free_beyond}
 use Rattle.rule.specs.Masks.{has_bit}

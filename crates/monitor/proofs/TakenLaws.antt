@@ -1,8 +1,7 @@
 -- What a taken event leaves, put together from the parts that the layers below give. Assumes nothing.
-use Prim.Native.Nat.{ℕ, zero, suc, ◌+◌, ◌-◌, ◌<◌, ◌≤◌}
-use mathlib.Core.Path.{◌≡◌, refl, ap, sym, ◌∙◌}
-use mathlib.Core.Bool.{Bool, true, false}
-use mathlib.Core.List.{List, [], ◌∷◌, ◌++◌, map}
+use Prim.Native.Nat.{ℕ, zero, suc, ◌-◌, ◌<◌}
+use mathlib.Core.Path.{◌≡◌, refl, sym}
+use mathlib.Core.List.{List, [], ◌∷◌, map}
 use native.Mathlib.Omega.{arith}
 use lib.Dec.{eqb}
 use borrow.Author.Tests.{ne_eqb}
@@ -10,7 +9,6 @@ use lib.ListN.{length, get_or, length-map, get_or-append}
 use Rattle.trees.specs.Tree.{Tree, off, on, node, is_on}
 use Rattle.trees.specs.Table.{find, ref_of}
 use Rattle.trees.specs.Sizes.{sizes_of}
-use Rattle.meaning.specs.declared.State.{State}
 use Rattle.meaning.specs.declared.Answer.TheVariants.{Verdict}
 use Rattle.meaning.specs.Qtl.{Fact}
 use Rattle.meaning.specs.Rows.{Row}

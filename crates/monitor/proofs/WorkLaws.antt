@@ -1,31 +1,30 @@
 -- The diagram layer's step, called with a rule's masks and an event's plan, does the work that the meaning says. Assumes nothing.
-use Prim.Native.Nat.{ℕ, zero, suc, ◌+◌, ◌-◌, ◌*◌, ◌/◌, ◌%◌, ◌<◌, ◌≤◌}
-use mathlib.Core.Path.{◌≡◌, refl, ap, sym, ◌∙◌}
+use Prim.Native.Nat.{ℕ, ◌+◌, ◌*◌, ◌/◌, ◌%◌, ◌<◌}
+use mathlib.Core.Path.{◌≡◌, refl}
 use mathlib.Core.Bool.{Bool, true, false, ◌&&◌}
 use mathlib.Core.List.{List}
 use native.Mathlib.Omega.{arith}
 use lib.Dec.{eqb, ltb, leb}
 use lib.ListN.{length, get_or}
-use borrow.Author.Tests.{ltb-false, ltb-true, leb-true, eqb-true, eq-eqb, le-leb}
-use Rattle.trees.specs.Kept.{WellKept, well_kept, diagrams}
+use borrow.Author.Tests.{ltb-false, ltb-true, eqb-true, eq-eqb, le-leb}
+use Rattle.trees.specs.Kept.{well_kept, diagrams}
 use Rattle.trees.specs.Sizes.{sizes_right}
 use Rattle.trees.proofs.Tests.{and_true, and_true_l, and_true_r}
 use Rattle.trees.proofs.KeptLaws.{of_kept}
 use Rattle.trees.proofs.SizesLaws.{sizes_right_law}
 use Rattle.meaning.specs.declared.Event.{Event}
-use Rattle.meaning.specs.Rows.{Row, truth, rule_of, count_of_rows, first_below, right, check_rows}
+use Rattle.meaning.specs.Rows.{truth, rule_of, count_of_rows, first_below, right, check_rows}
 use Rattle.meaning.specs.Numbering.{ask_facts}
-use Rattle.meaning.specs.Step.{Shown, step, room_of}
-use Rattle.meaning.specs.Tables.{most, read, kept_table, free_level, well_formed}
+use Rattle.meaning.specs.Step.{step}
+use Rattle.meaning.specs.Tables.{most, read, free_level}
 use Rattle.meaning.specs.Outcome.{k_right, capacity, nodes_right, values_right, work_size, facts_of, shortest, Machine, Arrays, shows}
 use Rattle.meaning.proofs.RowsLaws.{checked, rows_length, first_none}
-use Rattle.meaning.proofs.ProperLaws.{Proper, kept_is, sizes_are}
+use Rattle.meaning.proofs.ProperLaws.{kept_is, sizes_are}
 use Rattle.meaning.proofs.Simulation.{Enough}
 use Rattle.meaning.proofs.RunLaws.{positive, few}
 use Rattle.meaning.proofs.AnyState.{laid_formed}
 use Rattle.rule.specs.Checking.{Free}
 use Rattle.diagram.specs.declared.Instruction.TheVariants.{Yes}
-use Rattle.keeping.specs.Checks.{free_by}
 use Rattle.diagram.specs.Steps.{Task, does, fits, judge, judge_formed, step_outcome, formed_outcome}
 use Rattle.instructions.specs.Plan.{task_of}
 use Rattle.instructions.specs.Worked.{worked_outcome}

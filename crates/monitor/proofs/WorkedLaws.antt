@@ -1,7 +1,7 @@
 -- How the work on an event ends: with bad diagrams, without room, or done; and what is then left. Assumes nothing.
 use Prim.Native.Nat.{ℕ, ◌+◌, ◌-◌, ◌*◌, ◌/◌, ◌^◌, ◌<◌, ◌≤◌}
 use mathlib.Core.Path.{◌≡◌, refl, ap, sym, subst, ◌∙◌}
-use mathlib.Core.Bool.{Bool, true, false, ◌&&◌}
+use mathlib.Core.Bool.{Bool, true, false}
 use mathlib.Core.List.{List, []}
 use mathlib.Core.Logic.{⊎_elim}
 use native.Mathlib.Omega.{arith}
@@ -13,14 +13,13 @@ use Rattle.trees.specs.Kept.{all_below}
 use Rattle.trees.specs.Sizes.{sizes_of}
 use Rattle.trees.proofs.Tests.{bool, and_true_l, and_true_r}
 use Rattle.trees.proofs.KeptLaws.{all_at}
-use Rattle.meaning.specs.declared.State.{State}
 use Rattle.meaning.specs.declared.Event.{Event}
 use Rattle.meaning.specs.declared.Turn.{Turn}
 use Rattle.meaning.specs.Rows.{truth, row_at, count_of_rows, rule_of, first_below}
 use Rattle.meaning.specs.Numbering.{Lists, place, ask_facts}
 use Rattle.meaning.specs.Step.{Shown, step, room_of}
-use Rattle.meaning.specs.Tables.{most, read, list_of, list_right, kept_table, lay_state, lay_nodes, lay_values, free_level}
-use Rattle.meaning.specs.Outcome.{capacity, nodes_right, values_right, cleared, work_size, fact_of, given, facts_of, all_right, count_right, taken, refused, judge_event, decide_event, Machine, shows, EventOutcome, settle_event, event_outcome, verdict_of}
+use Rattle.meaning.specs.Tables.{most, read, list_of, list_right, kept_table, lay_state, lay_nodes, lay_values}
+use Rattle.meaning.specs.Outcome.{capacity, nodes_right, values_right, cleared, work_size, fact_of, given, facts_of, all_right, count_right, taken, refused, judge_event, decide_event, Machine, shows, settle_event, event_outcome, verdict_of}
 use Rattle.meaning.proofs.StepLaws.{trees_length}
 use Rattle.meaning.proofs.RunLaws.{few, Laid}
 use Rattle.meaning.proofs.AnyState.{laid_formed}

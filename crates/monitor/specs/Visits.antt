@@ -1,6 +1,6 @@
 -- The visits that an event tells with its answer: of the complements that its rows ask for, and of the sweep that ends it. Assumes
 -- nothing: these are definitions.
-use Rattle.std.specs.Prelude.{ℕ, ◌*◌, ◌≡◌, List, [], ◌∷◌, length}
+use Rattle.std.specs.Prelude.{ℕ, ◌*◌, ◌≡◌, List, length}
 use Rattle.trees.specs.Kept.{diagrams}
 use Rattle.meaning.specs.declared.Event.{Event}
 use Rattle.meaning.specs.declared.Answer.{Answer}

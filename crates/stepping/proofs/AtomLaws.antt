@@ -16,7 +16,7 @@ use Rattle.making.specs.declared.Place.{Place}
 use Rattle.making.specs.declared.Place.TheVariants.{Any, Is}
 use Rattle.making.specs.Cubes.{given as has, SameShape}
 use Rattle.diagram.specs.declared.Turn.{Turn}
-use Rattle.diagram.specs.declared.Turn.TheVariants.{Miss, Hit}
+use Rattle.diagram.specs.declared.Turn.TheVariants.{Miss}
 use Rattle.diagram.specs.Steps.{facts, does}
 use Rattle.diagram.specs.Works.{Shaped}
 use Rattle.instructions.specs.Read.{names, number_read, place_read, turn_read, row_turn, is_atom, instruction_read}

@@ -4,7 +4,7 @@ use mathlib.Core.Path.{◌≡◌, sym, ap, ◌∙◌}
 use mathlib.Core.List.{List, ◌++◌}
 use mathlib.Core.Logic.{⊎_elim}
 use native.Mathlib.Omega.{arith}
-use lib.ListN.{length, get_or, drop, replicate, length-append, length-drop, length-replicate, get_or-append, get_or-eq_default}
+use lib.ListN.{length, get_or, drop, replicate, length-append, length-drop, length-replicate, get_or-append}
 use lib.Seq.{ext_get_or, get_or-append-add, get_or-drop}
 use Rattle.trees.proofs.Tests.{lt_or_ge}
 use Rattle.trees.proofs.CanonicalLaws.{zeros_at}

@@ -21,7 +21,7 @@ use Rattle.diagram.specs.declared.Turn.TheVariants.{Miss, Hit}
 use Rattle.diagram.specs.declared.Instruction.{Instruction}
 use Rattle.diagram.specs.declared.Instruction.TheVariants.{Yes, And, Not, Since, Old, Drop}
 use Rattle.making.specs.Cubes.{place_says, cube_says}
-use Rattle.diagram.specs.Steps.{Task, facts, does, says, turn_says, turns_say, turn_stages, instruction_says, task_says, drop_stages, stages_of, task_stages, with_row, new_trees, stages}
+use Rattle.diagram.specs.Steps.{Task, facts, does, says, turn_says, turns_say, turn_stages, instruction_says, drop_stages, stages_of, task_stages, with_row, new_trees, stages}
 use Rattle.stepping.proofs.PlanLaws.{adds_append}
 
 -- a variable's number asks the variable's levels

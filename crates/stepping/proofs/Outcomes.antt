@@ -7,7 +7,6 @@ use native.Mathlib.Omega.{arith}
 use lib.Dec.{leb}
 use lib.ListN.{length}
 use borrow.Author.Tests.{leb-false}
-use Rattle.trees.specs.Table.{at}
 use Rattle.trees.specs.Room.{Room}
 use Rattle.trees.specs.Kept.{diagrams, WellKept}
 use Rattle.stepping.specs.declared.Stepped.{Stepped}

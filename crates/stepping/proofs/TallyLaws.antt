@@ -1,22 +1,21 @@
 -- The visits of the rows, one after the other. Assumes nothing.
-use Prim.Native.Nat.{ℕ, suc, ◌+◌, ◌*◌, ◌-◌, ◌/◌, ◌≤◌, ◌<◌}
+use Prim.Native.Nat.{ℕ, suc, ◌+◌, ◌*◌, ◌-◌, ◌/◌, ◌≤◌}
 use mathlib.Core.Path.{◌≡◌, refl, sym, ap, ap₂, ◌∙◌}
-use mathlib.Core.List.{List, [], ◌++◌, map}
+use mathlib.Core.List.{List, ◌++◌, map}
 use native.Mathlib.Omega.{arith}
 use lib.ListN.{length, get_or, drop, replicate, length-drop, length-replicate, take-append-drop}
 use lib.Seq.{ext_get_or, get_or-drop}
 use Rattle.trees.specs.Tree.{Tree, off, tree_of}
-use Rattle.trees.specs.Table.{add_trees, at, ref_of, show, trees_of}
+use Rattle.trees.specs.Table.{add_trees, at, ref_of, trees_of}
 use Rattle.trees.proofs.ReadLaws.{length_trees, numbers_show}
 use Rattle.trees.proofs.CanonicalLaws.{zeros_at}
 use Rattle.nodes.specs.Nodes.{Table}
 use Rattle.visits.specs.Visits.{Went, complement}
 use Rattle.walks.specs.Complements.{map_of}
-use Rattle.diagram.specs.declared.Instruction.{Instruction}
 use Rattle.diagram.specs.declared.Instruction.TheVariants.{Yes, And, Not, Since, Old, Drop}
-use Rattle.diagram.specs.Steps.{Task, facts, does, says, stages_of, task_stages, new_trees}
+use Rattle.diagram.specs.Steps.{Task, facts, does, says, task_stages, new_trees}
 use Rattle.diagram.specs.Counts.{holding, Counting, meets, count_row, count_task, counting, row_ceiling, task_ceiling, ceiling}
-use Rattle.diagram.specs.Works.{Plain, Tolled, TolledBy, Tallied}
+use Rattle.diagram.specs.Works.{Plain, TolledBy, Tallied}
 
 -- a slice with zeros behind its table is the one that holds it
 pub holds : {ns : List ℕ} {n : ℕ} → Table ns n → ((j : ℕ) → 3 * n ≤ j → get_or ns j 0 ≡ 0) → holding (length ns) (trees_of ns n) ≡ ns

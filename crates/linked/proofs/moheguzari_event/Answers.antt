@@ -43,32 +43,22 @@ pub put-requires : goal.put-requires
 put-requires c = c.if-answer-ne10.false
 
 pub shape_of-nodes : goal.shape_of-nodes
-shape_of-nodes c = c.event_on-said.auto.1.1.1.1.0
+shape_of-nodes c = c.event_on-said.auto.nodes
 
 pub shape_of-values : goal.shape_of-values
-shape_of-values c = c.event_on-said.auto.1.1.1.1.1.0
+shape_of-values c = c.event_on-said.auto.values
 
 pub shape_of-work : goal.shape_of-work
-shape_of-work c = c.event_on-said.auto.1.1.1.1.1.1.0
+shape_of-work c = c.event_on-said.auto.work
 
 pub shape_of-state : goal.shape_of-state
-shape_of-state c = c.pack.auto.1.1.1.0
+shape_of-state c = c.pack.auto.numbers
 
 pub shape_of-answer : goal.shape_of-answer
-shape_of-answer c = c.put.auto.1.1.1.1.0
+shape_of-answer c = c.put.auto.numbers
 
 pub returns : goal.returns
 returns c =
-    let put = c in
-    let packed = put in
-    let said = packed in
-    let happening = said in
-    let sizes = happening in
-    let refs = sizes in
-    let before = refs in
-    let answer = before in
-    let state = answer in
-    let facts = state in
-    event_made _ _ _ _ _ _ _ (whole before.figures-before.result refs.references-refs.result sizes.sizes-sizes.result) _ (turn_of said.event_on-said.result said.event_on-said.new.1.0 said.event_on-said.new.1.1.0) _ _ _ _ _ _ _ _
-    facts.if-facts-ne0.false state.if-state-ne135.false answer.if-answer-ne10.false (state_read _ _ _ _ before.figures-before.ensures refs.references-refs.ensures sizes.sizes-sizes.ensures) happening.event-event.ensures
-    said.event_on-said.ensures.happens said.event_on-said.ensures.looks said.event_on-said.ensures.numbers packed.pack.ensures put.put.ensures
+    event_made _ _ _ _ _ _ _ (whole c.figures-before.result c.references-refs.result c.sizes-sizes.result) _ (turn_of c.event_on-said.result c.event_on-said.new.refs c.event_on-said.new.sizes) _ _ _ _ _ _ _ _
+    c.if-facts-ne0.false c.if-state-ne135.false c.if-answer-ne10.false (state_read _ _ _ _ c.figures-before.ensures c.references-refs.ensures c.sizes-sizes.ensures) c.event-event.ensures
+    c.event_on-said.ensures.happens c.event_on-said.ensures.looks c.event_on-said.ensures.numbers c.pack.ensures c.put.ensures

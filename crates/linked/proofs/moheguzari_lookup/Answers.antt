@@ -20,12 +20,8 @@ pub put_found-requires : goal.put_found-requires
 put_found-requires c = c.if-answer-ne2.false
 
 pub shape_of-answer : goal.shape_of-answer
-shape_of-answer c = c.put_found.auto.1.0
+shape_of-answer c = c.put_found.auto.numbers
 
 pub returns : goal.returns
 returns c =
-    let put = c in
-    let found = put in
-    let read = found in
-    let answer = read in
-    lookup_made _ _ _ _ _ read.figures-figures.result found.look_up-found.result _ answer.if-state-ne135.false answer.if-answer-ne2.false read.figures-figures.ensures found.look_up-found.ensures put.put_found.ensures
+    lookup_made _ _ _ _ _ c.figures-figures.result c.look_up-found.result _ c.if-state-ne135.false c.if-answer-ne2.false c.figures-figures.ensures c.look_up-found.ensures c.put_found.ensures

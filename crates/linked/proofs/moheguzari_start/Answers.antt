@@ -4,10 +4,10 @@ use Rattle.linked.proofs.CallLaws.{other_state, other_answer, start_not_made, st
 use Rattle.linked.proofs.moheguzari_start.Goals as goal
 
 pub returns-then-state-ne135 : goal.returns-then-state-ne135
-returns-then-state-ne135 c = let s = c in start_not_made _ _ _ _ _ _ (other_state s.args.state.now s.args.answer.now c.if-state-ne135.true)
+returns-then-state-ne135 c = start_not_made _ _ _ _ _ _ (other_state c.args.state.now c.args.answer.now c.if-state-ne135.true)
 
 pub returns-then-answer-ne10 : goal.returns-then-answer-ne10
-returns-then-answer-ne10 c = let s = c in start_not_made _ _ _ _ _ _ (other_answer s.args.state.now s.args.answer.now c.if-state-ne135.false c.if-answer-ne10.true)
+returns-then-answer-ne10 c = start_not_made _ _ _ _ _ _ (other_answer c.args.state.now c.args.answer.now c.if-state-ne135.false c.if-answer-ne10.true)
 
 pub start-turn-requires : goal.start-turn-requires
 start-turn-requires c = tt
@@ -19,22 +19,18 @@ pub put-requires : goal.put-requires
 put-requires c = c.if-answer-ne10.false
 
 pub shape_of-nodes : goal.shape_of-nodes
-shape_of-nodes c = c.start-turn.auto.1.1.0
+shape_of-nodes c = c.start-turn.auto.nodes
 
 pub shape_of-values : goal.shape_of-values
-shape_of-values c = c.start-turn.auto.1.1.1.0
+shape_of-values c = c.start-turn.auto.values
 
 pub shape_of-state : goal.shape_of-state
-shape_of-state c = c.pack.auto.1.1.1.0
+shape_of-state c = c.pack.auto.numbers
 
 pub shape_of-answer : goal.shape_of-answer
-shape_of-answer c = c.put.auto.1.1.1.1.0
+shape_of-answer c = c.put.auto.numbers
 
 pub returns : goal.returns
 returns c =
-    let p = c in
-    let m = p in
-    let e = m in
-    let s = e in
-    start_made s.args.k s.args.rows.now s.args.nodes.now s.args.values.now s.args.state.now s.args.answer.now m.start-turn.result _ _ _ _
-    e.if-state-ne135.false e.if-answer-ne10.false m.start-turn.ensures p.pack.ensures c.put.ensures
+    start_made c.args.k c.args.rows.now c.args.nodes.now c.args.values.now c.args.state.now c.args.answer.now c.start-turn.result _ _ _ _
+    c.if-state-ne135.false c.if-answer-ne10.false c.start-turn.ensures c.pack.ensures c.put.ensures

@@ -1,6 +1,5 @@
 -- `monitor::refused_start` meets its contract: the turn made is the one of the definition. Assumes nothing.
 use mathlib.Core.Path.{refl}
-use borrow.Author.Rules.{rules}
 use Rattle.monitor.specs.Calls.{refused_turn}
 use Rattle.monitor.proofs.refused_start.Goals as goal
 

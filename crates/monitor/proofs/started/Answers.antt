@@ -1,6 +1,5 @@
 -- `monitor::started` meets its contract: the turn made is the one of the definition. Assumes nothing.
 use mathlib.Core.Path.{refl}
-use borrow.Author.Rules.{rules}
 use Rattle.monitor.specs.Calls.{started_turn}
 use Rattle.monitor.proofs.started.Goals as goal
 

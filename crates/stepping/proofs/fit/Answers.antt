@@ -1,7 +1,6 @@
 -- `plan::fit` meets its contract. Assumes nothing.
 use native.Mathlib.Omega.{arith}
 use Rattle.stepping.proofs.FitLaws.{fit_last}
-use borrow.Author.Rules.{rules}
 use Rattle.stepping.proofs.fit.Goals as goal
 
 pub returns : goal.returns

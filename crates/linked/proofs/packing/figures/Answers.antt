@@ -5,6 +5,4 @@ use Rattle.linked.proofs.packing.figures.Goals as goal
 
 pub returns : goal.returns
 returns c =
-    let k = c in
-    let s = k in
-    figures_read s.args.numbers.now k.copy.new.1.0 s.requires k.copy.ensures
+    figures_read c.args.numbers.now c.copy.new.to c.requires c.copy.ensures

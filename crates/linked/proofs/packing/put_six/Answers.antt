@@ -9,17 +9,13 @@ use Rattle.linked.proofs.packing.put_six.Goals as goal
 pub returns-in-Started : goal.returns-in-Started
 unfolding first_six
 returns-in-Started c =
-    let s = c in
-    c.six.ensures ∙ sym (ap (λ (x : Answer). first_six x s.args.complements s.args.swept) c.in-Started.is)
+    c.six.ensures ∙ sym (ap (λ (x : Answer). first_six x c.args.complements c.args.swept) c.in-Started.is)
 
 pub returns-in-Verdict : goal.returns-in-Verdict
 returns-in-Verdict c =
-    let f = c in
-    verdict_put _ _ _ _ _ _ _ _ f.six-in-Verdict.ensures f.bit_of.ensures f.answer-1.given.1
+    verdict_put _ _ _ _ _ _ _ _ c.six-in-Verdict.ensures c.bit_of.ensures c.in-Verdict.is
 
 pub returns-in-Refused : goal.returns-in-Refused
 unfolding first_six
 returns-in-Refused c =
-    let s = c in
-    let f = c in
-    f.six-in-Refused.ensures ∙ sym (ap (λ (x : Answer). first_six x s.args.complements s.args.swept) f.answer-in-Refused-1.given.1)
+    c.six-in-Refused.ensures ∙ sym (ap (λ (x : Answer). first_six x c.args.complements c.args.swept) c.in-Refused.is)

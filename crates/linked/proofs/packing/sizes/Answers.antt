@@ -5,6 +5,4 @@ use Rattle.linked.proofs.packing.sizes.Goals as goal
 
 pub returns : goal.returns
 returns c =
-    let k = c in
-    let s = k in
-    sizes_read s.args.numbers.now k.copy.new.1.0 s.requires k.copy.ensures
+    sizes_read c.args.numbers.now c.copy.new.to c.requires c.copy.ensures

@@ -1,6 +1,5 @@
 -- `monitor::decide::first` meets its contract: each arm gives back the decision of its case. Assumes nothing.
 use mathlib.Core.Path.{refl}
-use borrow.Author.Rules.{rules}
 use Rattle.monitor.specs.Decisions.{first_of}
 use Rattle.monitor.proofs.decide.first.Goals as goal
 

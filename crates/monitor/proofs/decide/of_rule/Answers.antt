@@ -1,6 +1,5 @@
 -- `monitor::decide::of_rule` meets its contract: each arm makes the decision of its case. Assumes nothing.
 use mathlib.Core.Path.{ap, sym}
-use borrow.Author.Rules.{rules}
 use Rattle.monitor.specs.Decisions.{of_rule}
 use Rattle.monitor.proofs.decide.of_rule.Goals as goal
 

@@ -1,6 +1,5 @@
 -- `monitor::lent::lengths_right` meets its contract: each return by the tests that led there. Assumes nothing.
 use native.Mathlib.Omega.{arith}
-use borrow.Author.Rules.{rules}
 use Rattle.numbers.proofs.StartLaws.{most_le}
 use Rattle.monitor.proofs.LentLaws.{parts_left, no_room, much_room, room}
 use Rattle.monitor.proofs.lent.lengths_right.Goals as goal

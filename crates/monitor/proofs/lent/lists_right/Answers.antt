@@ -1,5 +1,4 @@
 -- `monitor::lent::lists_right` meets its contract: the count of rows, and then the lists. Assumes nothing.
-use borrow.Author.Rules.{rules}
 use Rattle.monitor.proofs.LentLaws.{beyond_same, other_rows, same_rows}
 use Rattle.monitor.proofs.lent.lists_right.Goals as goal
 
@@ -9,4 +8,4 @@ returns-then-figures-n c = record { value = other_rows _ _ _ c.if-figures-n.true
 pub returns : goal.returns
 returns c =
     let d = c in
-    record { value = same_rows _ _ _ _ d.if-figures-n.false d.lists_right.ensures.answer; beyond = record { size = d.lists_right.auto.1.1.1.1.0; rest = d.lists_right.ensures.beyond } }
+    record { value = same_rows _ _ _ _ d.if-figures-n.false d.lists_right.ensures.answer; beyond = record { size = d.lists_right.auto.work; rest = d.lists_right.ensures.beyond } }

@@ -1,7 +1,5 @@
-use Prim.Native.Nat.{◌-◌, ◌≤◌}
 use native.Mathlib.Omega.{arith}
-use lib.ListN.{length}
-use Rattle.monitor.proofs.LentLaws.{Cleared, clear_start, clear_more, clear_all}
+use Rattle.monitor.proofs.LentLaws.{clear_start, clear_more, clear_all}
 use Rattle.monitor.proofs.lent.zero.Goals as goal
 
 pub loop-i-init : goal.loop-i-init

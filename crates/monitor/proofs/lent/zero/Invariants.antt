@@ -1,8 +1,7 @@
 -- `monitor::lent::zero` meets its contract. The loop keeps that the numbers before i are 0; the measure is what is left. Assumes nothing.
 use Prim.Native.Nat.{◌-◌, ◌≤◌}
-use native.Mathlib.Omega.{arith}
 use lib.ListN.{length}
-use Rattle.monitor.proofs.LentLaws.{Cleared, clear_start, clear_more, clear_all}
+use Rattle.monitor.proofs.LentLaws.{Cleared}
 use Rattle.monitor.proofs.lent.zero.Given as goal
 
 abbrev pub invariant-loop-i : goal.invariant-loop-i

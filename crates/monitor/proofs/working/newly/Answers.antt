@@ -1,7 +1,6 @@
 -- `monitor::working::newly` meets its contract: no count is less than it was. Assumes nothing.
 use mathlib.Core.Path.{refl}
 use native.Mathlib.Omega.{arith}
-use borrow.Author.Rules.{rules}
 use Rattle.monitor.specs.Numbered.{growth}
 use Rattle.monitor.proofs.working.newly.Goals as goal
 

@@ -1,6 +1,5 @@
 -- `monitor::working::taken` meets its contract: it is what is said. Assumes nothing.
 use mathlib.Core.Path.{refl}
-use borrow.Author.Rules.{rules}
 use Rattle.monitor.specs.Said.{taken_said}
 use Rattle.monitor.proofs.working.taken.Goals as goal
 

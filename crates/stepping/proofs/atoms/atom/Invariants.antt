@@ -1,19 +1,12 @@
 -- `atoms::atom` meets its contract. The loop's invariant: the first f turns are taken. The measure is the count of facts that are left.
 -- Assumes nothing.
-use Prim.Native.Nat.{ℕ, ◌*◌, ◌-◌, ◌≤◌, ◌<◌}
-use mathlib.Core.Path.{◌≡◌, refl, sym, ◌∙◌}
-use mathlib.Core.List.{List, []}
-use native.Mathlib.Numerals.{add-one}
-use native.Mathlib.Omega.{arith}
-use lib.ListN.{length, length-map}
-use borrow.Author.Rules.{rules}
+use Prim.Native.Nat.{◌-◌, ◌≤◌}
+use mathlib.Core.Path.{◌≡◌}
+use lib.ListN.{length}
 use Rattle.rule.specs.Decoded.{row_of}
-use Rattle.rule.proofs.AgreesLaws.{no_fact}
-use Rattle.walks.proofs.DeskLaws.{desk_added}
 use Rattle.instructions.specs.Planned.{turns_to}
-use Rattle.instructions.proofs.PlannedLaws.{turns_length}
-use Rattle.diagram.proofs.TurnLaws.{Turning, takes, turning_none, turning_more, turning_short, turning_all}
-use Rattle.stepping.proofs.AtomLaws.{places, shaped, turn_is}
+use Rattle.diagram.proofs.TurnLaws.{Turning}
+use Rattle.stepping.proofs.AtomLaws.{places}
 use Rattle.stepping.proofs.atoms.atom.Given as goal
 
 abbrev pub invariant-loop-f : goal.invariant-loop-f

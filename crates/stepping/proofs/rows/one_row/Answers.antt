@@ -1,7 +1,5 @@
 -- `rows::one_row` meets its contract: an atom takes its turns, and any other row works its instruction. Assumes nothing.
 use mathlib.Core.Path.{sym, ◌∙◌}
-use native.Mathlib.Omega.{arith}
-use borrow.Author.Rules.{rules}
 use Rattle.rule.specs.Decoded.{row_of}
 use Rattle.diagram.proofs.RowLaws.{row_facts}
 use Rattle.stepping.proofs.AtomLaws.{asked_atom, asked_other}

@@ -1,10 +1,8 @@
-use Prim.Native.Nat.{ℕ, ◌+◌, ◌*◌, ◌-◌, ◌/◌, ◌≤◌, ◌<◌}
+use Prim.Native.Nat.{ℕ, ◌/◌, ◌≤◌, ◌<◌}
 use mathlib.Core.Path.{◌≡◌, refl, ap, sym, ◌∙◌}
 use mathlib.Core.List.{List}
 use native.Mathlib.Omega.{arith}
 use lib.ListN.{length, get_or}
-use borrow.Author.Rules.{rules}
-use Rattle.trees.specs.Kept.{diagrams}
 use Rattle.meaning.specs.Rows
 use Rattle.meaning.specs.Rows.{count_of_rows}
 use Rattle.meaning.specs.declared.Event.{Event}
@@ -15,7 +13,6 @@ use Rattle.diagram.specs.declared.Instruction.TheVariants.{Yes}
 use Rattle.instructions.specs.Planned.{asked, planned}
 use Rattle.instructions.proofs.PlannedLaws.{planned_at}
 use Rattle.diagram.specs.Steps.{does}
-use Rattle.diagram.specs.Works.{Through}
 use Rattle.stepping.proofs.FitLaws.{few_rows, count_is}
 use Rattle.stepping.proofs.PlanLaws.{old_are, through_none, through_short, through_more}
 use Rattle.stepping.proofs.rows.work_rows.Goals as goal
