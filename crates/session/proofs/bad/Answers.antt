@@ -1,7 +1,6 @@
 -- `session::bad` meets its contract, by the part. Assumes nothing.
 use mathlib.Core.Path.{◌∙◌}
 use Rattle.session.proofs.PartLaws.{not_over_one, bad_over, bad_other}
-use borrow.Author.Rules.{rules}
 use Rattle.session.proofs.bad.Goals as goal
 
 pub returns-in-Over : goal.returns-in-Over

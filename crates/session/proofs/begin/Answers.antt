@@ -1,7 +1,4 @@
 -- `session::begin` meets its contract, by the answer of the start. Assumes nothing.
-use native.Mathlib.Omega.{arith}
-use borrow.Author.Rules.{rules}
-use Prim.Native.Nat.{zero-le}
 use mathlib.Core.Path.{refl}
 use Rattle.session.proofs.TurnLaws.{not_refused, begin_refused, begin_started}
 use Rattle.session.proofs.begin.Goals as goal

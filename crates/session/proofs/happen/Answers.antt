@@ -1,7 +1,5 @@
 -- `session::happen` meets its contract: answer, state and tables are those of the event's outcome. Assumes nothing.
 use native.Mathlib.Omega.{arith}
-use borrow.Author.Rules.{rules}
-use Prim.Native.Nat.{zero-le}
 use Rattle.session.proofs.TurnLaws.{happen_left_law}
 use Rattle.session.proofs.happen.Goals as goal
 

@@ -1,5 +1,4 @@
 -- `session::line` meets its contract, by the kind of the line. Assumes nothing.
-use borrow.Author.Rules.{rules}
 use Rattle.session.proofs.LineLaws.{line_sizes, line_row, line_event, line_bad}
 use Rattle.session.proofs.line.Goals as goal
 

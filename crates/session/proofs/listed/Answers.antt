@@ -1,7 +1,6 @@
 -- `session::listed` meets its contract: the constant has 4 × (2^k − 1) at each place. Assumes nothing.
 use native.Mathlib.Omega.{arith}
 use Rattle.session.proofs.SessionLaws.{listed_none, listed_entry}
-use borrow.Author.Rules.{rules}
 use Rattle.session.proofs.listed.Goals as goal
 
 pub returns-then-k-gt10 : goal.returns-then-k-gt10

@@ -1,6 +1,5 @@
 -- `session::over` meets its contract. Assumes nothing.
 use Rattle.session.proofs.PartLaws.{not_over_one, not_over}
-use borrow.Author.Rules.{rules}
 use Rattle.session.proofs.over.Goals as goal
 
 pub returns : goal.returns

@@ -1,9 +1,6 @@
 use native.Mathlib.Omega.{arith}
 use borrow.Author.Rules.{rules}
-use Prim.Native.Nat.{◌-◌}
-use mathlib.Core.Path.{◌≡◌}
-use lib.ListN.{length}
-use Rattle.answers.proofs.PutLaws.{Putting, putting_none, putting_more}
+use Rattle.answers.proofs.PutLaws.{putting_none, putting_more}
 use Rattle.session.proofs.SessionLaws.{row_put}
 use Rattle.session.proofs.put_row.Goals as goal
 

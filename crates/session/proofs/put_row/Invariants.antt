@@ -1,11 +1,8 @@
 -- `session::put_row` meets its contract: the numbers passed stand behind the rule so far. The measure is what is left of the nine. Assumes nothing.
-use native.Mathlib.Omega.{arith}
-use borrow.Author.Rules.{rules}
 use Prim.Native.Nat.{◌-◌}
 use mathlib.Core.Path.{◌≡◌}
 use lib.ListN.{length}
-use Rattle.answers.proofs.PutLaws.{Putting, putting_none, putting_more}
-use Rattle.session.proofs.SessionLaws.{row_put}
+use Rattle.answers.proofs.PutLaws.{Putting}
 use Rattle.session.proofs.put_row.Given as goal
 
 abbrev pub invariant-loop-i : goal.invariant-loop-i

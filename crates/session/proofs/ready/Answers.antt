@@ -2,7 +2,6 @@
 use mathlib.Core.Path.{◌∙◌, ap}
 use Rattle.session.specs.Lefts.{Begun}
 use Rattle.session.proofs.PartLaws.{ready_first, ready_rows, ready_events, ready_over}
-use borrow.Author.Rules.{rules}
 use Rattle.session.proofs.ready.Goals as goal
 
 pub returns-in-First : goal.returns-in-First

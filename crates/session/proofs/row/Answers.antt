@@ -3,7 +3,6 @@ use native.Mathlib.Omega.{arith}
 use mathlib.Core.Path.{◌∙◌, ap}
 use Rattle.session.specs.Lefts.{Rowed}
 use Rattle.session.proofs.PartLaws.{not_rows_one, row_many, row_more, row_other}
-use borrow.Author.Rules.{rules}
 use Rattle.session.proofs.row.Goals as goal
 
 pub returns-in_default : goal.returns-in_default

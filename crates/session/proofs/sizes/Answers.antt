@@ -1,7 +1,6 @@
 -- `session::sizes` meets its contract, by the part. Assumes nothing.
 use mathlib.Core.Path.{◌∙◌}
 use Rattle.session.proofs.PartLaws.{not_first_one, sizes_first, sizes_other}
-use borrow.Author.Rules.{rules}
 use Rattle.session.proofs.sizes.Goals as goal
 
 pub returns-in_default : goal.returns-in_default
