@@ -1,5 +1,5 @@
 -- Calls from a fresh start, each with the state and the tables as last left, by nothing but what they promise. Assumes nothing.
-use Prim.Native.Nat.{ℕ, suc, ◌-◌, ◌*◌, ◌<◌}
+use Prim.Native.Nat.{ℕ, suc, ◌-◌, ◌<◌}
 use mathlib.Core.Path.{◌≡◌, ap, sym, subst, ◌∙◌}
 use mathlib.Core.Bool.{Bool, true}
 use mathlib.Core.List.{List, [], ◌∷◌, ◌++◌}
@@ -7,7 +7,6 @@ use mathlib.Core.Logic.{◌↔◌}
 use lib.ListN.{length, get_or}
 use Rattle.trees.specs.Bits.{Bits}
 use Rattle.trees.specs.Tree.{off, eval}
-use Rattle.trees.proofs.Tests.{iff_eq}
 use Rattle.meaning.specs.declared.Event.{Event}
 use Rattle.meaning.specs.declared.Answer.{Answer}
 use Rattle.meaning.specs.declared.Answer.TheVariants.{Started, Verdict}

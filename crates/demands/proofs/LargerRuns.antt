@@ -1,31 +1,31 @@
 -- A run with a larger table beside a run from a fresh start, by nothing but what the calls promise. Assumes nothing.
-use Prim.Native.Nat.{ℕ, ◌+◌, ◌*◌, ◌/◌, ◌%◌, ◌≤◌, ◌<◌}
+use Prim.Native.Nat.{ℕ, ◌+◌, ◌*◌, ◌/◌, ◌%◌, ◌≤◌}
 use mathlib.Core.Path.{◌≡◌, refl, ap, ap₂, sym, subst, ◌∙◌}
-use mathlib.Core.Bool.{Bool, true, ◌&&◌}
+use mathlib.Core.Bool.{◌&&◌}
 use mathlib.Core.List.{List, [], ◌∷◌, ◌++◌, map}
 use mathlib.Core.Logic.{⊎_elim}
 use native.Mathlib.Omega.{arith}
 use lib.Dec.{eqb, ltb, leb}
-use lib.ListN.{length, replicate, length-append, length-replicate, length-drop, length-map}
+use lib.ListN.{length, length-append, length-replicate, length-drop, length-map}
 use borrow.Author.Tests.{eqb-true, leb-true}
 use Rattle.trees.specs.Table.{ref_of}
-use Rattle.trees.proofs.Tests.{and_true_l, and_true_r}
+use Rattle.trees.proofs.Tests.{and_true_r}
 use Rattle.trees.proofs.SizesLaws.{sizes_length}
 use Rattle.meaning.specs.declared.State.{State}
 use Rattle.meaning.specs.declared.Event.{Event}
 use Rattle.meaning.specs.declared.Answer.{Answer}
-use Rattle.meaning.specs.declared.Answer.TheVariants.{Started, Verdict, Refused}
-use Rattle.meaning.specs.Rows.{count_of_rows, rule_of}
+use Rattle.meaning.specs.declared.Answer.TheVariants.{Started, Refused}
+use Rattle.meaning.specs.Rows.{rule_of}
 use Rattle.meaning.specs.Step.{Shown, step}
 use Rattle.meaning.specs.Tables.{most, kept_table, lay_state}
-use Rattle.meaning.specs.Outcome.{capacity, nodes_right, values_right, work_size, cleared, facts_of, taken, state_of, start_outcome, Machine, Arrays, WellFormed, enlarged, shows, decide_event, event_outcome}
+use Rattle.meaning.specs.Outcome.{capacity, nodes_right, values_right, work_size, cleared, facts_of, taken, state_of, Machine, Arrays, WellFormed, enlarged, shows, decide_event, event_outcome}
 use Rattle.meaning.proofs.PartsLaws.{padded_length}
 use Rattle.meaning.proofs.StartLaws.{zeros, zeros_add}
 use Rattle.meaning.proofs.RunLaws.{few, Laid, C-is, laid_on, Begun, begun}
 use Rattle.meaning.proofs.AnyState.{passed, laid_of}
 use Rattle.meaning.proofs.LargerTable.{large_answers, large_left}
 use Rattle.monitor.specs.Calls.{IsVerdict}
-use Rattle.monitor.specs.Runs.{Fresh, Call, Calls, AllTaken}
+use Rattle.monitor.specs.Runs.{Fresh, Calls, AllTaken}
 use Rattle.demands.proofs.RunLaws.{fresh_started, call_left}
 use Rattle.demands.proofs.AnsweredLaws.{verdict_taken, starts_leaves}
 

@@ -1,17 +1,15 @@
 -- What calls promise is what the definitions give: of a start, of an event, and of a run of them. Assumes nothing.
 use Prim.Native.Nat.{ℕ}
 use mathlib.Core.Path.{◌≡◌, refl, ap, ap₂, sym, ◌∙◌}
-use mathlib.Core.Bool.{Bool, cond}
+use mathlib.Core.Bool.{cond}
 use mathlib.Core.List.{List, [], ◌∷◌}
 use native.Mathlib.Omega.{arith}
 use lib.Dec.{leb}
 use Rattle.meaning.specs.declared.Event.{Event}
 use Rattle.meaning.specs.declared.Answer.{Answer}
-use Rattle.meaning.specs.declared.Answer.TheVariants.{Started, Verdict, Refused}
-use Rattle.meaning.specs.Qtl.{Fact}
+use Rattle.meaning.specs.declared.Answer.TheVariants.{Started, Refused}
 use Rattle.meaning.specs.Rows.{count_of_rows}
-use Rattle.meaning.specs.Outcome.{capacity, cleared, facts_of, Decision, taken, refused, state_of, settle_start, decide_start, start_outcome, Machine, machine_of, shows, verdict_of, decide_event, settle_event, event_outcome, runs, answers, with_taken, taken_of}
-use Rattle.monitor.specs.Calls.{Happens}
+use Rattle.meaning.specs.Outcome.{capacity, cleared, Decision, taken, refused, state_of, settle_start, decide_start, start_outcome, Machine, machine_of, verdict_of, decide_event, settle_event, event_outcome, runs, answers, with_taken, taken_of}
 use Rattle.monitor.specs.Runs.{Fresh, Call, Calls, taken_in}
 
 -- one answer is no other

@@ -3,11 +3,10 @@ use Prim.Native.Nat.{ℕ, ◌+◌, ◌≤◌, ◌<◌}
 use mathlib.Core.Path.{◌≡◌, refl, sym, ap, subst, ◌∙◌}
 use mathlib.Core.Bool.{false}
 use mathlib.Core.List.{List, [], ◌∷◌, ◌++◌}
-use mathlib.Core.Logic.{inl, inr}
 use lib.ListN.{take, drop}
 use borrow.Author.Tests.{lt-ltb, le-ltb}
 use denote.Enum.Declared.{tag_of}
-use types.Run.{OneOf, miss}
+use types.Run.{OneOf, hit, miss}
 use Rattle.meaning.specs.declared.Event.{Event}
 use Rattle.answers.specs.declared.Said.TheVariants.{Bad}
 use Rattle.session.specs.contracts.Part.{the_type}
@@ -17,30 +16,30 @@ use Rattle.session.specs.declared.Session.{Session}
 use Rattle.session.specs.declared.After.{After}
 use Rattle.session.specs.Lefts.{is_over, turned_to, saying, quiet_of, bad_as, sizes_as, Rowed, row_as, Begun, started, begin_left, ready_as, Happened, happened, event_as, event_left, Begins, Judges}
 
--- a part that is not the one named is one of the others
-pub not_over_one : (p : Part) → (p ≡ Over → ⊥) → OneOf (0 ∷ 1 ∷ 2 ∷ []) (tag_of the_type p)
-not_over_one First n = inl refl
-not_over_one Rows n = inr (inl refl)
-not_over_one Events n = inr (inr refl)
-not_over_one Over n = absurd (n refl)
+-- a part that is not one of them is one of the others
+pub but_first : (p : Part) → (p ≡ First → ⊥) → OneOf (1 ∷ 2 ∷ 3 ∷ []) (tag_of the_type p)
+but_first First n = absurd (n refl)
+but_first Rows n = hit (1 ∷ 2 ∷ 3 ∷ []) 1 tt
+but_first Events n = hit (1 ∷ 2 ∷ 3 ∷ []) 2 tt
+but_first Over n = hit (1 ∷ 2 ∷ 3 ∷ []) 3 tt
 
-pub not_first_one : (p : Part) → (p ≡ First → ⊥) → OneOf (1 ∷ 2 ∷ 3 ∷ []) (tag_of the_type p)
-not_first_one First n = absurd (n refl)
-not_first_one Rows n = inl refl
-not_first_one Events n = inr (inl refl)
-not_first_one Over n = inr (inr refl)
+pub but_rows : (p : Part) → (p ≡ Rows → ⊥) → OneOf (0 ∷ 2 ∷ 3 ∷ []) (tag_of the_type p)
+but_rows First n = hit (0 ∷ 2 ∷ 3 ∷ []) 0 tt
+but_rows Rows n = absurd (n refl)
+but_rows Events n = hit (0 ∷ 2 ∷ 3 ∷ []) 2 tt
+but_rows Over n = hit (0 ∷ 2 ∷ 3 ∷ []) 3 tt
 
-pub not_rows_one : (p : Part) → (p ≡ Rows → ⊥) → OneOf (0 ∷ 2 ∷ 3 ∷ []) (tag_of the_type p)
-not_rows_one First n = inl refl
-not_rows_one Rows n = absurd (n refl)
-not_rows_one Events n = inr (inl refl)
-not_rows_one Over n = inr (inr refl)
+pub but_events : (p : Part) → (p ≡ Events → ⊥) → OneOf (0 ∷ 1 ∷ 3 ∷ []) (tag_of the_type p)
+but_events First n = hit (0 ∷ 1 ∷ 3 ∷ []) 0 tt
+but_events Rows n = hit (0 ∷ 1 ∷ 3 ∷ []) 1 tt
+but_events Events n = absurd (n refl)
+but_events Over n = hit (0 ∷ 1 ∷ 3 ∷ []) 3 tt
 
-pub not_events_one : (p : Part) → (p ≡ Events → ⊥) → OneOf (0 ∷ 1 ∷ 3 ∷ []) (tag_of the_type p)
-not_events_one First n = inl refl
-not_events_one Rows n = inr (inl refl)
-not_events_one Events n = absurd (n refl)
-not_events_one Over n = inr (inr refl)
+pub but_over : (p : Part) → (p ≡ Over → ⊥) → OneOf (0 ∷ 1 ∷ 2 ∷ []) (tag_of the_type p)
+but_over First n = hit (0 ∷ 1 ∷ 2 ∷ []) 0 tt
+but_over Rows n = hit (0 ∷ 1 ∷ 2 ∷ []) 1 tt
+but_over Events n = hit (0 ∷ 1 ∷ 2 ∷ []) 2 tt
+but_over Over n = absurd (n refl)
 
 -- any part but `Over`
 pub not_over : (p : Part) → OneOf (0 ∷ 1 ∷ 2 ∷ []) (tag_of the_type p) → false ≡ is_over p

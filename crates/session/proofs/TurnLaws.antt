@@ -4,10 +4,9 @@ use native.Mathlib.Nat.{sub-zero}
 use mathlib.Core.Path.{◌≡◌, refl, sym, ap, ◌∙◌}
 use mathlib.Core.Bool.{Bool, true, false}
 use mathlib.Core.List.{List, [], ◌∷◌, ◌++◌}
-use mathlib.Core.Logic.{inl, inr}
 use lib.ListN.{take, drop}
 use denote.Enum.Declared.{tag_of}
-use types.Run.{OneOf, miss}
+use types.Run.{OneOf, hit, miss}
 use Rattle.meaning.specs.declared.Event.{Event}
 use Rattle.meaning.specs.declared.Turn.{Turn}
 use Rattle.meaning.specs.declared.Answer.{Answer}
@@ -30,11 +29,11 @@ begun_refused : (a : Answer) (s : Session) (o : StartOutcome) (number place : �
 unfolding begun_as
 begun_refused a s o number place e = rw (← e)
 
--- an answer that refuses nothing is one of the others
-pub not_refused : (a : Answer) → ((number place : ℕ) → a ≡ Refused number place → ⊥) → OneOf (0 ∷ 1 ∷ []) (tag_of the_type a)
-not_refused Started n = inl refl
-not_refused (Verdict holds kept room) n = inr refl
-not_refused (Refused number place) n = absurd (n number place refl)
+-- an answer that is no refusal is one of the others
+pub but_refused : (a : Answer) → ((number place : ℕ) → a ≡ Refused number place → ⊥) → OneOf (0 ∷ 1 ∷ []) (tag_of the_type a)
+but_refused Started n = hit (0 ∷ 1 ∷ []) 0 tt
+but_refused (Verdict holds kept room) n = hit (0 ∷ 1 ∷ []) 1 tt
+but_refused (Refused number place) n = absurd (n number place refl)
 
 -- any other start
 begun_other : (a : Answer) (s : Session) (o : StartOutcome) → OneOf (0 ∷ 1 ∷ []) (tag_of the_type a)

@@ -8,16 +8,16 @@ pub marked-requires : goal.marked-requires
 marked-requires c = let p = c.requires.table in omega (arith, p.2, p.3)
 
 pub returns-then-p-lt2 : goal.returns-then-p-lt2
-returns-then-p-lt2 c = let s = c in c.marked.ensures ∙ s.requires.marked.is s.args.p s.requires.table.2 ∙ leaf_oldest s.args.base _ _ c.if-p-lt2.true
+returns-then-p-lt2 c = c.marked.ensures ∙ c.requires.marked.is c.args.p c.requires.table.2 ∙ leaf_oldest c.args.base _ _ c.if-p-lt2.true
 
 pub read-x-requires : goal.read-x-requires
-read-x-requires c = let s = c in record { table = s.requires.table.0; le_r = (omega arith, s.requires.table.1) }
+read-x-requires c = record { table = c.requires.table.0; le_r = (omega arith, c.requires.table.1) }
 
 pub returns-then-base-x : goal.returns-then-base-x
-returns-then-base-x c = let s = c in deep_oldest c.read-x.ensures s.args.base c.if-base-x.true
+returns-then-base-x c = deep_oldest c.read-x.ensures c.args.base c.if-base-x.true
 
 pub marked-requires-2 : goal.marked-requires-2
 marked-requires-2 c = let p = c.requires.table in omega (arith, p.2, p.3)
 
 pub returns : goal.returns
-returns c = let s = c in c.marked-2.ensures ∙ s.requires.marked.is s.args.p s.requires.table.2 ∙ high_oldest c.read-x.ensures s.args.base (omega (arith, c.if-base-x.false))
+returns c = c.marked-2.ensures ∙ c.requires.marked.is c.args.p c.requires.table.2 ∙ high_oldest c.read-x.ensures c.args.base (omega (arith, c.if-base-x.false))

@@ -8,22 +8,22 @@ pub returns-then-p-eq1 : goal.returns-then-p-eq1
 returns-then-p-eq1 c = let a = c.args in bits_last a.base a.l _ a.p c.if-l-base.true c.if-p-eq1.true
 
 pub returns-then-l-base : goal.returns-then-l-base
-returns-then-l-base c = let s = c in bits_over s.requires.table.0 s.args.base s.args.l s.args.p s.requires.table.1 c.if-l-base.true c.if-p-eq1.false
+returns-then-l-base c = bits_over c.requires.table.0 c.args.base c.args.l c.args.p c.requires.table.1 c.if-l-base.true c.if-p-eq1.false
 
 pub returns-then-p-lt2 : goal.returns-then-p-lt2
-returns-then-p-lt2 c = let s = c in bits_leaf s.args.base s.args.l _ s.args.p (omega (arith, s.requires.base_bound.2, c.if-l-base.false)) c.if-p-lt2.true
+returns-then-p-lt2 c = bits_leaf c.args.base c.args.l _ c.args.p (omega (arith, c.requires.base_bound.2, c.if-l-base.false)) c.if-p-lt2.true
 
 pub read-x-requires : goal.read-x-requires
-read-x-requires c = let s = c in record { table = s.requires.table.0; le_r = (omega arith, s.requires.table.1) }
+read-x-requires c = record { table = c.requires.table.0; le_r = (omega arith, c.requires.table.1) }
 
 pub overflow_add-l : goal.overflow_add-l
-overflow_add-l c = let s = c in omega (arith, s.requires.base_bound.0, s.requires.base_bound.2)
+overflow_add-l c = omega (arith, c.requires.base_bound.0, c.requires.base_bound.2)
 
 pub returns-then-x-l : goal.returns-then-x-l
-returns-then-x-l c = let s = c in bits_apart c.read-x.ensures s.args.base s.args.l s.requires.base_bound.1 (omega (arith, s.requires.base_bound.2, c.if-l-base.false)) c.if-x-l.true
+returns-then-x-l c = bits_apart c.read-x.ensures c.args.base c.args.l c.requires.base_bound.1 (omega (arith, c.requires.base_bound.2, c.if-l-base.false)) c.if-x-l.true
 
 pub marked-requires : goal.marked-requires
 marked-requires c = let p = c.requires.table in omega (arith, p.2, p.3)
 
 pub returns : goal.returns
-returns c = let s = c in c.marked.ensures ∙ s.requires.base_bound.3.is s.args.p s.requires.table.2 ∙ bits_marked c.read-x.ensures s.args.base s.args.l s.requires.base_bound.1 (omega (arith, c.if-x-l.false))
+returns c = c.marked.ensures ∙ c.requires.base_bound.3.is c.args.p c.requires.table.2 ∙ bits_marked c.read-x.ensures c.args.base c.args.l c.requires.base_bound.1 (omega (arith, c.if-x-l.false))

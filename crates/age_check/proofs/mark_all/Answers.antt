@@ -15,17 +15,15 @@ pub bounds-work-1 : goal.bounds-work-1
 bounds-work-1 c = simp length-set (omega arith)
 
 pub loop-r-init : goal.loop-r-init
-loop-r-init c = let s = c in (omega arith, omega arith, refl, marks_none s.args.base s.args.nodes.now s.args.kept s.args.work.now (omega arith), record { eq = λ i h. refl })
+loop-r-init c = (omega arith, omega arith, refl, marks_none c.args.base c.args.nodes.now c.args.kept c.args.work.now (omega arith), record { eq = λ i h. refl })
 
 pub overflow_add-kept : goal.overflow_add-kept
 overflow_add-kept c = let t = c.requires.0 in omega (arith, t.fits, t.small)
 
 pub weigh-x-requires : goal.weigh-x-requires
 weigh-x-requires c =
-    let l = c in
-    let s = l in
-    let v = l.loop-r.invariant in
-    record { table = (s.requires.0, v.1, c.loop-r-test.true, omega (arith, size (goal.at.weigh-x-requires c).At-loop-r, s.requires.1, c.loop-r-test.true)); base_bound = (s.requires.2, v.3) }
+    let v = c.loop-r.invariant in
+    record { table = (c.requires.0, v.1, c.loop-r-test.true, omega (arith, size (goal.at.weigh-x-requires c).At-loop-r, c.requires.1, c.loop-r-test.true)); base_bound = (c.requires.2, v.3) }
 
 pub offset_bounds-work-i : goal.offset_bounds-work-i
 offset_bounds-work-i c = omega (arith, size (goal.at.offset_bounds-work-i c).At-loop-r, c.requires.1)
@@ -41,22 +39,18 @@ loop-r-smaller c = omega (arith, c.loop-r-test.true)
 
 pub loop-r-preserved : goal.loop-r-preserved
 loop-r-preserved c =
-    let l = c in
-    let s = l in
-    let v = l.loop-r.invariant in
+    let v = c.loop-r.invariant in
     let h = c.loop-r-test.true in (
       omega arith,
       omega (arith, v.1),
-      length-set l.loop-r.work l.loop-r.r c.weigh-x.result ∙ v.2,
-      marks_more v.3 (omega (arith, size (goal.at.loop-r-preserved c).At-loop-r, s.requires.1)) c.weigh-x.ensures,
-      record { eq = λ i g. get_or-set_other l.loop-r.work l.loop-r.r i c.weigh-x.result 0 (omega arith) ∙ v.4.eq i g },
+      length-set c.loop-r.work c.loop-r.r c.weigh-x.result ∙ v.2,
+      marks_more v.3 (omega (arith, size (goal.at.loop-r-preserved c).At-loop-r, c.requires.1)) c.weigh-x.ensures,
+      record { eq = λ i g. get_or-set_other c.loop-r.work c.loop-r.r i c.weigh-x.result 0 (omega arith) ∙ v.4.eq i g },
     )
 
 pub returns : goal.returns
 returns c =
-    let l = c in
-    let s = l in
-    let w = s.args.work.now in
-    let v = l.loop-r.invariant in
-    let e : l.loop-r.r ≡ s.args.kept + 2 = omega (arith, v.0, c.loop-r-test.false) in
+    let w = c.args.work.now in
+    let v = c.loop-r.invariant in
+    let e : c.loop-r.r ≡ c.args.kept + 2 = omega (arith, v.0, c.loop-r-test.false) in
     (rw e at v.3, record { eq = λ i h. v.4.eq i h ∙ get_or-set_other (set w 0 0) 1 i 4096 0 (omega arith) ∙ get_or-set_other w 0 i 0 0 (omega arith) })

@@ -9,7 +9,7 @@ pub bounds-tops-j : goal.bounds-tops-j
 bounds-tops-j c = let n = c.requires.table.1 in omega (arith, c.loop-i-test.true)
 
 pub overflow_add-top : goal.overflow_add-top
-overflow_add-top c = let l = c in omega (arith, (l.requires.by_index.0 l.loop-i.i c.loop-i-test.true).1)
+overflow_add-top c = omega (arith, (c.requires.by_index.0 c.loop-i.i c.loop-i-test.true).1)
 
 pub bounds-refs-j : goal.bounds-refs-j
 bounds-refs-j c = let n = c.requires.table.1 in omega (arith, c.loop-i-test.true)
@@ -19,27 +19,21 @@ overflow_add-kept c = let t = c.requires.table.0 in omega (arith, t.fits, t.smal
 
 pub age_of-requires : goal.age_of-requires
 age_of-requires c =
-    let l = c in
-    let s = l in
-    let q = s.requires.by_index.0 l.loop-i.i c.loop-i-test.true in
-    record { table = (s.requires.table.0, q.0, q.0, s.requires.table.2); marked = s.requires.by_index.1 }
+    let q = c.requires.by_index.0 c.loop-i.i c.loop-i-test.true in
+    record { table = (c.requires.table.0, q.0, q.0, c.requires.table.2); marked = c.requires.by_index.1 }
 
 pub returns-then-top-age_of : goal.returns-then-top-age_of
 returns-then-top-age_of c =
-    let l = c in
-    let s = l in
     let k = c.loop-i-test.true in
-    row_fails k (s.requires.by_index.0 l.loop-i.i k).1 c.age_of.ensures c.if-top-age_of.true
+    row_fails k (c.requires.by_index.0 c.loop-i.i k).1 c.age_of.ensures c.if-top-age_of.true
 
 pub loop-i-smaller : goal.loop-i-smaller
 loop-i-smaller c = omega (arith, c.loop-i-test.true)
 
 pub loop-i-preserved : goal.loop-i-preserved
 loop-i-preserved c =
-    let l = c in
-    let s = l in
     let k = c.loop-i-test.true in
-    (omega arith, rows_more l.loop-i.invariant.1 (s.requires.by_index.0 l.loop-i.i k).1 c.age_of.ensures (omega (arith, c.if-top-age_of.false)))
+    (omega arith, rows_more c.loop-i.invariant.1 (c.requires.by_index.0 c.loop-i.i k).1 c.age_of.ensures (omega (arith, c.if-top-age_of.false)))
 
 pub returns : goal.returns
 returns c = record { each = λ i h. c.loop-i.invariant.1.each i (omega (arith, c.loop-i-test.false)) }

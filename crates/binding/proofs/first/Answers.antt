@@ -7,9 +7,8 @@ use Rattle.binding.proofs.first.Goals as goal
 
 pub loop-left-init : goal.loop-left-init
 loop-left-init c =
-    let s = c in
-    let d = at (trees_of s.args.nodes.now s.args.kept) s.args.p in
-    (omega arith, refl, record { eq = λ i h. refl }, going_same (omega arith) (going_none d s.args.k s.args.order.now s.args.count (4 * s.args.k) s.requires.table.1 (not_no s.requires.table.0 s.requires.p_nonzero.0 s.requires.p_nonzero.1)))
+    let d = at (trees_of c.args.nodes.now c.args.kept) c.args.p in
+    (omega arith, refl, record { eq = λ i h. refl }, going_same (omega arith) (going_none d c.args.k c.args.order.now c.args.count (4 * c.args.k) c.requires.table.1 (not_no c.requires.table.0 c.requires.p_nonzero.0 c.requires.p_nonzero.1)))
 
 pub overflow_sub-j : goal.overflow_sub-j
 overflow_sub-j c = omega (arith, c.loop-left-test.true, c.loop-left.invariant.0)
@@ -22,11 +21,9 @@ bounds-order-j c = omega (arith, c.loop-left-test.true, c.loop-left.invariant.0,
 
 pub least-n-requires : goal.least-n-requires
 least-n-requires c =
-    let l = c in
-    let s = l in
-    let v = l.loop-left.invariant in
+    let v = c.loop-left.invariant in
     let h = c.loop-left-test.true in
-    record { table = s.requires.table; p_bound = (s.requires.p_nonzero.1, omega (arith, v.1, s.requires.p_nonzero.2)); k_bound = (s.requires.k_bound.0, s.requires.k_bound.3.few _ (omega (arith, h, v.0)), v.3.size); p_value = v.3.can_still; free = v.3.free _ (omega (arith, h, v.0)) (omega (arith, h, v.0)) }
+    record { table = c.requires.table; p_bound = (c.requires.p_nonzero.1, omega (arith, v.1, c.requires.p_nonzero.2)); k_bound = (c.requires.k_bound.0, c.requires.k_bound.3.few _ (omega (arith, h, v.0)), v.3.size); p_value = v.3.can_still; free = v.3.free _ (omega (arith, h, v.0)) (omega (arith, h, v.0)) }
 
 pub offset_bounds-answer-j : goal.offset_bounds-answer-j
 offset_bounds-answer-j c = omega (arith, c.loop-left-test.true, c.loop-left.invariant.0, c.requires.k_bound.1)
@@ -42,15 +39,13 @@ loop-left-smaller c = omega (arith, c.loop-left-test.true)
 
 pub loop-left-preserved : goal.loop-left-preserved
 loop-left-preserved c =
-    let l = c in
-    let s = l in
-    let v = l.loop-left.invariant in
+    let v = c.loop-left.invariant in
     let h = c.loop-left-test.true in
     let e = c.least-n.ensures in (
       omega (arith, h, v.0),
       c.least-n.auto.work ∙ v.1,
       record { eq = λ i q. e.rest.eq i q ∙ v.2.eq i q },
-      going_same (omega (arith, h, v.0)) (going_more s.requires.k_bound.3 (omega (arith, h, v.0)) s.requires.k_bound.1 v.3 e.fixes),
+      going_same (omega (arith, h, v.0)) (going_more c.requires.k_bound.3 (omega (arith, h, v.0)) c.requires.k_bound.1 v.3 e.fixes),
     )
 
 pub shape_of-work : goal.shape_of-work
@@ -58,7 +53,6 @@ shape_of-work c = c.loop-left.invariant.1
 
 pub returns : goal.returns
 returns c =
-    let s = c in
     let v = c.loop-left.invariant in
-    let g = going_same {j = s.args.count} (omega (arith, v.0, c.loop-left-test.false)) v.3 in
-    record { first = going_first (4 * s.args.k) s.requires.table.1 g; by_index = g.past; rest = v.2 }
+    let g = going_same {j = c.args.count} (omega (arith, v.0, c.loop-left-test.false)) v.3 in
+    record { first = going_first (4 * c.args.k) c.requires.table.1 g; by_index = g.past; rest = v.2 }

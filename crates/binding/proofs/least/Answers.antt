@@ -20,10 +20,10 @@ small c =
     fits k n g h = omega arith
 
 pub overflow_mul-base : goal.overflow_mul-base
-overflow_mul-base c = let s = c in omega (arith, below s.args.v s.args.k s.requires.k_bound.1 s.requires.k_bound.0)
+overflow_mul-base c = omega (arith, below c.args.v c.args.k c.requires.k_bound.1 c.requires.k_bound.0)
 
 pub loop-done-init : goal.loop-done-init
-loop-done-init c = let s = c in (omega arith, refl, record { eq = λ i h. refl }, fixes_none _ _ _ _ refl s.requires.p_value)
+loop-done-init c = (omega arith, refl, record { eq = λ i h. refl }, fixes_none _ _ _ _ refl c.requires.p_value)
 
 pub overflow_add-done : goal.overflow_add-done
 overflow_add-done c = omega (arith, c.loop-done-test.true, c.requires.k_bound.0)
@@ -32,14 +32,12 @@ pub overflow_sub-k : goal.overflow_sub-k
 overflow_sub-k c = omega (arith, c.loop-done-test.true)
 
 pub overflow_add-base : goal.overflow_add-base
-overflow_add-base c = let s = c in omega (arith, c.loop-done-test.true, below s.args.v s.args.k s.requires.k_bound.1 s.requires.k_bound.0)
+overflow_add-base c = omega (arith, c.loop-done-test.true, below c.args.v c.args.k c.requires.k_bound.1 c.requires.k_bound.0)
 
 pub settle-x-requires : goal.settle-x-requires
 settle-x-requires c =
-    let l = c in
-    let s = l in
-    let v = l.loop-done.invariant in
-    record { table = s.requires.table.0; p_bound = (s.requires.p_bound.0, omega (arith, v.1, s.requires.p_bound.1)); level_bound = (omega (arith, c.loop-done-test.true, below s.args.v s.args.k s.requires.k_bound.1 s.requires.k_bound.0), v.3.size ∙ s.requires.k_bound.2) }
+    let v = c.loop-done.invariant in
+    record { table = c.requires.table.0; p_bound = (c.requires.p_bound.0, omega (arith, v.1, c.requires.p_bound.1)); level_bound = (omega (arith, c.loop-done-test.true, below c.args.v c.args.k c.requires.k_bound.1 c.requires.k_bound.0), v.3.size ∙ c.requires.k_bound.2) }
 
 pub overflow_mul-n : goal.overflow_mul-n
 overflow_mul-n c = omega (arith, small (goal.at.overflow_mul-n c).At-loop-done)
@@ -52,14 +50,12 @@ loop-done-smaller c = omega (arith, c.loop-done-test.true)
 
 pub loop-done-preserved : goal.loop-done-preserved
 loop-done-preserved c =
-    let l = c in
-    let s = l in
-    let v = l.loop-done.invariant in
+    let v = c.loop-done.invariant in
     let h = c.loop-done-test.true in
     let e = c.settle-x.ensures in
-    let wide = below s.args.v s.args.k s.requires.k_bound.1 s.requires.k_bound.0 in
-    let level = s.args.v * s.args.k + (s.args.k - (l.loop-done.done + 1)) in
-    let more = fixes_more _ level l.loop-done.done _ _ _ (fixes_same (omega (arith, h)) refl v.3) (omega (arith, h, wide, s.requires.k_bound.2)) (s.requires.free.each level (omega arith) (omega (arith, h))) _ s.requires.table.1 e.settles in (
+    let wide = below c.args.v c.args.k c.requires.k_bound.1 c.requires.k_bound.0 in
+    let level = c.args.v * c.args.k + (c.args.k - (c.loop-done.done + 1)) in
+    let more = fixes_more _ level c.loop-done.done _ _ _ (fixes_same (omega (arith, h)) refl v.3) (omega (arith, h, wide, c.requires.k_bound.2)) (c.requires.free.each level (omega arith) (omega (arith, h))) _ c.requires.table.1 e.settles in (
       omega (arith, h),
       c.settle-x.auto.work ∙ v.1,
       record { eq = λ i q. e.rest.eq i q ∙ v.2.eq i q },

@@ -4,12 +4,10 @@ use Rattle.binding.proofs.settle.Goals as goal
 
 pub returns-then-possible : goal.returns-then-possible
 returns-then-possible c =
-    let s = c in
     let e = c.possible.ensures in
-    record { settles = settles_zero _ s.args.level s.args.fixed.now e.value c.if-possible.true; rest = e.rest }
+    record { settles = settles_zero _ c.args.level c.args.fixed.now e.value c.if-possible.true; rest = e.rest }
 
 pub returns : goal.returns
 returns c =
-    let s = c in
     let e = c.possible.ensures in
-    record { settles = settles_one _ s.args.level s.args.fixed.now e.value c.if-possible.false; rest = e.rest }
+    record { settles = settles_one _ c.args.level c.args.fixed.now e.value c.if-possible.false; rest = e.rest }

@@ -2,7 +2,6 @@
 use mathlib.Core.Path.{refl, sym, ◌∙◌}
 use mathlib.Core.List.{[]}
 use native.Mathlib.Omega.{arith}
-use borrow.Author.Tests.{not-true, not-false}
 use Rattle.monitor.specs.Calls.{machine}
 use Rattle.monitor.specs.Said.{whole}
 use Rattle.monitor.proofs.SaidLaws.{lists_same, kept_turn, kept_looks, looks_same}
@@ -39,7 +38,7 @@ returns-then-not-lists_right c =
     record {
       happens =
           bad_lists _ m _ (passed _ m c.args.event _ _ c.check-rule.ensures.found c.judge-decision.ensures c.in_default.is) _ _ _ _ c.if-work-w.false
-          (lists_same c.args.figures _ [] _ [] _ _ ∙ sym c.lists_right.ensures.value ∙ not-true _ c.if-not-lists_right.true-raw)
+          (lists_same c.args.figures _ [] _ [] _ _ ∙ sym c.lists_right.ensures.value ∙ c.if-not-lists_right.true)
           (kept_turn _ _ _ _ _ _ _ _ c.refused-then-not-lists_right.ensures refl refl) refl refl
           (clears c.args.nodes.now _ _ _ _ refl c.if-work-w.false c.lists_right.ensures.beyond c.zero.ensures);
       looks = kept_looks _ m _ _ _ _ _ c.refused-then-not-lists_right.ensures;
@@ -50,7 +49,7 @@ pub judged-requires : goal.judged-requires
 judged-requires c =
     let m = machine (whole c.args.figures c.args.refs.now c.args.sizes.now) c.args.nodes.now c.args.values.now c.args.work.now in
     listed _ m c.args.event (passed _ m c.args.event _ _ c.check-rule.ensures.found c.judge-decision.ensures c.in_default.is) _ _ c.lists_right.ensures.beyond c.if-work-w.false
-    (lists_same c.args.figures _ [] _ [] _ _ ∙ sym c.lists_right.ensures.value ∙ not-false _ c.if-not-lists_right.false-raw)
+    (lists_same c.args.figures _ [] _ [] _ _ ∙ sym c.lists_right.ensures.value ∙ c.if-not-lists_right.false)
     c.check-rule.ensures.masks c.requires.0 c.requires.1 c.requires.2
 
 pub returns : goal.returns

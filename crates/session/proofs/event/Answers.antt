@@ -4,13 +4,13 @@ use borrow.Author.Rules.{rules}
 use mathlib.Core.Path.{sym, subst}
 use Rattle.session.specs.declared.After.{After}
 use Rattle.session.proofs.KeepLaws.{Stays, ready_stays}
-use Rattle.session.proofs.PartLaws.{not_events_one, event_left_other, event_left_started, judges_same}
+use Rattle.session.proofs.PartLaws.{but_events, event_left_other, event_left_started, judges_same}
 use Rattle.session.proofs.event.Goals as goal
 
 pub returns-in_default : goal.returns-in_default
 returns-in_default c =
     let s = c in
-    event_left_other s.args.s s.args.event s.args.rows.now s.args.nodes.now s.args.values.now s.args.work.now _ _ _ c.ready-begun.ensures (not_events_one _ c.in_default.not-Events)
+    event_left_other s.args.s s.args.event s.args.rows.now s.args.nodes.now s.args.values.now s.args.work.now _ _ _ c.ready-begun.ensures (but_events _ c.in_default.not-Events)
 
 pub happen-requires : goal.happen-requires
 happen-requires c =

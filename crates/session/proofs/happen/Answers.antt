@@ -1,10 +1,26 @@
 -- `session::happen` meets its contract: answer, state and tables are those of the event's outcome. Assumes nothing.
 use native.Mathlib.Omega.{arith}
+use Prim.Native.Nat.{zero-le}
 use Rattle.session.proofs.TurnLaws.{happen_left_law}
 use Rattle.session.proofs.happen.Goals as goal
 
 pub lend-lent-requires : goal.lend-lent-requires
 lend-lent-requires c = c.requires.sound.0
+
+pub slice_bounds-event-count : goal.slice_bounds-event-count
+slice_bounds-event-count c = zero-le
+
+pub slice_bounds-event-count-2 : goal.slice_bounds-event-count-2
+slice_bounds-event-count-2 c = zero-le
+
+pub slice_bounds-event-count-3 : goal.slice_bounds-event-count-3
+slice_bounds-event-count-3 c = zero-le
+
+pub slice_bounds-event-count-4 : goal.slice_bounds-event-count-4
+slice_bounds-event-count-4 c = zero-le
+
+pub event-turn-requires : goal.event-turn-requires
+event-turn-requires c = tt
 
 pub overflow_add-ordinal : goal.overflow_add-ordinal
 overflow_add-ordinal c = omega (arith, c.requires.sound.1)

@@ -2,6 +2,9 @@
 use Rattle.session.proofs.LineLaws.{line_sizes, line_row, line_event, line_bad}
 use Rattle.session.proofs.line.Goals as goal
 
+pub sizes-requires : goal.sizes-requires
+sizes-requires c = tt
+
 pub returns-in-Sizes : goal.returns-in-Sizes
 returns-in-Sizes c = line_sizes c.args.s c.args.found c.args.rows.now c.args.nodes.now c.args.values.now c.args.work.now c.in-Sizes.is c.sizes.ensures
 

@@ -7,6 +7,4 @@ pub returns-then-k-gt10 : goal.returns-then-k-gt10
 returns-then-k-gt10 c = record { value = listed_none _ (omega arith); upper_bound = omega arith }
 
 pub returns : goal.returns
-returns c =
-    let e = listed_entry c.args.k (omega arith) in
-    record { value = e.0; upper_bound = e.1 }
+returns c = record { value = (listed_entry c.args.k (omega arith)).0; upper_bound = (listed_entry c.args.k (omega arith)).1 }

@@ -2,20 +2,20 @@
 use native.Mathlib.Omega.{arith}
 use mathlib.Core.Path.{◌∙◌, ap}
 use Rattle.session.specs.Lefts.{Rowed}
-use Rattle.session.proofs.PartLaws.{not_rows_one, row_many, row_more, row_other}
+use Rattle.session.proofs.PartLaws.{but_rows, row_many, row_more, row_other}
 use Rattle.session.proofs.row.Goals as goal
 
 pub returns-in_default : goal.returns-in_default
 returns-in_default c =
-    let e = row_other _ _ _ _ (not_rows_one _ c.in_default.not-Rows) in
+    let e = row_other _ _ _ _ (but_rows _ c.in_default.not-Rows) in
     (c.bad.ensures ∙ ap (λ (r : Rowed). r.after) e, ap (λ (r : Rowed). r.rows) e)
 
 pub returns-then-n-gt576 : goal.returns-then-n-gt576
 returns-then-n-gt576 c =
-    let e = row_many _ c.args.s _ _ c.in-Rows.is (omega arith) in
+    let e = row_many _ c.args.s _ _ c.in-Rows.is (omega (arith, c.if-n-gt576.true)) in
     (c.bad-then-n-gt576.ensures ∙ ap (λ (r : Rowed). r.after) e, ap (λ (r : Rowed). r.rows) e)
 
 pub returns : goal.returns
 returns c =
-    let e = row_more _ c.args.s _ _ c.in-Rows.is (omega arith) in
+    let e = row_more _ c.args.s _ _ c.in-Rows.is (omega (arith, c.if-n-gt576.false)) in
     (c.quiet.ensures ∙ ap (λ (r : Rowed). r.after) e, c.put_row.ensures ∙ ap (λ (r : Rowed). r.rows) e)

@@ -23,24 +23,21 @@ bounds-work-i c = omega (arith, c.loop-i-test.true, c.requires.entries.room)
 
 pub along-requires : goal.along-requires
 along-requires c =
-    let s = c in
     let l = c.loop-i in
     let h = c.loop-i-test.true in
-    record { table = (s.requires.table.0, s.requires.entries.inside l.i l.invariant.1 (omega arith), s.requires.table.1, s.requires.table.2); ordered = s.requires.entries.ordered l.i l.invariant.1 (omega arith) }
+    record { table = (c.requires.table.0, c.requires.entries.inside l.i l.invariant.1 (omega arith), c.requires.table.1, c.requires.table.2); ordered = c.requires.entries.ordered l.i l.invariant.1 (omega arith) }
 
 pub along-requires-in-loop-i : goal.along-requires-in-loop-i
 along-requires-in-loop-i c =
-    let s = c in
     let l = c.loop-i in
     let h = c.loop-i-test.true in
-    record { table = (s.requires.table.0, s.requires.entries.inside l.i l.invariant.1 (omega arith), s.requires.table.1, s.requires.table.2); ordered = s.requires.entries.ordered l.i l.invariant.1 (omega arith) }
+    record { table = (c.requires.table.0, c.requires.entries.inside l.i l.invariant.1 (omega arith), c.requires.table.1, c.requires.table.2); ordered = c.requires.entries.ordered l.i l.invariant.1 (omega arith) }
 
 pub returns-then-along : goal.returns-then-along
 returns-then-along c =
-    let s = c in
     let l = c.loop-i in
-    one_parts s.args.nodes.now s.args.kept s.args.p s.args.base s.args.work.now s.args.from s.requires.entries s.args.k s.args.n (2 ^ s.args.k - 1)
-    l.i l.invariant.1 (omega (arith, c.loop-i-test.true)) (parts s.args.nodes.now s.args.kept s.args.base s.args.k s.args.n (2 ^ s.args.k - 1) _ _ _ _ s.requires.table.0 l.invariant.0 c.along.ensures c.along-in-loop-i.ensures c.if-along.true)
+    one_parts c.args.nodes.now c.args.kept c.args.p c.args.base c.args.work.now c.args.from c.requires.entries c.args.k c.args.n (2 ^ c.args.k - 1)
+    l.i l.invariant.1 (omega (arith, c.loop-i-test.true)) (parts c.args.nodes.now c.args.kept c.args.base c.args.k c.args.n (2 ^ c.args.k - 1) _ _ _ _ c.requires.table.0 l.invariant.0 c.along.ensures c.along-in-loop-i.ensures c.if-along.true)
 
 pub overflow_add-i : goal.overflow_add-i
 overflow_add-i c = omega (arith, c.loop-i-test.true, c.ranges.p.fits)
@@ -50,18 +47,16 @@ loop-i-smaller c = omega (arith, c.loop-i-test.true)
 
 pub loop-i-preserved : goal.loop-i-preserved
 loop-i-preserved c =
-    let s = c in
     let l = c.loop-i in (
       l.invariant.0,
       omega (arith, l.invariant.1),
-      meet_more s.args.nodes.now s.args.kept s.args.base s.args.k s.args.n (2 ^ s.args.k - 1) s.args.work.now s.args.from l.i l.invariant.2
-          (meets s.args.nodes.now s.args.kept s.args.base s.args.k s.args.n (2 ^ s.args.k - 1) _ _ _ _ s.requires.table.0 l.invariant.0 c.along.ensures c.along-in-loop-i.ensures c.if-along.false),
+      meet_more c.args.nodes.now c.args.kept c.args.base c.args.k c.args.n (2 ^ c.args.k - 1) c.args.work.now c.args.from l.i l.invariant.2
+          (meets c.args.nodes.now c.args.kept c.args.base c.args.k c.args.n (2 ^ c.args.k - 1) _ _ _ _ c.requires.table.0 l.invariant.0 c.along.ensures c.along-in-loop-i.ensures c.if-along.false),
     )
 
 pub returns : goal.returns
 returns c =
-    let s = c in
     let l = c.loop-i in
     let h = c.loop-i-test.false in
-    all_meet s.args.nodes.now s.args.kept s.args.p s.args.base s.args.work.now s.args.from s.requires.entries s.args.k s.args.n (2 ^ s.args.k - 1)
+    all_meet c.args.nodes.now c.args.kept c.args.p c.args.base c.args.work.now c.args.from c.requires.entries c.args.k c.args.n (2 ^ c.args.k - 1)
     (λ i g f. l.invariant.2 i g (omega arith))

@@ -5,27 +5,25 @@ use Rattle.telling.proofs.WayLaws.{way_leaf, way_past, way_level, way_below, way
 use Rattle.telling.proofs.along.Goals as goal
 
 pub loop-q-init : goal.loop-q-init
-loop-q-init c = let s = c in (s.requires.table.1, s.requires.ordered, refl)
+loop-q-init c = (c.requires.table.1, c.requires.ordered, refl)
 
 pub read-x-requires : goal.read-x-requires
-read-x-requires c = let s = c in record { table = s.requires.table.0; le_r = (c.loop-q-test.true, c.loop-q.invariant.0) }
+read-x-requires c = record { table = c.requires.table.0; le_r = (c.loop-q-test.true, c.loop-q.invariant.0) }
 
 pub overflow_add-base : goal.overflow_add-base
 overflow_add-base c = omega (arith, c.requires.table.3)
 
 pub returns-then-base-k : goal.returns-then-base-k
 returns-then-base-k c =
-    let s = c in
     let l = c.loop-q in
     let x = c.read-x in
-    record { below = l.invariant.0; is = sym (way_past s.args.nodes.now s.args.kept s.args.base s.args.k s.args.n l.q _ _ _ x.ensures c.if-base-k.true) ∙ l.invariant.2 }
+    record { below = l.invariant.0; is = sym (way_past c.args.nodes.now c.args.kept c.args.base c.args.k c.args.n l.q _ _ _ x.ensures c.if-base-k.true) ∙ l.invariant.2 }
 
 pub overflow_sub-x : goal.overflow_sub-x
 overflow_sub-x c =
-    let s = c in
     let l = c.loop-q in
     let x = c.read-x in
-    let e = way_level s.args.nodes.now s.args.kept s.args.base s.args.k s.args.n l.q _ _ _ x.ensures l.invariant.1 in
+    let e = way_level c.args.nodes.now c.args.kept c.args.base c.args.k c.args.n l.q _ _ _ x.ensures l.invariant.1 in
     omega arith
 
 pub chosen-q-requires : goal.chosen-q-requires
@@ -33,22 +31,19 @@ chosen-q-requires c = omega (arith, c.if-base-k.false, c.requires.table.2)
 
 pub loop-q-smaller : goal.loop-q-smaller
 loop-q-smaller c =
-    let s = c in
     let l = c.loop-q in
     let x = c.read-x in
-    let e = way_below s.args.nodes.now s.args.kept s.args.base s.args.k s.args.n l.q _ _ _ x.ensures s.requires.table.0 c.loop-q-test.true l.invariant.0 (bit_of s.args.n _) in
+    let e = way_below c.args.nodes.now c.args.kept c.args.base c.args.k c.args.n l.q _ _ _ x.ensures c.requires.table.0 c.loop-q-test.true l.invariant.0 (bit_of c.args.n _) in
     rw c.chosen-q.ensures e
 
 pub loop-q-preserved : goal.loop-q-preserved
 loop-q-preserved c =
-    let s = c in
     let l = c.loop-q in
     let x = c.read-x in
-    let w = way_again s.args.nodes.now s.args.kept s.args.base s.args.k s.args.n l.q _ _ _ x.ensures s.requires.table.0 c.loop-q-test.true l.invariant.0 l.invariant.1 c.if-base-k.false c.chosen-q.result c.chosen-q.ensures in
+    let w = way_again c.args.nodes.now c.args.kept c.args.base c.args.k c.args.n l.q _ _ _ x.ensures c.requires.table.0 c.loop-q-test.true l.invariant.0 l.invariant.1 c.if-base-k.false c.chosen-q.result c.chosen-q.ensures in
     (w.0, w.1, w.2 ∙ l.invariant.2)
 
 pub returns : goal.returns
 returns c =
-    let s = c in
     let l = c.loop-q in
-    record { below = l.invariant.0; is = sym (way_leaf s.args.nodes.now s.args.kept s.args.base s.args.k s.args.n l.q (omega (arith, c.loop-q-test.false))) ∙ l.invariant.2 }
+    record { below = l.invariant.0; is = sym (way_leaf c.args.nodes.now c.args.kept c.args.base c.args.k c.args.n l.q (omega (arith, c.loop-q-test.false))) ∙ l.invariant.2 }

@@ -23,16 +23,14 @@ overflow_add-left c = omega (arith, c.requires.table.1, c.requires.table.0.fits,
 
 pub loop-left-init : goal.loop-left-init
 loop-left-init c =
-    let s = c in
     let z = c.zero.ensures in
-    (passing_first s.args.nodes.now s.args.kept s.args.p s.args.base s.args.work.now _ s.requires.table.1 s.requires.table.2 s.requires.ordered z, record { eq = λ i h. refl }, refl)
+    (passing_first c.args.nodes.now c.args.kept c.args.p c.args.base c.args.work.now _ c.requires.table.1 c.requires.table.2 c.requires.ordered z, record { eq = λ i h. refl }, refl)
 
 pub pass-from-requires : goal.pass-from-requires
 pass-from-requires c =
-    let s = c in
     let v = c.loop-left.invariant.0 in
     let h = c.loop-left-test.true in
-    (s.requires.table.0, omega arith, omega (arith, v.down, v.up, v.ref), omega (arith, v.down), omega (arith, v.up, v.room))
+    (c.requires.table.0, omega arith, omega (arith, v.down, v.up, v.ref), omega (arith, v.down), omega (arith, v.up, v.room))
 
 pub overflow_sub-left-in-loop-left : goal.overflow_sub-left-in-loop-left
 overflow_sub-left-in-loop-left c = omega (arith, c.loop-left-test.true)
@@ -42,12 +40,11 @@ loop-left-smaller c = omega (arith, c.loop-left-test.true)
 
 pub loop-left-preserved : goal.loop-left-preserved
 loop-left-preserved c =
-    let s = c in
     let l = c.loop-left in
     let h = c.loop-left-test.true in
     let e = c.pass-from.ensures in (
-      passing_next s.args.nodes.now s.args.kept s.args.p s.args.base l.work l.left l.from _ _ s.requires.table.0 l.invariant.0 h e,
-      record { eq = λ i g. passing_rest s.args.nodes.now s.args.kept s.args.p s.args.base l.work l.left l.from _ _ s.requires.table.0 l.invariant.0 h e i g ∙ l.invariant.1.eq i g },
+      passing_next c.args.nodes.now c.args.kept c.args.p c.args.base l.work l.left l.from _ _ c.requires.table.0 l.invariant.0 h e,
+      record { eq = λ i g. passing_rest c.args.nodes.now c.args.kept c.args.p c.args.base l.work l.left l.from _ _ c.requires.table.0 l.invariant.0 h e i g ∙ l.invariant.1.eq i g },
       passed_length e ∙ l.invariant.2,
     )
 
@@ -56,7 +53,6 @@ shape_of-work c = c.loop-left.invariant.2 ∙ length-set c.zero.new.xs c.args.p 
 
 pub returns : goal.returns
 returns c =
-    let s = c in
     let l = c.loop-left in
     let z = c.zero.ensures in
-    let p = s.args.p in record { entries = passing_last s.args.nodes.now s.args.kept p s.args.base l.work l.left l.from (omega (arith, c.loop-left-test.false)) l.invariant.0; rest = record { eq = λ i h. l.invariant.1.eq i h ∙ get_or-set_other c.zero.new.xs p i 1 0 (omega arith) ∙ z.rest.eq i (omega arith) } }
+    let p = c.args.p in record { entries = passing_last c.args.nodes.now c.args.kept p c.args.base l.work l.left l.from (omega (arith, c.loop-left-test.false)) l.invariant.0; rest = record { eq = λ i h. l.invariant.1.eq i h ∙ get_or-set_other c.zero.new.xs p i 1 0 (omega arith) ∙ z.rest.eq i (omega arith) } }

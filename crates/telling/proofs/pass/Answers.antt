@@ -11,15 +11,13 @@ returns-then-work-i-eq0 c = skipped c.if-work-i-eq0.true refl refl
 
 pub bounds-work-low : goal.bounds-work-low
 bounds-work-low c =
-    let s = c in
-    let b = read_below s.requires.0 c.read-x.ensures s.requires.1 s.requires.2 in
-    omega (arith, b.0, s.requires.3, s.requires.4)
+    let b = read_below c.requires.0 c.read-x.ensures c.requires.1 c.requires.2 in
+    omega (arith, b.0, c.requires.3, c.requires.4)
 
 pub bounds-work-high : goal.bounds-work-high
 bounds-work-high c =
-    let s = c in
-    let b = read_below s.requires.0 c.read-x.ensures s.requires.1 s.requires.2 in
-    simp length-set (omega (arith, b.1, s.requires.3, s.requires.4))
+    let b = read_below c.requires.0 c.read-x.ensures c.requires.1 c.requires.2 in
+    simp length-set (omega (arith, b.1, c.requires.3, c.requires.4))
 
 pub returns-then-x-base : goal.returns-then-x-base
 returns-then-x-base c = opened c.if-work-i-eq0.false _ _ _ c.read-x.ensures c.if-x-base.true refl refl

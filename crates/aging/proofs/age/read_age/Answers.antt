@@ -8,9 +8,8 @@ returns-then-p-eq0 c = read_none _ _ _ c.if-p-eq0.true
 
 pub read_bits-requires : goal.read_bits-requires
 read_bits-requires c =
-    let s = c in
-    let q = s.requires.p_bound in
-    record { table = s.requires.table; p_bound = (q.0, omega arith, omega (arith, q.1), under_chain _ s.requires.table q.0 c.if-p-eq0.false q.2) }
+    let q = c.requires.p_bound in
+    record { table = c.requires.table; p_bound = (q.0, omega arith, omega (arith, q.1), under_chain _ c.requires.table q.0 c.if-p-eq0.false q.2) }
 
 pub overflow_add-result : goal.overflow_add-result
 overflow_add-result c = omega (arith, read_small (omega arith) c.read_bits.ensures)

@@ -4,6 +4,5 @@ use Rattle.aging.proofs.walk.age_walk.Goals as goal
 
 pub returns : goal.returns
 returns c =
-    let done = c in
-    let a = done.args in
-    rw (does_ages a.k a.b a.t _ _ _) done.run.ensures
+    let a = c.args in
+    rw (does_ages a.k a.b a.t _ _ _) c.run.ensures

@@ -5,13 +5,11 @@ use Rattle.aging.proofs.walk.ripe_walk.Goals as goal
 
 pub run-requires : goal.run-requires
 run-requires c =
-    let s = c in
-    let p = s.requires.k_bound in
-    record { desk = s.requires.desk; k_bound = (p.0, p.1, plain_no _ _ _, plain_no _ _ _, p.2) }
+    let p = c.requires.k_bound in
+    record { desk = c.requires.desk; k_bound = (p.0, p.1, plain_no _ _ _, plain_no _ _ _, p.2) }
 
 pub returns : goal.returns
 returns c =
-    let done = c in
-    let a = done.args in
+    let a = c.args in
     let ts = trees_of a.nodes.now a.n in
-    rw (does_ripe a.k a.b (at ts 0) (at ts 0) (at ts a.o)) done.run.ensures
+    rw (does_ripe a.k a.b (at ts 0) (at ts 0) (at ts a.o)) c.run.ensures

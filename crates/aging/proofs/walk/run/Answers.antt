@@ -7,13 +7,9 @@ use Rattle.aging.proofs.walk.run.Goals as goal
 
 pub walk-made-requires : goal.walk-made-requires
 walk-made-requires c =
-    let s = c in
-    let p = s.requires.k_bound in
-    record { slate = wiped (does s.args.k s.args.task) s.requires.desk c.zero.ensures; k_bound = (p.0, p.1, omega arith, plain_within p.2, plain_within p.3, ageing_dated p.4) }
+    let p = c.requires.k_bound in
+    record { slate = wiped (does c.args.k c.args.task) c.requires.desk c.zero.ensures; k_bound = (p.0, p.1, omega arith, plain_within p.2, plain_within p.3, ageing_dated p.4) }
 
 pub returns : goal.returns
 returns c =
-    let last = c in
-    let done = last in
-    let s = done in
-    walked (4 * s.args.k + 11) (does s.args.k s.args.task) c.walk-made.new.nodes _ s.requires.desk done.zero.ensures last.zero-2.ensures done.walk-made.result done.walk-made.ensures
+    walked (4 * c.args.k + 11) (does c.args.k c.args.task) c.walk-made.new.nodes _ c.requires.desk c.zero.ensures c.zero-2.ensures c.walk-made.result c.walk-made.ensures

@@ -15,46 +15,39 @@ bounds-work-1 c = simp length-set (omega arith)
 
 pub loop-r-init : goal.loop-r-init
 loop-r-init c =
-    let s = c in
-    (omega arith, omega arith, refl, marks_none s.args.nodes.now s.args.kept s.args.fixed.now s.args.work.now (omega arith), record { eq = λ i h. refl })
+    (omega arith, omega arith, refl, marks_none c.args.nodes.now c.args.kept c.args.fixed.now c.args.work.now (omega arith), record { eq = λ i h. refl })
 
 pub node_mark-x-requires : goal.node_mark-x-requires
 node_mark-x-requires c =
-    let l = c in
-    let s = l in
-    record { table = (s.requires.table, l.loop-r.invariant.3); le_r = (l.loop-r.invariant.0, omega (arith, c.loop-r-test.true, s.requires.p_bound.0), omega (arith, size (goal.at.node_mark-x-requires c).At-loop-r, s.requires.p_bound.1), s.requires.p_bound.2) }
+    record { table = (c.requires.table, c.loop-r.invariant.3); le_r = (c.loop-r.invariant.0, omega (arith, c.loop-r-test.true, c.requires.p_bound.0), omega (arith, size (goal.at.node_mark-x-requires c).At-loop-r, c.requires.p_bound.1), c.requires.p_bound.2) }
 
 pub offset_bounds-work-i : goal.offset_bounds-work-i
-offset_bounds-work-i c = let l = c in omega (arith, size (goal.at.offset_bounds-work-i c).At-loop-r, l.requires.p_bound.0, l.requires.p_bound.1, c.loop-r-test.true)
+offset_bounds-work-i c = omega (arith, size (goal.at.offset_bounds-work-i c).At-loop-r, c.requires.p_bound.0, c.requires.p_bound.1, c.loop-r-test.true)
 
 pub bounds-work-i : goal.bounds-work-i
-bounds-work-i c = let l = c in omega (arith, size (goal.at.bounds-work-i c).At-loop-r, l.requires.p_bound.0, l.requires.p_bound.1, c.loop-r-test.true)
+bounds-work-i c = omega (arith, size (goal.at.bounds-work-i c).At-loop-r, c.requires.p_bound.0, c.requires.p_bound.1, c.loop-r-test.true)
 
 pub overflow_add-r : goal.overflow_add-r
-overflow_add-r c = let s = c in let t = s.requires.table in omega (arith, t.fits, t.small, s.requires.p_bound.0, c.loop-r-test.true)
+overflow_add-r c = let t = c.requires.table in omega (arith, t.fits, t.small, c.requires.p_bound.0, c.loop-r-test.true)
 
 pub loop-r-smaller : goal.loop-r-smaller
 loop-r-smaller c = omega (arith, c.loop-r-test.true)
 
 pub loop-r-preserved : goal.loop-r-preserved
 loop-r-preserved c =
-    let l = c in
-    let s = l in
-    let v = l.loop-r.invariant in
+    let v = c.loop-r.invariant in
     let h = c.loop-r-test.true in (
       omega (arith, v.0),
-      omega (arith, h, s.requires.p_bound.0),
-      length-set l.loop-r.work l.loop-r.r c.node_mark-x.result ∙ v.2,
-      marks_more v.3 (omega (arith, h, size (goal.at.loop-r-preserved c).At-loop-r, s.requires.p_bound.0, s.requires.p_bound.1)) c.node_mark-x.result c.node_mark-x.ensures,
-      record { eq = λ i g. get_or-set_other l.loop-r.work l.loop-r.r i c.node_mark-x.result 0 (λ z. omega (arith, h, s.requires.p_bound.0)) ∙ v.4.eq i g },
+      omega (arith, h, c.requires.p_bound.0),
+      length-set c.loop-r.work c.loop-r.r c.node_mark-x.result ∙ v.2,
+      marks_more v.3 (omega (arith, h, size (goal.at.loop-r-preserved c).At-loop-r, c.requires.p_bound.0, c.requires.p_bound.1)) c.node_mark-x.result c.node_mark-x.ensures,
+      record { eq = λ i g. get_or-set_other c.loop-r.work c.loop-r.r i c.node_mark-x.result 0 (λ z. omega (arith, h, c.requires.p_bound.0)) ∙ v.4.eq i g },
     )
 
 pub marked-requires : goal.marked-requires
-marked-requires c = let l = c in omega (arith, size (goal.at.marked-requires c).At-loop-r, l.requires.p_bound.0, l.requires.p_bound.1)
+marked-requires c = omega (arith, size (goal.at.marked-requires c).At-loop-r, c.requires.p_bound.0, c.requires.p_bound.1)
 
 pub returns : goal.returns
 returns c =
-    let l = c in
-    let s = l in
-    let w = s.args.work.now in
-    let v = l.loop-r.invariant in record { value = rw (c.marked.ensures, v.3.is s.args.p (omega (arith, c.loop-r-test.false))) (mark_test _); rest = record { eq = λ i h. v.4.eq i h ∙ get_or-set_other (set w 0 0) 1 i 1 0 (omega arith) ∙ get_or-set_other w 0 i 0 0 (omega arith) } }
+    let w = c.args.work.now in
+    let v = c.loop-r.invariant in record { value = rw (c.marked.ensures, v.3.is c.args.p (omega (arith, c.loop-r-test.false))) (mark_test _); rest = record { eq = λ i h. v.4.eq i h ∙ get_or-set_other (set w 0 0) 1 i 1 0 (omega arith) ∙ get_or-set_other w 0 i 0 0 (omega arith) } }

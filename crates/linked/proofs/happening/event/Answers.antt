@@ -1,5 +1,4 @@
 -- `happening::event` meets its contract. Assumes nothing.
-use borrow.Author.Rules.{rules}
 use Rattle.linked.proofs.HappeningLaws.{event_read}
 use Rattle.linked.proofs.happening.event.Goals as goal
 

@@ -1,5 +1,4 @@
 -- `happening::fact_at` meets its contract. Assumes nothing.
-use borrow.Author.Rules.{rules}
 use Rattle.linked.proofs.HappeningLaws.{fact_read}
 use Rattle.linked.proofs.happening.fact_at.Goals as goal
 

@@ -1,10 +1,8 @@
 -- `packing::copy` meets its contract. The loop's invariant: the first i numbers are copied. The measure is what is left. Assumes nothing.
 use Prim.Native.Nat.{◌-◌, ◌≤◌}
-use mathlib.Core.Path.{◌≡◌, refl, ap, ◌∙◌}
-use native.Mathlib.Numerals.{add-one}
-use native.Mathlib.Omega.{arith}
+use mathlib.Core.Path.{◌≡◌}
 use lib.ListN.{length}
-use lib.Seq.{paste, paste-zero, paste-suc, length-paste, take-length}
+use lib.Seq.{paste}
 use Rattle.linked.proofs.packing.copy.Given as goal
 
 abbrev pub invariant-loop-i : goal.invariant-loop-i

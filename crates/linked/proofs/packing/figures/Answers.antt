@@ -1,6 +1,5 @@
 -- `packing::figures` meets its contract. Assumes nothing.
 use Rattle.linked.proofs.PackingLaws.{figures_read}
-use borrow.Author.Rules.{rules}
 use Rattle.linked.proofs.packing.figures.Goals as goal
 
 pub returns : goal.returns

@@ -2,7 +2,6 @@
 use mathlib.Core.Path.{refl}
 use native.Mathlib.Omega.{arith}
 use Rattle.linked.proofs.PackingLaws.{answer_written}
-use borrow.Author.Rules.{rules}
 use Rattle.linked.proofs.packing.put.Goals as goal
 
 pub returns : goal.returns

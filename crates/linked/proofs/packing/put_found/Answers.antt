@@ -1,7 +1,6 @@
 -- `packing::put_found` meets its contract: each arm by its variant. Assumes nothing.
 use mathlib.Core.Path.{ap, sym, ◌∙◌}
 use Rattle.linked.specs.Packing.{packed_lookup}
-use borrow.Author.Rules.{rules}
 use Rattle.linked.proofs.packing.put_found.Goals as goal
 
 pub returns-in-Has : goal.returns-in-Has

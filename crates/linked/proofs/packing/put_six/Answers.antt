@@ -3,7 +3,6 @@ use mathlib.Core.Path.{ap, sym, ◌∙◌}
 use Rattle.meaning.specs.declared.Answer.{Answer}
 use Rattle.linked.specs.Packing.{first_six}
 use Rattle.linked.proofs.PackingLaws.{verdict_put}
-use borrow.Author.Rules.{rules}
 use Rattle.linked.proofs.packing.put_six.Goals as goal
 
 pub returns-in-Started : goal.returns-in-Started

@@ -1,6 +1,5 @@
 -- `packing::references` meets its contract. Assumes nothing.
 use Rattle.linked.proofs.PackingLaws.{references_read}
-use borrow.Author.Rules.{rules}
 use Rattle.linked.proofs.packing.references.Goals as goal
 
 pub returns : goal.returns

@@ -1,7 +1,6 @@
 -- `packing::six` meets its contract. Assumes nothing.
 use native.Mathlib.Omega.{arith}
 use lib.ListN.{length-set}
-use borrow.Author.Rules.{rules}
 use Rattle.linked.proofs.PackingLaws.{six_are}
 use Rattle.linked.proofs.packing.six.Goals as goal
 

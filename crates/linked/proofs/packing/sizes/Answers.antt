@@ -1,6 +1,5 @@
 -- `packing::sizes` meets its contract. Assumes nothing.
 use Rattle.linked.proofs.PackingLaws.{sizes_read}
-use borrow.Author.Rules.{rules}
 use Rattle.linked.proofs.packing.sizes.Goals as goal
 
 pub returns : goal.returns

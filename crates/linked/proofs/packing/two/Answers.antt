@@ -1,6 +1,5 @@
 -- `packing::two` meets its contract. Assumes nothing.
 use Rattle.linked.proofs.PackingLaws.{two_are}
-use borrow.Author.Rules.{rules}
 use Rattle.linked.proofs.packing.two.Goals as goal
 
 pub returns : goal.returns

@@ -15,10 +15,6 @@ use Rattle.lists.proofs.checking.all_right.Goals.{In-loop-v}
 inside : (c : In-loop-v) → let l = c in let a = l.args in l.loop-v.v * a.m + a.m ≤ 4 * a.m
 inside c = part_inside c.loop-v.v c.args.m c.args.m (omega arith) (omega arith)
 
--- TODO no goal for slice-bounds-list-right-end
--- part-list-right-end : tie.Need-slice-bounds-list-right-end invariant-loop decreases-loop
--- part-list-right-end c = omega (arith, inside c, c.requires.2)
-
 pub loop-v-init : goal.loop-v-init
 loop-v-init c = (omega arith, refl, refl, λ w h. absurd (omega arith))
 

@@ -7,5 +7,4 @@ returns-then-figures-n c = record { value = other_rows _ _ _ c.if-figures-n.true
 
 pub returns : goal.returns
 returns c =
-    let d = c in
-    record { value = same_rows _ _ _ _ d.if-figures-n.false d.lists_right.ensures.answer; beyond = record { size = d.lists_right.auto.work; rest = d.lists_right.ensures.beyond } }
+    record { value = same_rows _ _ _ _ c.if-figures-n.false c.lists_right.ensures.answer; beyond = record { size = c.lists_right.auto.work; rest = c.lists_right.ensures.beyond } }

@@ -6,12 +6,6 @@ use Rattle.numbers.proofs.PartLaws.{known_old, known_none, new_low, known_new}
 use Rattle.numbers.proofs.LookLaws.{told_is}
 use Rattle.numbers.proofs.asking.known.Goals as goal
 
--- TODO no goal for slice-bounds-look-in-end
--- part-look-in-end : tie.Need-slice-bounds-look-in-end
--- part-look-in-end c =
---     let s = c in
---     omega (arith, s.requires.4, s.requires.0)
-
 pub look_part-requires : goal.look_part-requires
 look_part-requires c =
     let s = c in
@@ -24,7 +18,7 @@ returns-then-old c =
     known_old a.m a.before a.values.now a.counts a.fresh.now a.v a.y.0 c.number_told-old.result.0 s.requires.1 s.requires.2 (told_is _ _ _ _ _ c.look_part.ensures c.number_told-old.ensures) c.if-old.true
 
 pub overflow_sub-to : goal.overflow_sub-to
-overflow_sub-to c = c.requires.3
+overflow_sub-to c = omega (arith, c.requires.3)
 
 pub overflow_cast-to : goal.overflow_cast-to
 overflow_cast-to c = let s = c in omega (arith, s.requires.4)

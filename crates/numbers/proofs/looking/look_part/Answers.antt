@@ -14,10 +14,6 @@ use Rattle.numbers.proofs.looking.look_part.Goals.{Start}
 within : (s : Start) → s.args.v * s.args.m + get_or s.args.counts s.args.v 0 ≤ 4 * s.args.m
 within s = part_inside s.args.v s.args.m (get_or s.args.counts s.args.v 0) s.requires.2 s.requires.3
 
--- TODO no goal for slice-bounds-look-in-end
--- part-look-in-end : tie.Need-slice-bounds-look-in-end
--- part-look-in-end c = let s = c in omega (arith, within s, s.requires.1)
-
 pub overflow_mul-at : goal.overflow_mul-at
 overflow_mul-at c = let s = c in omega (arith, within (goal.at.overflow_mul-at c).Start, s.requires.0)
 
