@@ -12,10 +12,10 @@ returns-in_default c =
 
 pub returns-then-n-gt576 : goal.returns-then-n-gt576
 returns-then-n-gt576 c =
-    let e = row_many _ c.args.s _ _ c.in-Rows.is (omega (arith, c.if-n-gt576.true)) in
+    let e = row_many _ c.args.s _ _ c.in-Rows.is (omega arith) in
     (c.bad-then-n-gt576.ensures ∙ ap (λ (r : Rowed). r.after) e, ap (λ (r : Rowed). r.rows) e)
 
 pub returns : goal.returns
 returns c =
-    let e = row_more _ c.args.s _ _ c.in-Rows.is (omega (arith, c.if-n-gt576.false)) in
+    let e = row_more _ c.args.s _ _ c.in-Rows.is (omega arith) in
     (c.quiet.ensures ∙ ap (λ (r : Rowed). r.after) e, c.put_row.ensures ∙ ap (λ (r : Rowed). r.rows) e)
