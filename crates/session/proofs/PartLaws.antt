@@ -86,6 +86,12 @@ pub row_many : (p : Part) (s : Session) (nine rows : List ℕ) → p ≡ Rows �
 unfolding row_as
 row_many p s nine rows e h = rw (e, lt-ltb 576 s.rows h)
 
+pub row_full_after : (p : Part) (s : Session) (nine rows : List ℕ) → p ≡ Rows → 576 < s.rows → (row_as p s nine rows).after ≡ bad_as p s
+row_full_after p s nine rows e h = sym (ap (λ (r : Rowed). r.after) (row_many p s nine rows e h))
+
+pub row_full_rows : (p : Part) (s : Session) (nine rows : List ℕ) → p ≡ Rows → 576 < s.rows → (row_as p s nine rows).rows ≡ rows
+row_full_rows p s nine rows e h = sym (ap (λ (r : Rowed). r.rows) (row_many p s nine rows e h))
+
 pub row_more : (p : Part) (s : Session) (nine rows : List ℕ) → p ≡ Rows → s.rows ≤ 576
     → ◌≡◌ {A = Rowed} (record {
       after = quiet_of (record { part = Rows; k = s.k; c = s.c; rows = s.rows + 9; ordinal = s.ordinal; state = s.state });

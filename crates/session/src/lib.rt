@@ -191,6 +191,7 @@ fn put_row(rows: &mut [u32], at: usize, nine: [u32; 9])
 }
 
 // One row more. A rule has up to 65 lines: 64 rows are the most that start takes.
+#[tactic(auto, using(crate::proofs::PartLaws::row_full_after, crate::proofs::PartLaws::row_full_rows))]
 fn row(s: Session, nine: [u32; 9], rows: &mut [u32; 585]) -> After
     ensures { (result ≡ (row_as s.part s nine rows.old).after) × (rows.new ≡ (row_as s.part s nine rows.old).rows) }
 {
