@@ -6,7 +6,7 @@ mod parsing; // parsing.rt: numbers and facts of a line
 
 use crate::parsing::{Parsed, Token, fact_from, number_at};
 use card_records::Fact;
-use card_text::{create, fail, say, say_number, unlink, write_all};
+use card_text::{create, fail, say, say_number, unlink};
 use std::fs::File;
 use std::io::{Read, Stderr, Stdin};
 use std::rt::Files;
@@ -36,7 +36,7 @@ fn refused(stderr: Stderr, s: Sheet, what: &[u8]) -> Sheet {
 // Ends the block and writes it.
 fn write_block(to: &mut File, block: &mut [u8; 512]) -> bool {
     card_writer::end_block(block);
-    write_all(to, block)
+    card_text::write_all(to, block)
 }
 
 // One record more in a block that has room.
@@ -231,7 +231,7 @@ fn add_some(
 }
 
 // The whole input.
-fn write_lines(stdin: Stdin, to: &mut File, stderr: Stderr) -> bool {
+fn write_all(stdin: Stdin, to: &mut File, stderr: Stderr) -> bool {
     let mut line = [0u8; 512];
     let mut block = [0u8; 512];
     let mut s = Sheet {
@@ -258,7 +258,7 @@ fn write_lines(stdin: Stdin, to: &mut File, stderr: Stderr) -> bool {
 
 // Writes the lines into the open file of this name; what is wrong is said.
 fn write_into(stdin: Stdin, to: &mut File, stderr: Stderr, name: &[u8]) -> bool {
-    if !write_lines(stdin, to, stderr) {
+    if !write_all(stdin, to, stderr) {
         return false;
     }
     // The system may tell only now that what was written found no room.
