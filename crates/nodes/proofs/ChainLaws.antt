@@ -1,6 +1,6 @@
 -- Laws of chains: what a walk along one shows, and how a place joins. Assumes nothing.
-use Prim.Native.Nat.{ℕ, suc, ◌+◌, ◌-◌, ◌*◌, ◌/◌, ◌%◌, ◌≤◌, ◌<◌}
-use mathlib.Core.Path.{◌≡◌, ◌∙◌}
+use Prim.Native.Nat.{ℕ, suc, ◌+◌, ◌*◌, ◌/◌, ◌%◌, ◌≤◌, ◌<◌}
+use mathlib.Core.Path.{◌≡◌, refl, ap, ◌∙◌}
 use mathlib.Core.List.{List}
 use mathlib.Core.Logic.{◌⊎◌, inl, inr, ⊎_elim}
 use native.Mathlib.Decide.{ℕ_discrete}
@@ -11,6 +11,7 @@ use lib.ListN.{length, get_or, set, length-set}
 use lib.Seq.{get_or-set_same, get_or-set_other}
 use Rattle.trees.specs.Table.{NodeIs}
 use Rattle.trees.proofs.Tests.{lt_or_ge}
+use Rattle.std.specs.Prelude.{Option, Some, None}
 use Rattle.nodes.specs.Nodes.{Front, Rest, Between, Zeroed}
 use Rattle.nodes.specs.Chains.{spread, Reaches, here, later, Falling, Chains, joined, Walkable, Sought, ended, found, passed, head_of, Chained}
 use Rattle.nodes.proofs.ReadLaws.{stored, stored_is, stored_front}
@@ -114,27 +115,27 @@ unfolding head_of
 head_is w at size s e = rw (w.level, w.low, w.high, e)
 
 -- a search that finds nothing: no place on the chain holds the node
-sought_none : {ns : List ℕ} {links : ℕ} {work : List ℕ} {l a b p r : ℕ} → Sought ns links work l a b p r → r ≡ 0 → (i : ℕ) → Reaches work links i p → NodeIs ns i l a b → ⊥
-sought_none {links = links} {work} (ended p r e f) z i w n = reaches_end work links i p e w
-sought_none (found p q r e h f) z i w n = omega arith
+sought_none : {ns : List ℕ} {links : ℕ} {work : List ℕ} {l a b p : ℕ} {r : Option ℕ} → Sought ns links work l a b p r → r ≡ None → (i : ℕ) → Reaches work links i p → NodeIs ns i l a b → ⊥
+sought_none {links = links} {work} (ended p e) z i w n = reaches_end work links i p e w
+sought_none (found p q e h) z i w n = absurd cc
 sought_none {links = links} {work} (passed p q r e differ s) z i w n = ⊎_elim (λ f. let y : i ≡ q = f in differ (rw y at n)) (λ t. sought_none s z i t n) (reaches_next work links i p q e w)
 
 -- a search that finds the node, on a chain that starts below n + 1: it stands at a place below n
-sought_some : {ns : List ℕ} {links : ℕ} {work : List ℕ} {l a b p r : ℕ} → Sought ns links work l a b p r → 0 < r → (n : ℕ) → Falling work links n → p ≤ n → (r - 1 < n) × NodeIs ns (r - 1) l a b
-sought_some (ended p r e f) h n fall le = absurd (omega arith)
-sought_some (found p q r e w f) h n fall le = let z : r - 1 ≡ q = omega arith in (omega arith, rw z w)
-sought_some (passed p q r e differ s) h n fall le = sought_some s h n fall (omega (arith, fall q (omega arith)))
+sought_some : {ns : List ℕ} {links : ℕ} {work : List ℕ} {l a b p : ℕ} {r : Option ℕ} → Sought ns links work l a b p r → (j : ℕ) → r ≡ Some j → (n : ℕ) → Falling work links n → p ≤ n → (j < n) × NodeIs ns j l a b
+sought_some (ended p e) j h n fall le = absurd cc
+sought_some (found p q e w) j h n fall le = let z : j ≡ q = cc in (omega arith, rw z w)
+sought_some (passed p q r e differ s) j h n fall le = sought_some s j h n fall (omega (arith, fall q (omega arith)))
 
 -- two results of one search are the same
-pub one_sought : {ns : List ℕ} {links : ℕ} {work : List ℕ} {l a b p r s : ℕ} → Sought ns links work l a b p r → Sought ns links work l a b p s → r ≡ s
-one_sought (ended p r e f) (ended p' s g h) = omega arith
-one_sought (ended p r e f) (found p' q s g w h) = absurd (omega arith)
-one_sought (ended p r e f) (passed p' q s g differ t) = absurd (omega arith)
-one_sought (found p q r e w f) (ended p' s g h) = absurd (omega arith)
-one_sought (found p q r e w f) (found p' q' s g v h) = omega arith
-one_sought (found p q r e w f) (passed p' q' s g differ t) = let z : q ≡ q' = omega arith in absurd (differ (rw z at w))
-one_sought (passed p q r e differ t) (ended p' s g h) = absurd (omega arith)
-one_sought (passed p q r e differ t) (found p' q' s g w h) = let z : q' ≡ q = omega arith in absurd (differ (rw z at w))
+pub one_sought : {ns : List ℕ} {links : ℕ} {work : List ℕ} {l a b p : ℕ} {r s : Option ℕ} → Sought ns links work l a b p r → Sought ns links work l a b p s → r ≡ s
+one_sought (ended p e) (ended p' g) = refl
+one_sought (ended p e) (found p' q g w) = absurd (omega arith)
+one_sought (ended p e) (passed p' q s g differ t) = absurd (omega arith)
+one_sought (found p q e w) (ended p' g) = absurd (omega arith)
+one_sought (found p q e w) (found p' q' g v) = let z : q ≡ q' = omega arith in ap Some z
+one_sought (found p q e w) (passed p' q' s g differ t) = let z : q ≡ q' = omega arith in absurd (differ (rw z at w))
+one_sought (passed p q r e differ t) (ended p' g) = absurd (omega arith)
+one_sought (passed p q r e differ t) (found p' q' g w) = let z : q' ≡ q = omega arith in absurd (differ (rw z at w))
 one_sought (passed p q r e differ t) (passed p' q' s g differ' u) = let z : q' ≡ q = omega arith in one_sought t (rw z at u)
 
 -- what is chained depends on the work slice from the heads on
@@ -188,12 +189,12 @@ module _ {ns : List ℕ} {n : ℕ} {w : List ℕ} (ch : Chained ns n w) (l a b s
       record { places = omega arith; room = omega arith; falls = λ i h. ch.chains.falls i (omega arith) }
 
   -- a search that finds nothing: no chained place holds the node
-  pub chained_missed : {r : ℕ} → Sought ns (14 * (length ns / 3)) w l a b (get_or w (13 * (length ns / 3) + s) 0) r → r ≡ 0 → (j : ℕ) → j < n → NodeIs ns j l a b → ⊥
-  chained_missed t z j h v = sought_none t z j (rw (head_is v (13 * (length ns / 3)) (length ns / 3) s e) at (ch.chains.reached j h)) v
+  pub chained_missed : Sought ns (14 * (length ns / 3)) w l a b (get_or w (13 * (length ns / 3) + s) 0) None → (j : ℕ) → j < n → NodeIs ns j l a b → ⊥
+  chained_missed t j h v = sought_none t refl j (rw (head_is v (13 * (length ns / 3)) (length ns / 3) s e) at (ch.chains.reached j h)) v
 
   -- a search that finds it: it stands at a chained place
-  pub chained_found : {r : ℕ} → Sought ns (14 * (length ns / 3)) w l a b (get_or w (13 * (length ns / 3) + s) 0) r → 0 < r → (r - 1 < n) × NodeIs ns (r - 1) l a b
-  chained_found t h = sought_some t h n ch.chains.falls chained_first
+  pub chained_found : {j : ℕ} → Sought ns (14 * (length ns / 3)) w l a b (get_or w (13 * (length ns / 3) + s) 0) (Some j) → (j < n) × NodeIs ns j l a b
+  chained_found {j} t = sought_some t j refl n ch.chains.falls chained_first
 
   -- the node at place n joins
   pub chained_more : NodeIs ns n l a b → n < length ns / 3 → 15 * (length ns / 3) ≤ length w → Chained ns (n + 1) (joined w (13 * (length ns / 3) + s) (14 * (length ns / 3)) n)

@@ -27,15 +27,6 @@ zeroed_more from i xs ys le h z = record {
     go j p q (yes e) = rw e (get_or-set_same ys i 0 0 h)
     go j p q (no e) = get_or-set_other ys i j 0 0 e ∙ z.zero j p (omega arith)
 
--- where the walk stops early everything is zeroed as asked
-pub zeroed_end : (from i to : ℕ) (xs ys : List ℕ) → from ≤ i → to ≤ i → Zeroed from i xs ys → (from < i → i ≤ to) → Zeroed from to xs ys
-zeroed_end from i to xs ys p q z top = ⊎_elim
-    (λ h. let e : i ≡ to = omega (arith, top h) in rw (← e) z)
-    (λ h.
-    let e : i ≡ from = omega arith in
-    record { size = z.size; zero = λ j a b. z.zero j a (omega arith); same = z.same; rest = record { eq = λ j a. ⊎_elim (λ k. z.same.eq j k) (λ k. z.rest.eq j (omega arith)) (lt_or_ge j from) } })
-    (lt_or_ge from i)
-
 -- what is left is one list
 pub one_zeroed : {from to : ℕ} {xs ys zs : List ℕ} → Zeroed from to xs ys → Zeroed from to xs zs → ys ≡ zs
 one_zeroed {from} {to} {xs} {ys} {zs} p q = ext_get_or 0 ys zs (p.size ∙ sym q.size) (λ i h. ⊎_elim

@@ -1,5 +1,5 @@
 -- Chains of places in a slice of numbers, and the chains by which an equal node is found. Assumes nothing: these are definitions.
-use Rattle.std.specs.Prelude.{ℕ, suc, ◌+◌, ◌*◌, ◌/◌, ◌%◌, ◌≤◌, ◌<◌, ◌≡◌, List, length, get_or, set}
+use Rattle.std.specs.Prelude.{ℕ, suc, ◌+◌, ◌*◌, ◌/◌, ◌%◌, ◌≤◌, ◌<◌, ◌≡◌, Option, Some, None, List, length, get_or, set}
 use Rattle.trees.specs.Table.{NodeIs}
 
 -- the bucket of three numbers among `size`
@@ -31,11 +31,11 @@ pub record Walkable (ns : List ℕ) (links : ℕ) (work : List ℕ) (first : ℕ
   pub room : links + first ≤ length work
   pub falls : Falling work links first
 
--- what the walk along the chain from p on finds of a node: one more than the first place on it that holds the node, or 0
-pub data Sought (ns : List ℕ) (links : ℕ) (work : List ℕ) (l a b : ℕ) : ℕ → ℕ → Type 0 where
-  ended : (p r : ℕ) → p ≡ 0 → r ≡ 0 → Sought ns links work l a b p r
-  found : (p q r : ℕ) → p ≡ suc q → NodeIs ns q l a b → r ≡ suc q → Sought ns links work l a b p r
-  passed : (p q r : ℕ) → p ≡ suc q → (NodeIs ns q l a b → ⊥) → Sought ns links work l a b (get_or work (links + q) 0) r → Sought ns links work l a b p r
+-- what the walk along the chain from p on finds of a node: the first place on it that holds the node, where one does
+pub data Sought (ns : List ℕ) (links : ℕ) (work : List ℕ) (l a b : ℕ) : ℕ → Option ℕ → Type 0 where
+  ended : (p : ℕ) → p ≡ 0 → Sought ns links work l a b p None
+  found : (p q : ℕ) → p ≡ suc q → NodeIs ns q l a b → Sought ns links work l a b p (Some q)
+  passed : (p q : ℕ) (r : Option ℕ) → p ≡ suc q → (NodeIs ns q l a b → ⊥) → Sought ns links work l a b (get_or work (links + q) 0) r → Sought ns links work l a b p r
 
 -- the head of the node at place i, the heads being `size` from place `at` on
 unfoldable pub head_of : List ℕ → ℕ → ℕ → ℕ → ℕ

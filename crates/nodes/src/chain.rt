@@ -21,20 +21,10 @@ pub fn holds(nodes: &[u32], j: usize, level: u32, low: u32, high: u32) -> bool
     ensures { Holds nodes.now j level low high result }
 {
     let i = 3 * j;
-    if nodes[i + 1] != low {
-        return false;
-    }
-    if nodes[i + 2] != high {
-        return false;
-    }
-    if nodes[i] != level {
-        return false;
-    }
-    true
+    nodes[i + 1] == low && nodes[i + 2] == high && nodes[i] == level
 }
 
-// One more than the first place on the chain from `first` on that holds the node; 0 where none does. The link of place j
-// stands at links + j.
+// The first place on the chain from `first` on that holds the node, where one does. The link of place j stands at links + j.
 pub fn seek(
     nodes: &[u32],
     work: &[u32],
@@ -43,19 +33,19 @@ pub fn seek(
     level: u32,
     low: u32,
     high: u32,
-) -> u32
+) -> Option<u32>
     requires { Walkable nodes.now links work.now first }
     ensures { Sought nodes.now links work.now level low high first result }
 {
     let mut p = first;
     while p != 0 {
-        let j = p as usize - 1;
-        if holds(nodes, j, level, low, high) {
-            return p;
+        let j = p - 1;
+        if holds(nodes, j as usize, level, low, high) {
+            return Some(j);
         }
-        p = work[links + j];
+        p = work[links + j as usize];
     }
-    p
+    None
 }
 
 // Chains place j from the head that stands at `head`: it is the new head, and the old one is its link.

@@ -9,7 +9,7 @@ ghost use Rattle.nodes.specs.Nodes.{Table, Splits, Zeroed};
 pub mod chain;
 
 // A node's three numbers.
-#[derive(Drop)]
+#[derive(Clone, Copy, PartialEq, Eq)]
 pub struct Node {
     pub level: u32,
     pub low: u32,
@@ -21,10 +21,8 @@ pub fn zero(xs: &mut [u32], from: usize, to: usize)
     requires { to ≤ length xs.old }
     ensures { Zeroed from to xs.old xs.new }
 {
-    let mut i = from;
-    while i < to {
-        xs[i] = 0;
-        i += 1;
+    if from < to {
+        xs[from..to].fill(0);
     }
 }
 

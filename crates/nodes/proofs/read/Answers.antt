@@ -1,5 +1,4 @@
 -- `read` meets its contract. Assumes nothing.
-use borrow.Author.Rules.{rules}
 use Rattle.nodes.proofs.ReadLaws.{splits}
 use Rattle.nodes.proofs.read.Goals as goal
 

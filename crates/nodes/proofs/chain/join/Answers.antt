@@ -1,7 +1,6 @@
 -- `chain::join` meets its contract. Assumes nothing.
 use native.Mathlib.Omega.{arith}
 use lib.ListN.{length-set}
-use borrow.Author.Rules.{rules}
 use Rattle.nodes.proofs.chain.join.Goals as goal
 
 pub bounds-work-head-2 : goal.bounds-work-head-2

@@ -1,7 +1,7 @@
-use Prim.Native.Nat.{ℕ, ◌+◌, ◌-◌, ◌≤◌}
+use Prim.Native.Nat.{◌+◌, ◌-◌, ◌≤◌}
 use native.Mathlib.Omega.{arith}
 use lib.ListN.{get_or}
-use Rattle.nodes.specs.Chains.{Sought, ended, found, passed}
+use Rattle.nodes.specs.Chains.{ended, found, passed}
 use Rattle.nodes.proofs.chain.seek.Goals as goal
 use Rattle.nodes.proofs.chain.seek.Goals.{After-shared_slice_known-in-loop-p-1}
 
@@ -20,7 +20,7 @@ pub returns-then-holds : goal.returns-then-holds
 returns-then-holds c =
     let l = c.loop-p in
     let some = c.loop-p-test.true in
-    l.invariant.1 l.p (found l.p (l.p - 1) l.p (omega arith) (rw c.if-holds.true at c.holds.ensures) (omega arith))
+    l.invariant.1 _ (found l.p (l.p - 1) (omega arith) (rw c.if-holds.true at c.holds.ensures))
 
 pub overflow_add-p : goal.overflow_add-p
 overflow_add-p c = let s = c in omega (arith, s.requires.room, c.loop-p.invariant.0, c.loop-p-test.true)
@@ -41,4 +41,4 @@ loop-p-preserved c =
     (omega (arith, link c, l.invariant.0), λ r s. l.invariant.1 r (passed l.p (l.p - 1) r (omega arith) (rw c.if-holds.false at c.holds.ensures) s))
 
 pub returns : goal.returns
-returns c = let l = c.loop-p in let none = c.loop-p-test.false in l.invariant.1 l.p (ended l.p l.p none none)
+returns c = let l = c.loop-p in let none = c.loop-p-test.false in l.invariant.1 _ (ended l.p none)

@@ -2,7 +2,6 @@
 use Prim.Native.Nat.{ℕ, ◌+◌, ◌*◌}
 use mathlib.Core.Path.{refl}
 use native.Mathlib.Omega.{arith}
-use borrow.Author.Rules.{rules}
 use Rattle.nodes.specs.Chains.{spread}
 use Rattle.nodes.proofs.ChainLaws.{share_fits, share_below}
 use Rattle.nodes.proofs.chain.slot.Goals as goal
