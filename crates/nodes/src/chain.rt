@@ -4,6 +4,8 @@ ghost use Rattle.std.specs.Prelude.{◌≡◌, ◌+◌, ◌*◌, ◌<◌, ◌≤
 ghost use Rattle.nodes.specs.Nodes.{Holds};
 ghost use Rattle.nodes.specs.Chains.{spread, Walkable, Sought, joined};
 
+use crate::Node;
+
 // The bucket of three numbers among `size`: the products spread each number over 32 bits, and the sum's share of 2 ^ 32 is the
 // bucket's share of `size`, so no division is made.
 pub fn slot(a: u32, b: u32, c: u32, size: usize) -> usize
@@ -16,31 +18,23 @@ pub fn slot(a: u32, b: u32, c: u32, size: usize) -> usize
 }
 
 // Whether the node at place j is this one. The low sides differ most, the levels least.
-pub fn holds(nodes: &[u32], j: usize, level: u32, low: u32, high: u32) -> bool
+pub fn holds(nodes: &[u32], j: usize, node: Node) -> bool
     requires { 3 * j + 2 < length nodes.now }
-    ensures { Holds nodes.now j level low high result }
+    ensures { Holds nodes.now j node.level node.low node.high result }
 {
     let i = 3 * j;
-    nodes[i + 1] == low && nodes[i + 2] == high && nodes[i] == level
+    nodes[i + 1] == node.low && nodes[i + 2] == node.high && nodes[i] == node.level
 }
 
 // The first place on the chain from `first` on that holds the node, where one does. The link of place j stands at links + j.
-pub fn seek(
-    nodes: &[u32],
-    work: &[u32],
-    links: usize,
-    first: u32,
-    level: u32,
-    low: u32,
-    high: u32,
-) -> Option<u32>
+pub fn seek(nodes: &[u32], work: &[u32], links: usize, first: u32, node: Node) -> Option<u32>
     requires { Walkable nodes.now links work.now first }
-    ensures { Sought nodes.now links work.now level low high first result }
+    ensures { Sought nodes.now links work.now node.level node.low node.high first result }
 {
     let mut p = first;
     while p != 0 {
         let j = p - 1;
-        if holds(nodes, j as usize, level, low, high) {
+        if holds(nodes, j as usize, node) {
             return Some(j);
         }
         p = work[links + j as usize];

@@ -6,7 +6,7 @@ use Rattle.nodes.specs.Chains.{Sought}
 use Rattle.nodes.proofs.chain.seek.Given as goal
 
 abbrev pub invariant-loop-p : goal.invariant-loop-p
-invariant-loop-p l = (l.p ≤ l.first) × ((r : Option ℕ) → Sought l.nodes l.links l.work l.level l.low l.high l.p r → Sought l.nodes l.links l.work l.level l.low l.high l.first r)
+invariant-loop-p l = (l.p ≤ l.first) × ((r : Option ℕ) → Sought l.nodes l.links l.work l.node.level l.node.low l.node.high l.p r → Sought l.nodes l.links l.work l.node.level l.node.low l.node.high l.first r)
 
 abbrev pub decreases-loop-p : goal.decreases-loop-p
 decreases-loop-p l = l.p
