@@ -19,8 +19,8 @@ use Rattle.trees.proofs.Tests.{lt_or_ge, false_true, EqCase, equal, other, eq_ca
 use Rattle.trees.proofs.Tests as tests
 use Rattle.trees.proofs.TreeLaws.{side, rebuild, fine_side, node_fine, fine_node, eval_mk, eval_agree, fine_mk, fine_lower, fine_off, fine_on}
 use Rattle.trees.proofs.FunctionLaws.{tree_one}
-use Rattle.making.specs.declared.Place.{Place}
-use Rattle.making.specs.declared.Place.TheVariants.{Any, Is}
+use Rattle.std.specs.Prelude.{Option, Some, None}
+use Rattle.making.specs.declared.Number.{Number}
 use Rattle.making.specs.Cubes.{place_says, cube_says, given, numbered, Over, SameShape, along_bits, along_place, bits_over, place_over}
 
 -- the levels of a side are levels of the tree
@@ -167,43 +167,43 @@ adds_bits p hi f g (suc count) base top m e le own a =
     }
 
 -- a variable before what f adds
-adds_place : (p : ℕ → Bool) (base k top hi : ℕ) (x : Place) (f : Tree → Tree) (g : Function) → top ≡ base + k → top ≤ hi → ((l : ℕ) → base ≤ l → l < top → p l ≡ given x)
+adds_place : (p : ℕ → Bool) (base k top hi : ℕ) (x : Option Number) (f : Tree → Tree) (g : Function) → top ≡ base + k → top ≤ hi → ((l : ℕ) → base ≤ l → l < top → p l ≡ given x)
     → Adds p top hi f g → Adds p base hi (λ t. place_over base k x t (f (along_place base k x t))) (λ s. place_says base k x s && g s)
-adds_place p base k top hi Any f g e le own a = adds_past p base top hi f g (omega arith) own a
-adds_place p base k top hi (Is m) f g e le own a = adds_bits p hi f g k base top m.0 e le own a
+adds_place p base k top hi None f g e le own a = adds_past p base top hi f g (omega arith) own a
+adds_place p base k top hi (Some m) f g e le own a = adds_bits p hi f g k base top m.0 e le own a
 
 -- the four variables, one over the other
-module _ (k : ℕ) (places : List Place) where
+module _ (k : ℕ) (places : List (Option Number)) where
   -- where the number of variable 0 leads
   abbrev pub first : Tree → Tree
-  first t = along_place 0 k (get_or places 0 Any) t
+  first t = along_place 0 k (get_or places 0 None) t
 
   -- then that of variable 1
   abbrev pub second : Tree → Tree
-  second t = along_place k k (get_or places 1 Any) (first t)
+  second t = along_place k k (get_or places 1 None) (first t)
 
   -- then that of variable 2
   abbrev pub third : Tree → Tree
-  third t = along_place (2 * k) k (get_or places 2 Any) (second t)
+  third t = along_place (2 * k) k (get_or places 2 None) (second t)
 
   -- variable 3 over yes
   abbrev pub last : Tree → Tree
-  last t = place_over (3 * k) k (get_or places 3 Any) (third t) on
+  last t = place_over (3 * k) k (get_or places 3 None) (third t) on
 
   -- variable 2 over that
   abbrev pub later : Tree → Tree
-  later t = place_over (2 * k) k (get_or places 2 Any) (second t) (last t)
+  later t = place_over (2 * k) k (get_or places 2 None) (second t) (last t)
 
   -- variable 1 over that
   abbrev pub early : Tree → Tree
-  early t = place_over k k (get_or places 1 Any) (first t) (later t)
+  early t = place_over k k (get_or places 1 None) (first t) (later t)
 
   -- variable 0 over that
   abbrev pub tower : Tree → Tree
-  tower t = place_over 0 k (get_or places 0 Any) t (early t)
+  tower t = place_over 0 k (get_or places 0 None) t (early t)
 
   -- the levels of variable v
-  own : (v l : ℕ) → v * k ≤ l → l < (v + 1) * k → numbered k places l ≡ given (get_or places v Any)
+  own : (v l : ℕ) → v * k ≤ l → l < (v + 1) * k → numbered k places l ≡ given (get_or places v None)
   unfolding numbered
   own v l a b = rw (div-eq_of_lt-le k a b)
 
@@ -212,11 +212,11 @@ module _ (k : ℕ) (places : List Place) where
   unfolding cube_says
   adds_tower =
       let p = numbered k places in
-      let a3 = adds_place p (3 * k) k (4 * k) (4 * k) (get_or places 3 Any) (λ t. on) (λ s. true) (omega arith) (omega arith) (λ l x y. own 3 l (omega arith) (omega arith)) (adds_on p (4 * k) (4 * k)) in
-      let a2 = adds_place p (2 * k) k (3 * k) (4 * k) (get_or places 2 Any) _ _ (omega arith) (omega arith) (λ l x y. own 2 l (omega arith) (omega arith)) a3 in
-      let a1 = adds_place p k k (2 * k) (4 * k) (get_or places 1 Any) _ _ (omega arith) (omega arith) (λ l x y. own 1 l (omega arith) (omega arith)) a2 in
-      let a0 = adds_place p 0 k k (4 * k) (get_or places 0 Any) _ _ (omega arith) (omega arith) (λ l x y. own 0 l (omega arith) (omega arith)) a1 in
-      record { fine = a0.fine; only = a0.only; says = λ t w h s. a0.says t w h s ∙ rw (and-true (place_says (3 * k) k (get_or places 3 Any) s)) }
+      let a3 = adds_place p (3 * k) k (4 * k) (4 * k) (get_or places 3 None) (λ t. on) (λ s. true) (omega arith) (omega arith) (λ l x y. own 3 l (omega arith) (omega arith)) (adds_on p (4 * k) (4 * k)) in
+      let a2 = adds_place p (2 * k) k (3 * k) (4 * k) (get_or places 2 None) _ _ (omega arith) (omega arith) (λ l x y. own 2 l (omega arith) (omega arith)) a3 in
+      let a1 = adds_place p k k (2 * k) (4 * k) (get_or places 1 None) _ _ (omega arith) (omega arith) (λ l x y. own 1 l (omega arith) (omega arith)) a2 in
+      let a0 = adds_place p 0 k k (4 * k) (get_or places 0 None) _ _ (omega arith) (omega arith) (λ l x y. own 0 l (omega arith) (omega arith)) a1 in
+      record { fine = a0.fine; only = a0.only; says = λ t w h s. a0.says t w h s ∙ rw (and-true (place_says (3 * k) k (get_or places 3 None) s)) }
 
   -- over the same variables
   module _ {t : Tree} (o : Over k places t) where
@@ -256,7 +256,7 @@ module _ (k : ℕ) (places : List Place) where
     into_start = into_off
 
 -- which variables have a number is all that counts
-pub over_shape : {k : ℕ} {ps qs : List Place} {t : Tree} → SameShape ps qs → Over k ps t → Over k qs t
+pub over_shape : {k : ℕ} {ps qs : List (Option Number)} {t : Tree} → SameShape ps qs → Over k ps t → Over k qs t
 unfolding numbered
 over_shape {k} {ps} {qs} {t} e o = record {
   fine = o.fine;

@@ -17,8 +17,8 @@ use Rattle.trees.proofs.ReadLaws.{length_trees, back_closed}
 use Rattle.nodes.specs.Nodes.{Table, To, Sides, Grown, Stuck}
 use Rattle.nodes.proofs.ReadLaws.{stays, grown_count}
 use Rattle.making.specs.declared.Made.{Made}
-use Rattle.making.specs.declared.Place.{Place}
-use Rattle.making.specs.declared.Place.TheVariants.{Any, Is}
+use Rattle.std.specs.Prelude.{Option, Some, None}
+use Rattle.making.specs.declared.Number.{Number}
 use Rattle.making.specs.Tables.{Added}
 use Rattle.making.specs.Cubes.{cube_says, Over, along_bits, along_place, bits_over, place_over}
 use Rattle.making.proofs.WalkLaws.{kept, After, after_trans, low_after, high_after, stuck_first, first_then, stuck_low, stuck_high, joined}
@@ -112,7 +112,7 @@ module _ {ns : List ℕ} {n : ℕ} (t : Table ns n) (base count m : ℕ) (d : Tr
   pub odd_stuck : {ms : List ℕ} → m % 2 ≢ 0 → Stuck ns ms n (bits_over (base + 1) (count - 1) (m / 2) (at (trees_of ns n) b) d) → Stuck ns ms n (bits_over base count m (at (trees_of ns n) p) d)
   odd_stuck e w = rw (over_odd base m (at (trees_of ns n) p) d count h e) (stuck_high base _ _ t (there t s.low) (rw s.high.is at w))
 
-  module _ {ns₁ : List ℕ} {n₁ q : ℕ} (I : List ℕ → ℕ → Type 0) (ms : List ℕ) (x : Made) where
+  module _ {ns₁ : List ℕ} {n₁ q : ℕ} (I : List ℕ → ℕ → Type 0) (ms : List ℕ) (x : Option Made) where
     -- the node of a bit that is 0
     pub bits_even : m % 2 ≡ 0 → Grown ns ns₁ n n₁ q (bits_over (base + 1) (count - 1) (m / 2) (at (trees_of ns n) a) d)
         → Added I ns₁ ms n₁ (mk base (at (trees_of ns₁ n₁) q) (at (trees_of ns₁ n₁) b)) x → Added I ns ms n (bits_over base count m (at (trees_of ns n) p) d) x
@@ -161,12 +161,12 @@ over_after (suc count) base m t d ts cl h =
         (high_in ts base (side base false t) _ cl (has_side ts base false t cl h))
 
 -- the same of a variable
-place_after : (base k : ℕ) (x : Place) (t d : Tree) (ts : List Tree) → Closed ts → Has ts t → After ts d (place_over base k x t d)
-place_after base k Any t d ts cl h = add_in (add_tree ts d) d (closed_add ts d cl) (has_add ts d)
-place_after base k (Is m) t d ts cl h = over_after k base m.0 t d ts cl h
+place_after : (base k : ℕ) (x : Option Number) (t d : Tree) (ts : List Tree) → Closed ts → Has ts t → After ts d (place_over base k x t d)
+place_after base k None t d ts cl h = add_in (add_tree ts d) d (closed_add ts d cl) (has_add ts d)
+place_after base k (Some m) t d ts cl h = over_after k base m.0 t d ts cl h
 
 -- the steps of a variable, over the tree of the reference p
-module _ {ns : List ℕ} {n : ℕ} (t : Table ns n) (base k : ℕ) (x : Place) {p : ℕ} {o : Tree} (w : To ns n p o) (d : Tree) where
+module _ {ns : List ℕ} {n : ℕ} (t : Table ns n) (base k : ℕ) (x : Option Number) {p : ℕ} {o : Tree} (w : To ns n p o) (d : Tree) where
   may : After (trees_of ns n) d (place_over base k x o d)
   may = place_after base k x o d (trees_of ns n) (back_closed ns n t.back) (p, record { below = omega (arith, length_trees ns n, w.below); is = w.is })
 
@@ -175,58 +175,58 @@ module _ {ns : List ℕ} {n : ℕ} (t : Table ns n) (base k : ℕ) (x : Place) {
   place_stuck s = stuck_first d (place_over base k x o d) may s
 
   -- what stands below is added, and then the variable
-  place_then : {ns₁ : List ℕ} {n₁ q : ℕ} → Grown ns ns₁ n n₁ q d → (I : List ℕ → ℕ → Type 0) (ms : List ℕ) (m : Made)
+  place_then : {ns₁ : List ℕ} {n₁ q : ℕ} → Grown ns ns₁ n n₁ q d → (I : List ℕ → ℕ → Type 0) (ms : List ℕ) (m : Option Made)
       → Added I ns₁ ms n₁ (place_over base k x (at (trees_of ns₁ n₁) p) (at (trees_of ns₁ n₁) q)) m → Added I ns ms n (place_over base k x o d) m
   place_then g I ms m v = first_then d (place_over base k x o d) may g I ms m (rw (g.ref.is, (later_to g w).is) at v)
 
 -- the references that the numbers lead to from p: past variable 0, past 1 and past 2
-pub record Down (ns : List ℕ) (n k : ℕ) (places : List Place) (p q r s : ℕ) : Type 0 where
+pub record Down (ns : List ℕ) (n k : ℕ) (places : List (Option Number)) (p q r s : ℕ) : Type 0 where
   pub start : To ns n p (at (trees_of ns n) p)
   pub one : To ns n q (first k places (at (trees_of ns n) p))
   pub two : To ns n r (second k places (at (trees_of ns n) p))
   pub three : To ns n s (third k places (at (trees_of ns n) p))
 
 -- they are followed one after the other
-pub goes_down : {ns : List ℕ} {n : ℕ} (k : ℕ) (places : List Place) {p q r s : ℕ} → p < n + 2 → To ns n q (along_place 0 k (get_or places 0 Any) (at (trees_of ns n) p))
-    → To ns n r (along_place k k (get_or places 1 Any) (at (trees_of ns n) q)) → To ns n s (along_place (2 * k) k (get_or places 2 Any) (at (trees_of ns n) r)) → Down ns n k places p q r s
+pub goes_down : {ns : List ℕ} {n : ℕ} (k : ℕ) (places : List (Option Number)) {p q r s : ℕ} → p < n + 2 → To ns n q (along_place 0 k (get_or places 0 None) (at (trees_of ns n) p))
+    → To ns n r (along_place k k (get_or places 1 None) (at (trees_of ns n) q)) → To ns n s (along_place (2 * k) k (get_or places 2 None) (at (trees_of ns n) r)) → Down ns n k places p q r s
 goes_down k places h a b c =
     let two = rw a.is at b in
     record { start = record { below = h; is = refl }; one = a; two = two; three = rw two.is at c }
 
 -- the steps up: the last variable, over yes, and then one more each time
-module _ {ns : List ℕ} {n : ℕ} (t : Table ns n) {k : ℕ} {places : List Place} {p q r s : ℕ} (w : Down ns n k places p q r s) where
+module _ {ns : List ℕ} {n : ℕ} (t : Table ns n) {k : ℕ} {places : List (Option Number)} {p q r s : ℕ} (w : Down ns n k places p q r s) where
   -- variable 3 is added
-  pub last_made : (I : List ℕ → ℕ → Type 0) (ms : List ℕ) (m : Made) → Added I ns ms n (place_over (3 * k) k (get_or places 3 Any) (at (trees_of ns n) s) (at (trees_of ns n) 1)) m
+  pub last_made : (I : List ℕ → ℕ → Type 0) (ms : List ℕ) (m : Option Made) → Added I ns ms n (place_over (3 * k) k (get_or places 3 None) (at (trees_of ns n) s) (at (trees_of ns n) 1)) m
       → Added I ns ms n (last k places (at (trees_of ns n) p)) m
   unfolding at
   last_made I ms m v = rw w.three.is at v
 
   module _ {ns₁ : List ℕ} {n₁ d : ℕ} where
     -- then variable 2
-    pub later_made : Grown ns ns₁ n n₁ d (last k places (at (trees_of ns n) p)) → (I : List ℕ → ℕ → Type 0) (ms : List ℕ) (m : Made)
-        → Added I ns₁ ms n₁ (place_over (2 * k) k (get_or places 2 Any) (at (trees_of ns₁ n₁) r) (at (trees_of ns₁ n₁) d)) m → Added I ns ms n (later k places (at (trees_of ns n) p)) m
-    later_made g I ms m v = place_then t (2 * k) k (get_or places 2 Any) w.two _ g I ms m v
+    pub later_made : Grown ns ns₁ n n₁ d (last k places (at (trees_of ns n) p)) → (I : List ℕ → ℕ → Type 0) (ms : List ℕ) (m : Option Made)
+        → Added I ns₁ ms n₁ (place_over (2 * k) k (get_or places 2 None) (at (trees_of ns₁ n₁) r) (at (trees_of ns₁ n₁) d)) m → Added I ns ms n (later k places (at (trees_of ns n) p)) m
+    later_made g I ms m v = place_then t (2 * k) k (get_or places 2 None) w.two _ g I ms m v
 
     -- then variable 1
-    pub early_made : Grown ns ns₁ n n₁ d (later k places (at (trees_of ns n) p)) → (I : List ℕ → ℕ → Type 0) (ms : List ℕ) (m : Made)
-        → Added I ns₁ ms n₁ (place_over k k (get_or places 1 Any) (at (trees_of ns₁ n₁) q) (at (trees_of ns₁ n₁) d)) m → Added I ns ms n (early k places (at (trees_of ns n) p)) m
-    early_made g I ms m v = place_then t k k (get_or places 1 Any) w.one _ g I ms m v
+    pub early_made : Grown ns ns₁ n n₁ d (later k places (at (trees_of ns n) p)) → (I : List ℕ → ℕ → Type 0) (ms : List ℕ) (m : Option Made)
+        → Added I ns₁ ms n₁ (place_over k k (get_or places 1 None) (at (trees_of ns₁ n₁) q) (at (trees_of ns₁ n₁) d)) m → Added I ns ms n (early k places (at (trees_of ns n) p)) m
+    early_made g I ms m v = place_then t k k (get_or places 1 None) w.one _ g I ms m v
 
     -- then variable 0
-    pub into_made : Over k places (at (trees_of ns n) p) → Grown ns ns₁ n n₁ d (early k places (at (trees_of ns n) p)) → (I : List ℕ → ℕ → Type 0) (ms : List ℕ) (m : Made)
-        → Added I ns₁ ms n₁ (place_over 0 k (get_or places 0 Any) (at (trees_of ns₁ n₁) p) (at (trees_of ns₁ n₁) d)) m
+    pub into_made : Over k places (at (trees_of ns n) p) → Grown ns ns₁ n n₁ d (early k places (at (trees_of ns n) p)) → (I : List ℕ → ℕ → Type 0) (ms : List ℕ) (m : Option Made)
+        → Added I ns₁ ms n₁ (place_over 0 k (get_or places 0 None) (at (trees_of ns₁ n₁) p) (at (trees_of ns₁ n₁) d)) m
         → Added I ns ms n (tree_of (4 * k) (λ s. eval (at (trees_of ns n) p) s || cube_says k places s)) m
-    into_made o g I ms m v = rw (into_tree k places o) (place_then t 0 k (get_or places 0 Any) w.start _ g I ms m v)
+    into_made o g I ms m v = rw (into_tree k places o) (place_then t 0 k (get_or places 0 None) w.start _ g I ms m v)
 
   module _ (o : Over k places (at (trees_of ns n) p)) {ms : List ℕ} where
     -- no room for the variables 1 to 3
     pub early_stuck : Stuck ns ms n (early k places (at (trees_of ns n) p)) → Stuck ns ms n (tree_of (4 * k) (λ s. eval (at (trees_of ns n) p) s || cube_says k places s))
-    early_stuck v = rw (into_tree k places o) (place_stuck t 0 k (get_or places 0 Any) w.start _ v)
+    early_stuck v = rw (into_tree k places o) (place_stuck t 0 k (get_or places 0 None) w.start _ v)
 
     -- no room for the variables 2 and 3
     pub later_stuck : Stuck ns ms n (later k places (at (trees_of ns n) p)) → Stuck ns ms n (tree_of (4 * k) (λ s. eval (at (trees_of ns n) p) s || cube_says k places s))
-    later_stuck v = early_stuck (place_stuck t k k (get_or places 1 Any) w.one _ v)
+    later_stuck v = early_stuck (place_stuck t k k (get_or places 1 None) w.one _ v)
 
     -- no room for variable 3
     pub last_stuck : Stuck ns ms n (last k places (at (trees_of ns n) p)) → Stuck ns ms n (tree_of (4 * k) (λ s. eval (at (trees_of ns n) p) s || cube_says k places s))
-    last_stuck v = later_stuck (place_stuck t (2 * k) k (get_or places 2 Any) w.two _ v)
+    last_stuck v = later_stuck (place_stuck t (2 * k) k (get_or places 2 None) w.two _ v)

@@ -9,7 +9,7 @@ use Rattle.trees.specs.Tree.{Tree, mk}
 use Rattle.trees.specs.Table.{add_tree, at, trees_of}
 use Rattle.trees.proofs.TableLaws.{Closed, Goes, goes_length, goes_at, add_goes, add_mk, add_in, closed_add, has_add}
 use Rattle.making.specs.declared.Made.{Made}
-use Rattle.making.specs.declared.Made.TheVariants.{Full, At}
+use Rattle.std.specs.Prelude.{Option, Some, None}
 use Rattle.nodes.specs.Nodes.{Front, Rest, Table, Grown, Stuck}
 use Rattle.making.specs.Tables.{Added}
 use Rattle.trees.proofs.ReadLaws.{length_trees, back_closed}
@@ -59,8 +59,8 @@ module _ {ns : List ℕ} {n : ℕ} (x z : Tree) (e : After (trees_of ns n) x z) 
       }
 
   -- x is added, and then z
-  pub first_then : {ns₁ : List ℕ} {n₁ p : ℕ} → Grown ns ns₁ n n₁ p x → (I : List ℕ → ℕ → Type 0) (ms : List ℕ) (m : Made) → Added I ns₁ ms n₁ z m → Added I ns ms n z m
-  first_then {ns₁} g I ms Full s = record {
+  pub first_then : {ns₁ : List ℕ} {n₁ p : ℕ} → Grown ns ns₁ n n₁ p x → (I : List ℕ → ℕ → Type 0) (ms : List ℕ) (m : Option Made) → Added I ns₁ ms n₁ z m → Added I ns ms n z m
+  first_then {ns₁} g I ms None s = record {
     over = rw (← e, ← g.trees) (omega (arith, s.over, g.size));
     table = rw (← g.size) s.table;
     size = s.size ∙ g.size;
@@ -68,7 +68,7 @@ module _ {ns : List ℕ} {n : ℕ} (x z : Tree) (e : After (trees_of ns n) x z) 
     same = front_trans g.same s.same (omega (arith, grown_count g));
     rest = rw (← g.size) (rest_trans g.rest s.rest (omega (arith, g.table.fits)));
   }
-  first_then g I ms (At k r) w =
+  first_then g I ms (Some m) w =
       let s = w.0 in (
         record {
           table = s.table;
@@ -107,10 +107,10 @@ module _ {ns : List ℕ} {n : ℕ} (l : ℕ) (x y : Tree) (t : Table ns n) where
 
     -- no room for the high side
     pub stuck_high : {ms : List ℕ} → Stuck ns₁ ms n₁ y → Stuck ns ms n (mk l x y)
-    stuck_high {ms} s = first_then x (mk l x y) low g (λ ns n. Unit {0}) ms Full (stuck_first y (mk l x y) high s)
+    stuck_high {ms} s = first_then x (mk l x y) low g (λ ns n. Unit {0}) ms None (stuck_first y (mk l x y) high s)
 
     -- the node over both sides
-    pub joined : {ns₂ : List ℕ} {n₂ q : ℕ} → Grown ns₁ ns₂ n₁ n₂ q y → (I : List ℕ → ℕ → Type 0) (ms : List ℕ) (m : Made)
+    pub joined : {ns₂ : List ℕ} {n₂ q : ℕ} → Grown ns₁ ns₂ n₁ n₂ q y → (I : List ℕ → ℕ → Type 0) (ms : List ℕ) (m : Option Made)
         → Added I ns₂ ms n₂ (mk l (at (trees_of ns₂ n₂) p) (at (trees_of ns₂ n₂) q)) m → Added I ns ms n (mk l x y) m
     joined {ns₂} {n₂} {q} h I ms m w =
         let ep : at (trees_of ns₂ n₂) p ≡ x = kept h p (grown_ref g) ∙ g.ref.is in

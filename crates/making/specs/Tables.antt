@@ -1,17 +1,16 @@
 -- How a table of nodes grows while its chains stand in the work slice. With c nodes in the node slice, the memory of results
 -- stands in the work slice from 5 * c on, and the chains of the nodes from 13 * c on and before 15 * c.
 -- Assumes nothing: these are definitions.
-use Rattle.std.specs.Prelude.{ℕ, ◌+◌, ◌*◌, ◌≤◌, ◌<◌, ◌≡◌, List, length, get_or, set}
+use Rattle.std.specs.Prelude.{ℕ, ◌+◌, ◌*◌, ◌≤◌, ◌<◌, ◌≡◌, Option, Some, None, List, length, get_or, set}
 use Rattle.trees.specs.Tree.{Tree}
 use Rattle.nodes.specs.Nodes.{Front, Table, Grown, Stuck}
 use Rattle.nodes.specs.Chains.{Chained}
 use Rattle.making.specs.declared.Made.{Made}
-use Rattle.making.specs.declared.Made.TheVariants.{Full, At}
 
 -- a walk that is to add the diagram d to the first n nodes of ns, and keeps I true of the table, left ns' and said m
-abbrev pub Added : (List ℕ → ℕ → Type 0) → List ℕ → List ℕ → ℕ → Tree → Made → Type 0
-Added I ns ns' n d Full = Stuck ns ns' n d
-Added I ns ns' n d (At n' r) = Grown ns ns' n n' r d × I ns' n'
+abbrev pub Added : (List ℕ → ℕ → Type 0) → List ℕ → List ℕ → ℕ → Tree → Option Made → Type 0
+Added I ns ns' n d None = Stuck ns ns' n d
+Added I ns ns' n d (Some m) = Grown ns ns' n m.count m.reference d × I ns' m.count
 
 -- the first n of c nodes are a table, and the work slice holds the chains of these nodes
 pub record Shelf (ns : List ℕ) (n : ℕ) (w : List ℕ) (c : ℕ) : Type 0 where
@@ -43,6 +42,7 @@ pub record SlotIs (w : List ℕ) (i a b d r : ℕ) : Type 0 where
 abbrev pub noted : List ℕ → ℕ → ℕ → ℕ → ℕ → ℕ → List ℕ
 noted w i a b d r = set (set (set (set w i a) (i + 1) b) (i + 2) d) (i + 3) (r + 1)
 
--- a look at the slot at place i for a key gives 0, or the result where it has just this key
-pub record Looked (w : List ℕ) (i a b d h : ℕ) : Type 0 where
-  pub found : 0 < h → SlotIs w i a b d h
+-- a look at the slot at place i for a key gives nothing, or the reference of the result where it has just this key
+abbrev pub Looked : List ℕ → ℕ → ℕ → ℕ → ℕ → Option ℕ → Type 0
+Looked w i a b d None = Unit {0}
+Looked w i a b d (Some r) = SlotIs w i a b d (r + 1)

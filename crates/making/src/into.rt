@@ -10,7 +10,8 @@ ghost use Rattle.making.specs.Tables.{Added, Shelf, Shelved};
 ghost use Rattle.making.specs.Cubes.{Over, along_bits, along_place, bits_over, place_over, cube_says};
 
 use crate::table::{make, sides};
-use crate::{Made, Place};
+use crate::{Made, Number};
+use nodes::Node;
 
 // Where `count` bits of m, from the level `base` on, lead from p.
 fn along_bits(nodes: &[u32], n: u32, base: u32, count: u32, m: u32, p: u32) -> u32
@@ -32,14 +33,14 @@ fn along_bits(nodes: &[u32], n: u32, base: u32, count: u32, m: u32, p: u32) -> u
 }
 
 // Where the k bits of a variable, from the level `base` on, lead from p.
-fn along(nodes: &[u32], n: u32, base: u32, k: u32, place: Place, p: u32) -> u32
+fn along(nodes: &[u32], n: u32, base: u32, k: u32, place: Option<Number>, p: u32) -> u32
     requires table { Table nodes.now n }
     requires p_bound { (p < n + 2) × (base + k < 4294967296) }
     ensures { To nodes.now n result (along_place base k place (at (trees_of nodes.now n) p)) }
 {
     match place {
-        Place::Any => p,
-        Place::Is(m) => along_bits(nodes, n, base, k, m.0, p),
+        None => p,
+        Some(m) => along_bits(nodes, n, base, k, m.0, p),
     }
 }
 
@@ -54,27 +55,34 @@ fn bits_over(
     m: u32,
     p: u32,
     below: u32,
-) -> Made
+) -> Option<Made>
     requires shelf { Shelf nodes.old n work.old c }
     requires p_bound { (p < n + 2) × (below < n + 2) × (base + count < 4294967296) }
     ensures { Added (λ ns j. Shelved work.old ns j work.new c) nodes.old nodes.new n (bits_over base count m (at (trees_of nodes.old n) p) (at (trees_of nodes.old n) below)) result }
 {
     if count == 0 {
-        return Made::At(n, below);
+        return Some(Made {
+            count: n,
+            reference: below,
+        });
     }
     let x = sides(nodes, n, p, base);
     if m % 2 == 0 {
-        let Made::At(j, d) = bits_over(nodes, work, c, n, base + 1, count - 1, m / 2, x.low, below)
-        else {
-            return Made::Full;
+        let d = bits_over(nodes, work, c, n, base + 1, count - 1, m / 2, x.low, below)?;
+        let even = Node {
+            level: base,
+            low: d.reference,
+            high: x.high,
         };
-        return make(nodes, work, c, j, base, d, x.high);
+        return make(nodes, work, c, d.count, even);
     }
-    let Made::At(j, d) = bits_over(nodes, work, c, n, base + 1, count - 1, m / 2, x.high, below)
-    else {
-        return Made::Full;
+    let d = bits_over(nodes, work, c, n, base + 1, count - 1, m / 2, x.high, below)?;
+    let odd = Node {
+        level: base,
+        low: x.low,
+        high: d.reference,
     };
-    make(nodes, work, c, j, base, x.low, d)
+    make(nodes, work, c, d.count, odd)
 }
 
 // The k bits of a variable, from the level `base` on, over the diagram `below`, and on their other sides what p has there.
@@ -85,17 +93,20 @@ fn place_over(
     n: u32,
     base: u32,
     k: u32,
-    place: Place,
+    place: Option<Number>,
     p: u32,
     below: u32,
-) -> Made
+) -> Option<Made>
     requires shelf { Shelf nodes.old n work.old c }
     requires p_bound { (p < n + 2) × (below < n + 2) × (base + k < 4294967296) }
     ensures { Added (λ ns j. Shelved work.old ns j work.new c) nodes.old nodes.new n (place_over base k place (at (trees_of nodes.old n) p) (at (trees_of nodes.old n) below)) result }
 {
     match place {
-        Place::Any => Made::At(n, below),
-        Place::Is(m) => bits_over(nodes, work, c, n, base, k, m.0, p, below),
+        None => Some(Made {
+            count: n,
+            reference: below,
+        }),
+        Some(m) => bits_over(nodes, work, c, n, base, k, m.0, p, below),
     }
 }
 
@@ -106,28 +117,19 @@ pub fn into(
     c: usize,
     n: u32,
     k: u32,
-    places: [Place; 4],
+    places: [Option<Number>; 4],
     p: u32,
-) -> Made
+) -> Option<Made>
     requires shelf { Shelf nodes.old n work.old c }
     requires k_bound { (4 * k ≤ 64) × (p < n + 2) × Over k places (at (trees_of nodes.old n) p) }
     ensures { Added (λ ns j. Shelved work.old ns j work.new c) nodes.old nodes.new n (tree_of (4 * k) (λ s. eval (at (trees_of nodes.old n) p) s || cube_says k places s)) result }
 {
-    let w = places[0];
-    let x = places[1];
-    let y = places[2];
-    let z = places[3];
+    let [w, x, y, z] = places;
     let q = along(nodes, n, 0, k, w, p);
     let r = along(nodes, n, k, k, x, q);
     let s = along(nodes, n, 2 * k, k, y, r);
-    let Made::At(n1, d3) = place_over(nodes, work, c, n, 3 * k, k, z, s, 1) else {
-        return Made::Full;
-    };
-    let Made::At(n2, d2) = place_over(nodes, work, c, n1, 2 * k, k, y, r, d3) else {
-        return Made::Full;
-    };
-    let Made::At(n3, d1) = place_over(nodes, work, c, n2, k, k, x, q, d2) else {
-        return Made::Full;
-    };
-    place_over(nodes, work, c, n3, 0, k, w, p, d1)
+    let d3 = place_over(nodes, work, c, n, 3 * k, k, z, s, 1)?;
+    let d2 = place_over(nodes, work, c, d3.count, 2 * k, k, y, r, d3.reference)?;
+    let d1 = place_over(nodes, work, c, d2.count, k, k, x, q, d2.reference)?;
+    place_over(nodes, work, c, d1.count, 0, k, w, p, d1.reference)
 }

@@ -6,20 +6,13 @@ pub mod into;
 pub mod memory;
 pub mod table;
 
-// What a walk answers: the count of nodes and the reference of the result, or that the slice is full.
-#[derive(Drop)]
-pub enum Made {
-    Full,
-    At(u32, u32),
+// What a walk answers where the slice had room for its nodes: the count of nodes and the reference of the result.
+#[derive(Clone, Copy)]
+pub struct Made {
+    pub count: u32,
+    pub reference: u32,
 }
 
-// A number that stands for a value.
+// A number that stands for a value. What a variable's bits are to show is a number, or any.
 #[derive(Clone, Copy)]
 pub struct Number(pub u32);
-
-// What a variable's bits are to show: any number, or this one.
-#[derive(Clone, Copy)]
-pub enum Place {
-    Any,
-    Is(Number),
-}

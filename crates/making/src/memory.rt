@@ -6,38 +6,40 @@ ghost use Rattle.making.specs.Tables.{Spot, Looked, noted};
 
 use nodes::chain::slot;
 
+// The key of a result.
+#[derive(Clone, Copy, PartialEq, Eq)]
+pub struct Key {
+    pub first: u32,
+    pub second: u32,
+    pub third: u32,
+}
+
 // Where the slot of a key begins.
-pub fn spot(c: usize, slots: usize, a: u32, b: u32, d: u32) -> usize
+pub fn spot(c: usize, slots: usize, key: Key) -> usize
     requires { (c ≤ 4096) × (1 ≤ slots) × (slots ≤ 2 * c) }
     ensures { Spot c slots result }
 {
-    5 * c + 4 * slot(a, b, d, slots)
+    5 * c + 4 * slot(key.first, key.second, key.third, slots)
 }
 
-// What the slot at place i has for a key: one more than the reference of the result, or 0.
-pub fn recall(work: &[u32], i: usize, a: u32, b: u32, d: u32) -> u32
+// The reference of the result that the slot at place i has for a key.
+pub fn recall(work: &[u32], i: usize, key: Key) -> Option<u32>
     requires { i + 3 < length work.now }
-    ensures { Looked work.now i a b d result }
+    ensures { Looked work.now i key.first key.second key.third result }
 {
-    if work[i] != a {
-        return 0;
+    if work[i] == key.first && work[i + 1] == key.second && work[i + 2] == key.third {
+        return work[i + 3].checked_sub(1);
     }
-    if work[i + 1] != b {
-        return 0;
-    }
-    if work[i + 2] != d {
-        return 0;
-    }
-    work[i + 3]
+    None
 }
 
 // Writes down at place i that r is the result of a key.
-pub fn note(work: &mut [u32], i: usize, a: u32, b: u32, d: u32, r: u32)
+pub fn note(work: &mut [u32], i: usize, key: Key, r: u32)
     requires { (i + 3 < length work.old) × (r < 4294967295) }
-    ensures { work.new ≡ noted work.old i a b d r }
+    ensures { work.new ≡ noted work.old i key.first key.second key.third r }
 {
-    work[i] = a;
-    work[i + 1] = b;
-    work[i + 2] = d;
+    work[i] = key.first;
+    work[i + 1] = key.second;
+    work[i + 2] = key.third;
     work[i + 3] = r + 1;
 }

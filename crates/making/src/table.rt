@@ -10,38 +10,39 @@ use crate::Made;
 use nodes::chain::{join, seek, slot};
 use nodes::{Node, read};
 
-// The node of these sides: the side that both are, or the node found on its chain, or added after the first n and chained.
-pub fn make(
-    nodes: &mut [u32],
-    work: &mut [u32],
-    c: usize,
-    n: u32,
-    level: u32,
-    low: u32,
-    high: u32,
-) -> Made
+// The node x: the side that both its sides are, or the node found on its chain, or added after the first n and chained; none where
+// the slice is full.
+pub fn make(nodes: &mut [u32], work: &mut [u32], c: usize, n: u32, x: Node) -> Option<Made>
     requires shelf { Shelf nodes.old n work.old c }
-    requires low_bound { (low < n + 2) × (high < n + 2) }
-    ensures { Added (λ ns j. Shelved work.old ns j work.new c) nodes.old nodes.new n (mk level (at (trees_of nodes.old n) low) (at (trees_of nodes.old n) high)) result }
+    requires low_bound { (x.low < n + 2) × (x.high < n + 2) }
+    ensures { Added (λ ns j. Shelved work.old ns j work.new c) nodes.old nodes.new n (mk x.level (at (trees_of nodes.old n) x.low) (at (trees_of nodes.old n) x.high)) result }
 {
-    if low == high {
-        return Made::At(n, low);
+    if x.low == x.high {
+        return Some(Made {
+            count: n,
+            reference: x.low,
+        });
     }
-    let head = 13 * c + slot(level, low, high, c);
+    let head = 13 * c + slot(x.level, x.low, x.high, c);
     let links = 14 * c;
-    let found = seek(nodes, work, links, work[head], level, low, high);
-    if found != 0 {
-        return Made::At(n, found + 1);
+    if let Some(j) = seek(nodes, work, links, work[head], x) {
+        return Some(Made {
+            count: n,
+            reference: j + 2,
+        });
     }
     let i = 3 * (n as usize);
     if nodes.len() < i + 3 {
-        return Made::Full;
+        return None;
     }
-    nodes[i] = level;
-    nodes[i + 1] = low;
-    nodes[i + 2] = high;
+    nodes[i] = x.level;
+    nodes[i + 1] = x.low;
+    nodes[i + 2] = x.high;
     join(work, head, links, n);
-    Made::At(n + 1, n + 2)
+    Some(Made {
+        count: n + 1,
+        reference: n + 2,
+    })
 }
 
 // The first level that r asks; past all levels for a leaf.
@@ -51,7 +52,7 @@ pub fn top(nodes: &[u32], n: u32, r: u32) -> u32
     ensures { result ≡ first_level (at (trees_of nodes.now n) r) }
 {
     if r < 2 {
-        return 4294967295;
+        return u32::MAX;
     }
     let x = read(nodes, n, r);
     x.level
@@ -63,20 +64,17 @@ pub fn sides(nodes: &[u32], n: u32, r: u32, level: u32) -> Node
     requires r_bound { r < n + 2 }
     ensures { Sides nodes.now n r level result.low result.high }
 {
+    let whole = Node {
+        level,
+        low: r,
+        high: r,
+    };
     if r < 2 {
-        return Node {
-            level,
-            low: r,
-            high: r,
-        };
+        return whole;
     }
     let x = read(nodes, n, r);
     if x.level != level {
-        return Node {
-            level,
-            low: r,
-            high: r,
-        };
+        return whole;
     }
     x
 }

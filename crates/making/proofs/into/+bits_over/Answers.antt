@@ -21,17 +21,17 @@ bits_over-requires t c =
     let left = past.if-count-eq0.false in
     (omega (arith, s.decreases), (s.requires.shelf, (at-sides.sides-x.ensures.low.below, s.requires.p_bound.1, omega (arith, s.requires.p_bound.2))))
 
-pub returns-in_default : goal.returns-in_default
-returns-in_default t c =
+pub returns-in_err-d : goal.returns-in_err-d
+returns-in_err-d t c =
     let after = c in
     let at-sides = after in
     let past = at-sides in
     let s = past in
-    even_stuck s.requires.shelf.table _ _ _ _ past.if-count-eq0.false at-sides.sides-x.ensures after.if-m-eq0.true (c.in_default.ensures)
+    rw c.from_residual.ensures (even_stuck s.requires.shelf.table _ _ _ _ past.if-count-eq0.false at-sides.sides-x.ensures after.if-m-eq0.true c.in_err-d.ensures)
 
 pub make-requires : goal.make-requires
 make-requires t c =
-    let g = c.in-At.ensures in
+    let g = c.in_ok-d.ensures in
     record { shelf = g.1.shelf; low_bound = (grown_ref g.0, omega (arith, grown_count g.0, c.sides-x.ensures.high.below)) }
 
 pub returns-then-m-eq0 : goal.returns-then-m-eq0
@@ -41,7 +41,7 @@ returns-then-m-eq0 t c =
     let at-sides = after in
     let past = at-sides in
     let s = past in
-    let g = c.in-At.ensures in
+    let g = c.in_ok-d.ensures in
     shelved_then _ g.1.same made.make.new.work _ made.make.new.nodes _ _ made.make.result
     (bits_even s.requires.shelf.table _ _ _ _ past.if-count-eq0.false at-sides.sides-x.ensures (λ xs j. Shelved c.bits_over.new.work xs j c.make.new.work c.args.c) made.make.new.nodes made.make.result after.if-m-eq0.true g.0 made.make.ensures)
 
@@ -53,17 +53,17 @@ bits_over-requires-2 t c =
     let left = past.if-count-eq0.false in
     (omega (arith, s.decreases), (s.requires.shelf, (at-sides.sides-x.ensures.high.below, s.requires.p_bound.1, omega (arith, s.requires.p_bound.2))))
 
-pub returns-in_default-bits_over : goal.returns-in_default-bits_over
-returns-in_default-bits_over t c =
+pub returns-in_err-d-2 : goal.returns-in_err-d-2
+returns-in_err-d-2 t c =
     let after = c in
     let at-sides = after in
     let past = at-sides in
     let s = past in
-    odd_stuck s.requires.shelf.table _ _ _ _ past.if-count-eq0.false at-sides.sides-x.ensures after.if-m-eq0.false (c.in_default-bits_over.ensures)
+    rw c.from_residual-in_err-d-2.ensures (odd_stuck s.requires.shelf.table _ _ _ _ past.if-count-eq0.false at-sides.sides-x.ensures after.if-m-eq0.false c.in_err-d-2.ensures)
 
 pub make-requires-2 : goal.make-requires-2
 make-requires-2 t c =
-    let g = c.in-At-bits_over.ensures in
+    let g = c.in_ok-d-2.ensures in
     record { shelf = g.1.shelf; low_bound = (omega (arith, grown_count g.0, c.sides-x.ensures.low.below), grown_ref g.0) }
 
 pub returns : goal.returns
@@ -73,6 +73,6 @@ returns t c =
     let at-sides = after in
     let past = at-sides in
     let s = past in
-    let g = c.in-At-bits_over.ensures in
+    let g = c.in_ok-d-2.ensures in
     shelved_then _ g.1.same made.make-2.new.work _ made.make-2.new.nodes _ _ made.make-2.result
     (bits_odd s.requires.shelf.table _ _ _ _ past.if-count-eq0.false at-sides.sides-x.ensures (λ xs j. Shelved c.bits_over-2.new.work xs j c.make-2.new.work c.args.c) made.make-2.new.nodes made.make-2.result after.if-m-eq0.false g.0 made.make-2.ensures)

@@ -24,7 +24,7 @@ later_done : (c : After-place_over-2)
     → Added (λ xs j. Shelved c.args.work.now xs j c.place_over.new.work c.args.c) c.args.nodes.now c.place_over.new.nodes c.args.n (last c.args.k c.args.places (at (trees_of c.args.nodes.now c.args.n) c.args.p)) c.place_over.result
     → Added (λ xs j. Shelved c.args.work.now xs j c.place_over-2.new.work c.args.c) c.args.nodes.now c.place_over-2.new.nodes c.args.n (later c.args.k c.args.places (at (trees_of c.args.nodes.now c.args.n) c.args.p)) c.place_over-2.result
 later_done c d before =
-    let g = rw c.in-At.is at before in
+    let g = rw c.in_ok-d3.was at before in
     shelved_then c.args.c g.1.same c.place_over-2.new.work _ c.place_over-2.new.nodes _ _ c.place_over-2.result
     (later_made c.requires.shelf.table d g.0 (λ xs j. Shelved c.place_over.new.work xs j c.place_over-2.new.work c.args.c) c.place_over-2.new.nodes c.place_over-2.result c.place_over-2.ensures)
 
@@ -33,7 +33,7 @@ early_done : (c : After-place_over-3)
     → Added (λ xs j. Shelved c.args.work.now xs j c.place_over-2.new.work c.args.c) c.args.nodes.now c.place_over-2.new.nodes c.args.n (later c.args.k c.args.places (at (trees_of c.args.nodes.now c.args.n) c.args.p)) c.place_over-2.result
     → Added (λ xs j. Shelved c.args.work.now xs j c.place_over-3.new.work c.args.c) c.args.nodes.now c.place_over-3.new.nodes c.args.n (early c.args.k c.args.places (at (trees_of c.args.nodes.now c.args.n) c.args.p)) c.place_over-3.result
 early_done c d before =
-    let g = rw c.in-At-place_over.is at before in
+    let g = rw c.in_ok-d2.was at before in
     shelved_then c.args.c g.1.same c.place_over-3.new.work _ c.place_over-3.new.nodes _ _ c.place_over-3.result
     (early_made c.requires.shelf.table d g.0 (λ xs j. Shelved c.place_over-2.new.work xs j c.place_over-3.new.work c.args.c) c.place_over-3.new.nodes c.place_over-3.result c.place_over-3.ensures)
 
@@ -42,11 +42,11 @@ place_over-requires c =
     let d = down (goal.at.place_over-requires c).After-along-s in
     record { shelf = c.requires.shelf; p_bound = (d.three.below, omega arith, omega (arith, c.requires.k_bound.0)) }
 
-pub returns-in_default : goal.returns-in_default
-returns-in_default c =
-    let k = goal.at.returns-in_default c in
+pub returns-in_err-d3 : goal.returns-in_err-d3
+returns-in_err-d3 c =
+    let k = goal.at.returns-in_err-d3 c in
     let d = down k.After-along-s in
-    last_stuck c.requires.shelf.table d c.requires.k_bound.2 (rw c.in_default.is at (last_done k.After-place_over d))
+    rw c.from_residual.ensures (last_stuck c.requires.shelf.table d c.requires.k_bound.2 (rw c.in_err-d3.was at (last_done k.After-place_over d)))
 
 pub overflow_mul-k-3 : goal.overflow_mul-k-3
 overflow_mul-k-3 c = omega (arith, c.requires.k_bound.0)
@@ -55,39 +55,39 @@ pub place_over-requires-2 : goal.place_over-requires-2
 place_over-requires-2 c =
     let k = goal.at.place_over-requires-2 c in
     let d = down k.After-along-s in
-    let g = rw c.in-At.is at (last_done k.After-place_over d) in
+    let g = rw c.in_ok-d3.was at (last_done k.After-place_over d) in
     record { shelf = g.1.shelf; p_bound = (omega (arith, grown_count g.0, d.two.below), grown_ref g.0, omega (arith, c.requires.k_bound.0)) }
 
-pub returns-in_default-place_over : goal.returns-in_default-place_over
-returns-in_default-place_over c =
-    let k = goal.at.returns-in_default-place_over c in
+pub returns-in_err-d2 : goal.returns-in_err-d2
+returns-in_err-d2 c =
+    let k = goal.at.returns-in_err-d2 c in
     let d = down k.After-along-s in
-    later_stuck c.requires.shelf.table d c.requires.k_bound.2 (rw c.in_default-place_over.is at (later_done k.After-place_over-2 d (last_done k.After-place_over d)))
+    rw c.from_residual-in_err-d2.ensures (later_stuck c.requires.shelf.table d c.requires.k_bound.2 (rw c.in_err-d2.was at (later_done k.After-place_over-2 d (last_done k.After-place_over d))))
 
 pub place_over-requires-3 : goal.place_over-requires-3
 place_over-requires-3 c =
     let k = goal.at.place_over-requires-3 c in
     let d = down k.After-along-s in
-    let g = rw c.in-At-place_over.is at (later_done k.After-place_over-2 d (last_done k.After-place_over d)) in
+    let g = rw c.in_ok-d2.was at (later_done k.After-place_over-2 d (last_done k.After-place_over d)) in
     record { shelf = g.1.shelf; p_bound = (omega (arith, grown_count g.0, d.one.below), grown_ref g.0, omega (arith, c.requires.k_bound.0)) }
 
-pub returns-in_default-place_over-2 : goal.returns-in_default-place_over-2
-returns-in_default-place_over-2 c =
-    let k = goal.at.returns-in_default-place_over-2 c in
+pub returns-in_err-d1 : goal.returns-in_err-d1
+returns-in_err-d1 c =
+    let k = goal.at.returns-in_err-d1 c in
     let d = down k.After-along-s in
-    early_stuck c.requires.shelf.table d c.requires.k_bound.2 (rw c.in_default-place_over-2.is at (early_done k.After-place_over-3 d (later_done k.After-place_over-2 d (last_done k.After-place_over d))))
+    rw c.from_residual-in_err-d1.ensures (early_stuck c.requires.shelf.table d c.requires.k_bound.2 (rw c.in_err-d1.was at (early_done k.After-place_over-3 d (later_done k.After-place_over-2 d (last_done k.After-place_over d)))))
 
 pub place_over-requires-4 : goal.place_over-requires-4
 place_over-requires-4 c =
     let k = goal.at.place_over-requires-4 c in
     let d = down k.After-along-s in
-    let g = rw c.in-At-place_over-2.is at (early_done k.After-place_over-3 d (later_done k.After-place_over-2 d (last_done k.After-place_over d))) in
+    let g = rw c.in_ok-d1.was at (early_done k.After-place_over-3 d (later_done k.After-place_over-2 d (last_done k.After-place_over d))) in
     record { shelf = g.1.shelf; p_bound = (omega (arith, grown_count g.0, d.start.below), grown_ref g.0, omega (arith, c.requires.k_bound.0)) }
 
 pub returns : goal.returns
 returns c =
     let k = goal.at.returns c in
     let d = down k.After-along-s in
-    let g = rw c.in-At-place_over-2.is at (early_done k.After-place_over-3 d (later_done k.After-place_over-2 d (last_done k.After-place_over d))) in
+    let g = rw c.in_ok-d1.was at (early_done k.After-place_over-3 d (later_done k.After-place_over-2 d (last_done k.After-place_over d))) in
     shelved_then c.args.c g.1.same c.place_over-4.new.work _ c.place_over-4.new.nodes _ _ c.place_over-4.result
     (into_made c.requires.shelf.table d c.requires.k_bound.2 g.0 (λ xs j. Shelved c.place_over-3.new.work xs j c.place_over-4.new.work c.args.c) c.place_over-4.new.nodes c.place_over-4.result c.place_over-4.ensures)
