@@ -1,13 +1,12 @@
 -- The tests of bytes, one after the other: unused bytes, a record, the records of a block. Assumes nothing.
 use Prim.Native.Nat.{ℕ, suc, ◌+◌, ◌-◌, ◌*◌, ◌≤◌, ◌<◌}
 use native.Mathlib.Omega.{arith}
-use native.Mathlib.Numerals.{add-one}
 use mathlib.Core.Path.{◌≡◌, refl, sym, ap, ◌∙◌}
 use mathlib.Core.Bool.{Bool, true, false, ◌&&◌}
 use mathlib.Core.List.{List, [], ◌∷◌}
 use lib.Dec.{eqb, leb}
 use lib.ListN.{length, take, drop, get_or}
-use lib.Seq.{drop-cons, drop-drop, take-take, get_or-drop, get_or-take, length-take-le, drop-length}
+use lib.Seq.{drop-cons, drop-drop, take-take, get_or-take, length-take-le, drop-length}
 use borrow.Author.Tests.{eq-eqb, ne_eqb, le-leb, lt-leb}
 use Rattle.cards.specs.Bytes.{same, check}
 use Rattle.cards.specs.Blocks.{body, block_of}
@@ -19,62 +18,6 @@ use Rattle.card_block.proofs.ShapeLaws.{Byte, every_take, drop_take, block_same,
 pub every_byte : (bs : List ℕ) → ((i : ℕ) → i < length bs → get_or bs i 0 < 256) → Every Byte bs
 every_byte [] h = tt
 every_byte (b ∷ bs) h = (h 0 (omega arith), every_byte bs (λ i k. h (suc i) (omega arith)))
-
--- unused bytes up to a place
-pub record Unused (s : List ℕ) (from to i : ℕ) : Type 0 where
-  pub after : from ≤ i
-  pub within : i ≤ to
-  pub leads : unused (take (to - i) (drop i s)) ≡ unused (take (to - from) (drop from s))
-
-pub unused_start : (s : List ℕ) (from to : ℕ) → from ≤ to → Unused s from to from
-unused_start s from to h = record { after = omega arith; within = h; leads = refl }
-
-unused_step : (s : List ℕ) (to i : ℕ) → i < to → to ≤ length s
-    → unused (take (to - i) (drop i s)) ≡ (eqb (get_or s i 0) 0 && unused (take (to - (i + 1)) (drop (i + 1) s)))
-unfolding unused
-unused_step s to i h k =
-    let one : to - i ≡ suc (to - (i + 1)) = omega arith in
-    rw (one, drop-cons s i 0 (omega arith), add-one)
-
-pub unused_not : {s : List ℕ} {from to i : ℕ} → Unused s from to i → i < to → to ≤ length s → (get_or s i 0 ≡ 0 → ⊥)
-    → false ≡ unused (take (to - from) (drop from s))
-unused_not {s} {from} {to} {i} u h k n = sym (rw (ne_eqb (get_or s i 0) 0 n) at (unused_step s to i h k)) ∙ u.leads
-
-pub unused_more : {s : List ℕ} {from to i : ℕ} → Unused s from to i → i < to → to ≤ length s → get_or s i 0 ≡ 0 → Unused s from to (i + 1)
-unused_more {s} {from} {to} {i} u h k e =
-    record { after = omega (arith, u.after); within = omega arith; leads = sym (rw (eq-eqb (get_or s i 0) 0 e) at (unused_step s to i h k)) ∙ u.leads }
-
-pub unused_all : {s : List ℕ} {from to i : ℕ} → Unused s from to i → to ≤ i → true ≡ unused (take (to - from) (drop from s))
-unfolding unused
-unused_all {s} {from} {to} {i} u h = let none : to - i ≡ 0 = omega arith in rw none at u.leads
-
--- the tests of a record at a place
-pub record_tests : (s : List ℕ) (at : ℕ)
-    → record_shaped (take 24 (drop at s))
-    ≡ (leb (get_or s (at + 8) 0) 3 && (leb (get_or s (at + 9) 0) 1 && (eqb (get_or s (at + 10) 0) 0 && (eqb (get_or s (at + 11) 0) 0 && unused (drop (12 + 4 * get_or s (at + 8) 0) (take 24 (drop at s)))))))
-unfolding record_shaped
-record_tests s at =
-    rw (
-      get_or-take 24 (drop at s) 8 0 (omega arith),
-      get_or-take 24 (drop at s) 9 0 (omega arith),
-      get_or-take 24 (drop at s) 10 0 (omega arith),
-      get_or-take 24 (drop at s) 11 0 (omega arith),
-      get_or-drop at s 8 0,
-      get_or-drop at s 9 0,
-      get_or-drop at s 10 0,
-      get_or-drop at s 11 0,
-    )
-
--- past its values
-pub record_rest : (s : List ℕ) (at k : ℕ) → k ≤ 3
-    → drop (12 + 4 * k) (take 24 (drop at s)) ≡ take (at + 24 - (at + 12 + 4 * k)) (drop (at + 12 + 4 * k) s)
-record_rest s at k h =
-    let whole : 24 ≡ 12 + 4 * k + (12 - 4 * k) = omega arith in
-    let left : at + 24 - (at + 12 + 4 * k) ≡ 12 - 4 * k = omega arith in
-    let far : at + (12 + 4 * k) ≡ at + 12 + 4 * k = omega arith in
-    ap (λ (n : ℕ). drop (12 + 4 * k) (take n (drop at s))) whole
-    ∙ drop_take (12 + 4 * k) (12 - 4 * k) (drop at s)
-    ∙ rw (left, drop-drop (12 + 4 * k) at s, far)
 
 -- the records of a block that are still to be tested
 pub record Tested (piece : List ℕ) (records i : ℕ) : Type 0 where
@@ -142,31 +85,6 @@ pub check_tests : (piece : List ℕ) (a b x y : ℕ) → length piece ≡ 512 �
     → same (check (take 510 piece)) (drop 510 piece) ≡ (eqb a x && eqb b y)
 unfolding same
 check_tests piece a b x y n e f g = rw (e, two_bytes piece n, sym f, sym g, and_true (eqb b y))
-
--- the answers of a record's tests
-module _ (s : List ℕ) (at : ℕ) where
-  pub record_many : 3 < get_or s (at + 8) 0 → false ≡ record_shaped (take 24 (drop at s))
-  record_many h = sym (record_tests s at ∙ rw (lt-leb (get_or s (at + 8) 0) 3 h))
-
-  pub record_flag : get_or s (at + 8) 0 ≤ 3 → 1 < get_or s (at + 9) 0 → false ≡ record_shaped (take 24 (drop at s))
-  record_flag h k = sym (record_tests s at ∙ rw (le-leb (get_or s (at + 8) 0) 3 h, lt-leb (get_or s (at + 9) 0) 1 k))
-
-  pub record_zero : get_or s (at + 8) 0 ≤ 3 → get_or s (at + 9) 0 ≤ 1 → (get_or s (at + 10) 0 ≡ 0 → ⊥) → false ≡ record_shaped (take 24 (drop at s))
-  record_zero h k n = sym (record_tests s at ∙ rw (le-leb (get_or s (at + 8) 0) 3 h, le-leb (get_or s (at + 9) 0) 1 k, ne_eqb (get_or s (at + 10) 0) 0 n))
-
-  pub record_zero_2 : get_or s (at + 8) 0 ≤ 3 → get_or s (at + 9) 0 ≤ 1 → get_or s (at + 10) 0 ≡ 0 → (get_or s (at + 11) 0 ≡ 0 → ⊥)
-      → false ≡ record_shaped (take 24 (drop at s))
-  record_zero_2 h k e n =
-      sym (record_tests s at
-      ∙ rw (le-leb (get_or s (at + 8) 0) 3 h, le-leb (get_or s (at + 9) 0) 1 k, eq-eqb (get_or s (at + 10) 0) 0 e, ne_eqb (get_or s (at + 11) 0) 0 n))
-
-  pub record_past : (r : Bool) → get_or s (at + 8) 0 ≤ 3 → get_or s (at + 9) 0 ≤ 1 → get_or s (at + 10) 0 ≡ 0 → get_or s (at + 11) 0 ≡ 0
-      → r ≡ unused (take (at + 24 - (at + 12 + 4 * get_or s (at + 8) 0)) (drop (at + 12 + 4 * get_or s (at + 8) 0) s))
-      → r ≡ record_shaped (take 24 (drop at s))
-  record_past r h k e f g =
-      g ∙ ap unused (sym (record_rest s at (get_or s (at + 8) 0) h))
-      ∙ sym (record_tests s at
-      ∙ rw (le-leb (get_or s (at + 8) 0) 3 h, le-leb (get_or s (at + 9) 0) 1 k, eq-eqb (get_or s (at + 10) 0) 0 e, eq-eqb (get_or s (at + 11) 0) 0 f))
 
 -- the answers of a block's tests
 module _ (piece : List ℕ) (n : length piece ≡ 512) (bytes : (i : ℕ) → i < length piece → get_or piece i 0 < 256) where

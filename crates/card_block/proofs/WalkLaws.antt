@@ -1,90 +1,106 @@
--- The walk over a block's records with the open moment's count and stamp. Assumes nothing.
+-- The walk over a block's records with the open moment. Assumes nothing.
 use Prim.Native.Nat.{ℕ, zero, suc, ◌+◌, ◌-◌, ◌*◌, ◌≤◌, ◌<◌}
 use native.Mathlib.Omega.{arith}
 use native.Mathlib.Numerals.{add-one}
 use mathlib.Core.Path.{◌≡◌, refl, sym, ap, ◌∙◌}
-use mathlib.Core.Bool.{Bool, true, false, ◌&&◌, ◌||◌}
+use mathlib.Core.Bool.{Bool, true, false}
 use mathlib.Core.List.{List, [], ◌∷◌}
-use lib.Dec.{eqb, ltb}
+use lib.Dec.{eqb}
 use lib.ListN.{take, drop, get_or}
 use lib.Seq.{drop-drop, take-take, get_or-drop, get_or-take}
-use borrow.Author.Tests.{eq-eqb, ne_eqb, lt-ltb, le-ltb, eqb-true, ltb-true}
+use borrow.Author.Tests.{eq-eqb, ne_eqb, lt-ltb, le-ltb}
+use Rattle.std.proofs.Common.{Option, Some, None, Result, Ok, Err}
 use Rattle.cards.specs.Bytes.{number_of}
 use Rattle.cards.specs.Moments.{Record}
 use Rattle.cards.specs.Blocks.{record_of}
 use Rattle.cards.specs.Counting.{Open, closed, more, belongs, next, open_after, all_belong}
-use Rattle.card_block.specs.declared.moments.Walked.TheVariants.{Whole, Broken}
+use Rattle.card_block.specs.declared.Reason.{Reason}
+use Rattle.card_block.specs.declared.Reason.TheVariants.{Shape}
+use Rattle.card_block.specs.declared.moments.Moment.{Moment}
 use Rattle.card_block.specs.Shapes.{records_from}
-use Rattle.card_block.specs.Judging.{open_at, may_belong, onward_by, onward, walked_to, walked_by}
+use Rattle.card_block.specs.Judging.{open_at, held_by, held, left_by, may_belong, onward, went_by, went_on, walked_by}
 
--- what may belong
-pub begins : (count stamp new : ℕ) → count ≡ 0 → true ≡ may_belong count stamp new
-unfolding may_belong
-begins count stamp new e = rw (eq-eqb count 0 e)
+-- what is open is held as it is
+pub held_open : (x : Option Moment) → held (open_at x) ≡ x
+unfolding held held_by open_at closed
+held_open None = refl
+held_open (Some m) = refl
 
-pub ninth : (count stamp new : ℕ) → 8 ≤ count → false ≡ may_belong count stamp new
-unfolding may_belong
-ninth count stamp new h = rw (ne_eqb count 0 (λ e. omega arith), le-ltb count 8 h)
+pub open_onward : (last : Bool) (count stamp new : ℕ) → open_at (held (onward last count stamp new)) ≡ onward last count stamp new
+unfolding held held_by open_at onward closed more
+open_onward true count stamp new = refl
+open_onward false zero stamp new = refl
+open_onward false (suc count) stamp new = refl
 
-pub follows : (count stamp new : ℕ) → (count ≡ 0 → ⊥) → count < 8 → eqb new stamp ≡ may_belong count stamp new
-unfolding may_belong
-follows count stamp new h k = rw (ne_eqb count 0 h, lt-ltb count 8 k)
+-- what a record makes of the open moment
+pub went_first : (stamp : ℕ) (last : Bool) → Ok (left_by last 0 stamp) ≡ went_on (open_at None) stamp last
+unfolding went_on went_by may_belong onward open_at held held_by closed more
+went_first stamp true = refl
+went_first stamp false = refl
 
-pub few : (count stamp new : ℕ) → may_belong count stamp new ≡ true → count ≤ 8
-unfolding may_belong
-few count stamp new e = go (eqb count 0) refl (ltb count 8) refl e
+pub went_more : (m : Moment) (stamp : ℕ) (last : Bool) → m.more < 7 → m.stamp ≡ stamp → Ok (left_by last (m.more + 1) stamp) ≡ went_on (open_at (Some m)) stamp last
+unfolding went_on went_by may_belong onward open_at held held_by closed more
+went_more m stamp true h e = rw (ne_eqb (suc m.more) 0 (λ z. omega arith), lt-ltb (suc m.more) 8 (omega arith), eq-eqb stamp m.stamp (sym e))
+went_more m stamp false h e = rw (ne_eqb (suc m.more) 0 (λ z. omega arith), lt-ltb (suc m.more) 8 (omega arith), eq-eqb stamp m.stamp (sym e), add-one, e)
+
+pub went_ninth : (m : Moment) (stamp : ℕ) (last : Bool) → 7 ≤ m.more → Err Shape ≡ went_on (open_at (Some m)) stamp last
+unfolding went_on went_by may_belong open_at
+went_ninth m stamp last h = rw (ne_eqb (suc m.more) 0 (λ z. omega arith), le-ltb (suc m.more) 8 (omega arith))
+
+pub went_other : (m : Moment) (stamp : ℕ) (last : Bool) → m.more < 7 → (m.stamp ≡ stamp → ⊥) → Err Shape ≡ went_on (open_at (Some m)) stamp last
+unfolding went_on went_by may_belong open_at
+went_other m stamp last k h = rw (ne_eqb (suc m.more) 0 (λ z. omega arith), lt-ltb (suc m.more) 8 (omega arith), ne_eqb stamp m.stamp (λ e. h (sym e)))
+
+-- a record that belongs leaves the next moment open, and one that does not is a bad shape
+pub went_ok : (o : Open) (new : ℕ) (last : Bool) (h : Option Moment) → Ok h ≡ went_on o new last
+    → (may_belong o.count o.stamp new ≡ true) × (open_at h ≡ onward last o.count o.stamp new)
+unfolding went_on went_by
+went_ok o new last h e = go (may_belong o.count o.stamp new) e
   where
-    go : (p : Bool) → eqb count 0 ≡ p → (q : Bool) → ltb count 8 ≡ q → (p || (q && eqb new stamp)) ≡ true → count ≤ 8
-    go true f q g h = omega (arith, eqb-true count 0 f)
-    go false f true g h = omega (arith, ltb-true count 8 g)
-    go false f false g h = absurd (mathlib.Core.Bool.true≢false (sym h))
+    go : (p : Bool) → ◌≡◌ {A = Result (Option Moment) Reason} (Ok h) (went_by p (onward last o.count o.stamp new)) → (p ≡ true) × (open_at h ≡ onward last o.count o.stamp new)
+    go true f = let same : h ≡ held (onward last o.count o.stamp new) = cc in (refl, ap open_at same ∙ open_onward last o.count o.stamp new)
+    go false f = absurd (cc)
 
--- what is open then
-pub onward_ends : (count stamp new flag : ℕ) → flag ≡ 1 → open_at 0 0 ≡ onward count stamp new flag
-unfolding onward onward_by open_at closed
-onward_ends count stamp new flag e = rw (eq-eqb flag 1 e)
-
-pub onward_first : (count stamp new flag : ℕ) → (flag ≡ 1 → ⊥) → count ≡ 0 → open_at 1 new ≡ onward count stamp new flag
-unfolding onward onward_by open_at more
-onward_first count stamp new flag h e = rw (ne_eqb flag 1 h, e)
-
-pub onward_more : (count stamp new flag : ℕ) → (flag ≡ 1 → ⊥) → (count ≡ 0 → ⊥) → open_at (count + 1) stamp ≡ onward count stamp new flag
-unfolding onward onward_by open_at more
-onward_more zero stamp new flag h e = absurd (e refl)
-onward_more (suc count) stamp new flag h e = rw (ne_eqb flag 1 h, add-one)
+pub went_err : (o : Open) (new : ℕ) (last : Bool) (why : Reason) → Err why ≡ went_on o new last → (may_belong o.count o.stamp new ≡ false) × (why ≡ Shape)
+unfolding went_on went_by
+went_err o new last why e = go (may_belong o.count o.stamp new) e
+  where
+    go : (p : Bool) → ◌≡◌ {A = Result (Option Moment) Reason} (Err why) (went_by p (onward last o.count o.stamp new)) → (p ≡ false) × (why ≡ Shape)
+    go true f = absurd (cc)
+    go false f = (refl, cc)
 
 -- one record
-pub belongs_may : (count stamp : ℕ) (r : Record) → belongs (open_at count stamp) r ≡ may_belong count stamp r.stamp
-unfolding belongs open_at may_belong
-belongs_may count stamp r = refl
-
-pub next_onward : (count stamp flag : ℕ) (r : Record) → r.last ≡ eqb flag 1 → next (open_at count stamp) r ≡ onward count stamp r.stamp flag
-unfolding next open_at onward onward_by
-next_onward count stamp flag r e = rw (e, next) (go (eqb flag 1))
+pub next_onward : (o : Open) (r : Record) → next o r ≡ onward r.last o.count o.stamp r.stamp
+unfolding next onward
+next_onward o r = go r.last
   where
-    go : (q : Bool) → elim q [ true ↦ closed | false ↦ more count stamp r.stamp ] ≡ onward_by q count stamp r.stamp
+    go : (q : Bool) → elim q [ true ↦ closed | false ↦ more o.count o.stamp r.stamp ] ≡ onward q o.count o.stamp r.stamp
     go true = refl
     go false = refl
 
-walked_broken : (o : Open) (r : Record) (rs : List Record) → belongs o r ≡ false → walked_by o (r ∷ rs) ≡ Broken
-unfolding walked_by walked_to all_belong
+pub belongs_may : (o : Open) (r : Record) → belongs o r ≡ may_belong o.count o.stamp r.stamp
+unfolding belongs may_belong
+belongs_may o r = refl
+
+walked_broken : (o : Open) (r : Record) (rs : List Record) → belongs o r ≡ false → walked_by o (r ∷ rs) ≡ Err Shape
+unfolding walked_by went_by all_belong
 walked_broken o r rs e = rw e
 
 walked_on : (o : Open) (r : Record) (rs : List Record) → belongs o r ≡ true → walked_by o (r ∷ rs) ≡ walked_by (next o r) rs
 unfolding walked_by all_belong open_after
 walked_on o r rs e = rw e
 
-walked_end : (count stamp : ℕ) → walked_by (open_at count stamp) [] ≡ Whole count stamp
-unfolding walked_by walked_to all_belong open_after open_at
-walked_end count stamp = refl
+walked_end : (x : Option Moment) → walked_by (open_at x) [] ≡ Ok x
+unfolding walked_by went_by all_belong open_after
+walked_end x = ap Ok (held_open x)
 
 -- the walk so far leads to the whole
-pub record Walking (piece : List ℕ) (records count stamp c s i : ℕ) : Type 0 where
+pub record Walking (piece : List ℕ) (records : ℕ) (before now : Option Moment) (i : ℕ) : Type 0 where
   pub within : i ≤ records
-  pub leads : walked_by (open_at c s) (records_from (records - i) (drop (6 + 24 * i) piece)) ≡ walked_by (open_at count stamp) (records_from records (drop 6 piece))
+  pub leads : walked_by (open_at now) (records_from (records - i) (drop (6 + 24 * i) piece)) ≡ walked_by (open_at before) (records_from records (drop 6 piece))
 
-pub walking_start : (piece : List ℕ) (records count stamp : ℕ) → Walking piece records count stamp count stamp 0
-walking_start piece records count stamp =
+pub walking_start : (piece : List ℕ) (records : ℕ) (before : Option Moment) → Walking piece records before before 0
+walking_start piece records before =
     let none : records - 0 ≡ records = omega arith in
     record { within = omega arith; leads = rw none }
 
@@ -111,31 +127,36 @@ step piece records i h =
     let far : 6 + 24 * (i + 1) ≡ 6 + 24 * i + 24 = omega arith in
     rw (one, far, drop-drop 24 (6 + 24 * i) piece)
 
-module _ {piece : List ℕ} {records count stamp c s i : ℕ} (w : Walking piece records count stamp c s i) where
-  pub walking_broken : (new : ℕ) → i < records → new ≡ number_of (take 4 (drop (6 + 24 * i) piece)) → may_belong c s new ≡ false
-      → Broken ≡ walked_by (open_at count stamp) (records_from records (drop 6 piece))
-  walking_broken new h e f =
-      let no : belongs (open_at c s) (record_at piece i) ≡ false = belongs_may c s (record_at piece i) ∙ ap (may_belong c s) (stamp_at piece i ∙ sym e) ∙ f in
-      sym (walked_broken (open_at c s) (record_at piece i) (to_come piece records (i + 1)) no) ∙ ap (walked_by (open_at c s)) (sym (step piece records i h)) ∙ w.leads
+module _ {piece : List ℕ} {records : ℕ} {before now : Option Moment} {i : ℕ} (w : Walking piece records before now i) where
+  pub walking_broken : (new : ℕ) (why : Reason) → i < records → new ≡ number_of (take 4 (drop (6 + 24 * i) piece))
+      → Err why ≡ went_on (open_at now) new (eqb (get_or piece (6 + 24 * i + 9) 0) 1)
+      → Err why ≡ walked_by (open_at before) (records_from records (drop 6 piece))
+  walking_broken new why h e f =
+      let told = went_err (open_at now) new (eqb (get_or piece (6 + 24 * i + 9) 0) 1) why f in
+      let no : belongs (open_at now) (record_at piece i) ≡ false =
+      belongs_may (open_at now) (record_at piece i) ∙ ap (may_belong (open_at now).count (open_at now).stamp) (stamp_at piece i ∙ sym e) ∙ told.0 in
+      ap Err told.1 ∙ sym (walked_broken (open_at now) (record_at piece i) (to_come piece records (i + 1)) no)
+      ∙ ap (walked_by (open_at now)) (sym (step piece records i h)) ∙ w.leads
 
-  pub walking_on : (new c₁ s₁ : ℕ) → i < records → new ≡ number_of (take 4 (drop (6 + 24 * i) piece)) → may_belong c s new ≡ true
-      → open_at c₁ s₁ ≡ onward c s new (get_or piece (6 + 24 * i + 9) 0) → Walking piece records count stamp c₁ s₁ (i + 1)
-  walking_on new c₁ s₁ h e f g =
+  pub walking_on : (new : ℕ) (after : Option Moment) → i < records → new ≡ number_of (take 4 (drop (6 + 24 * i) piece))
+      → Ok after ≡ went_on (open_at now) new (eqb (get_or piece (6 + 24 * i + 9) 0) 1) → Walking piece records before after (i + 1)
+  walking_on new after h e f =
+      let told = went_ok (open_at now) new (eqb (get_or piece (6 + 24 * i + 9) 0) 1) after f in
       let named : (record_at piece i).stamp ≡ new = stamp_at piece i ∙ sym e in
-      let does : belongs (open_at c s) (record_at piece i) ≡ true = belongs_may c s (record_at piece i) ∙ ap (may_belong c s) named ∙ f in
-      let after : next (open_at c s) (record_at piece i) ≡ open_at c₁ s₁ =
-      next_onward c s (get_or piece (6 + 24 * i + 9) 0) (record_at piece i) (last_at piece i)
-      ∙ ap (λ (n : ℕ). onward c s n (get_or piece (6 + 24 * i + 9) 0)) named ∙ sym g in
+      let does : belongs (open_at now) (record_at piece i) ≡ true =
+      belongs_may (open_at now) (record_at piece i) ∙ ap (may_belong (open_at now).count (open_at now).stamp) named ∙ told.0 in
+      let then : next (open_at now) (record_at piece i) ≡ open_at after =
+      next_onward (open_at now) (record_at piece i) ∙ rw (last_at piece i, named) (sym told.1) in
       record {
         within = omega arith;
         leads =
-            ap (λ (o : Open). walked_by o (to_come piece records (i + 1))) (sym after)
-            ∙ sym (walked_on (open_at c s) (record_at piece i) (to_come piece records (i + 1)) does)
-            ∙ ap (walked_by (open_at c s)) (sym (step piece records i h)) ∙ w.leads;
+            ap (λ (o : Open). walked_by o (to_come piece records (i + 1))) (sym then)
+            ∙ sym (walked_on (open_at now) (record_at piece i) (to_come piece records (i + 1)) does)
+            ∙ ap (walked_by (open_at now)) (sym (step piece records i h)) ∙ w.leads;
       }
 
-  pub walking_end : records ≤ i → Whole c s ≡ walked_by (open_at count stamp) (records_from records (drop 6 piece))
+  pub walking_end : records ≤ i → Ok now ≡ walked_by (open_at before) (records_from records (drop 6 piece))
   unfolding records_from
   walking_end h =
       let none : records - i ≡ 0 = omega arith in
-      sym (walked_end c s) ∙ rw none at w.leads
+      sym (walked_end now) ∙ rw none at w.leads

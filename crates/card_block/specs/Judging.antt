@@ -1,5 +1,5 @@
 -- What `judge` answers, for any piece and anything carried; proofs/Judged.antt shows that it is the piece's fate. Assumes nothing.
-use Rattle.std.specs.Prelude.{ℕ, suc, ◌≡◌, Bool, true, false, ◌&&◌, ◌||◌, List, eqb, ltb}
+use Rattle.std.specs.Prelude.{ℕ, zero, suc, ◌≡◌, Bool, true, false, ◌&&◌, ◌||◌, List, eqb, ltb, Option, Some, None, Result, Ok, Err}
 use Rattle.cards.specs.Moments.{Record, flagged, together}
 use Rattle.cards.specs.Blocks.{Block, check, shape, number, Piece, good, faulty, piece_of, block_of}
 use Rattle.cards.specs.Blocks
@@ -9,47 +9,59 @@ use Rattle.cards.specs.Counting.{Open, opening_of, closed, more, into, open_afte
 use Rattle.card_block.specs.declared.Reason.{Reason}
 use Rattle.card_block.specs.declared.Reason.TheVariants.{Check, Shape, Number}
 use Rattle.card_block.specs.declared.Carried.{Carried}
-use Rattle.card_block.specs.declared.Judged.{Judged}
-use Rattle.card_block.specs.declared.Judged.TheVariants.{Stays, Goes}
-use Rattle.card_block.specs.declared.moments.Walked.{Walked}
-use Rattle.card_block.specs.declared.moments.Walked.TheVariants.{Whole, Broken}
+use Rattle.card_block.specs.declared.moments.Moment.{Moment}
 
--- an open moment by its count and stamp
-unfoldable pub open_at : ℕ → ℕ → Open
-open_at count stamp = record { count = count; stamp = stamp }
+-- an open moment as the definitions count it
+unfoldable pub open_at : Option Moment → Open
+open_at None = closed
+open_at (Some m) = record { count = suc m.more; stamp = m.stamp }
+
+-- and as the code holds it
+unfoldable pub held_by : ℕ → ℕ → Option Moment
+held_by zero stamp = None
+held_by (suc more) stamp = Some (record { stamp = stamp; more = more })
+
+unfoldable pub held : Open → Option Moment
+held o = held_by o.count o.stamp
+
+-- what a record of this stamp leaves open, which has so many before it in its moment
+abbrev pub left_by : Bool → ℕ → ℕ → Option Moment
+left_by true more stamp = None
+left_by false more stamp = Some (record { stamp = stamp; more = more })
 
 -- a record of this stamp can belong to the open moment, or begin one
 unfoldable pub may_belong : ℕ → ℕ → ℕ → Bool
 may_belong count stamp new = eqb count 0 || (ltb count 8 && eqb new stamp)
 
 -- what is open after a record of this stamp and flag
-unfoldable pub onward_by : Bool → ℕ → ℕ → ℕ → Open
-onward_by true count stamp new = closed
-onward_by false count stamp new = more count stamp new
+unfoldable pub onward : Bool → ℕ → ℕ → ℕ → Open
+onward true count stamp new = closed
+onward false count stamp new = more count stamp new
 
-unfoldable pub onward : ℕ → ℕ → ℕ → ℕ → Open
-onward count stamp new flag = onward_by (eqb flag 1) count stamp new
+-- what a record of this stamp and flag makes of the open moment: what is open then, or a breach
+unfoldable pub went_by : Bool → Open → Result (Option Moment) Reason
+went_by true o = Ok (held o)
+went_by false o = Err Shape
 
--- what records make of the open moment
-unfoldable pub walked_to : Bool → Open → Walked
-walked_to true o = Whole o.count o.stamp
-walked_to false o = Broken
+unfoldable pub went_on : Open → ℕ → Bool → Result (Option Moment) Reason
+went_on o new last = went_by (may_belong o.count o.stamp new) (onward last o.count o.stamp new)
 
-unfoldable pub walked_by : Open → List Record → Walked
-walked_by o rs = walked_to (all_belong o rs) (open_after o rs)
+-- what records make of the open moment: what is open then, or a breach
+unfoldable pub walked_by : Open → List Record → Result (Option Moment) Reason
+walked_by o rs = went_by (all_belong o rs) (open_after o rs)
 
 -- number comes after shape
-unfoldable pub settled_by : Bool → ℕ → ℕ → ℕ → Judged
-settled_by true n count stamp = Goes Number
-settled_by false n count stamp = Stays (record { next = suc n; count = count; stamp = stamp })
+unfoldable pub settled_by : Bool → ℕ → Option Moment → Result Carried Reason
+settled_by true n moment = Err Number
+settled_by false n moment = Ok (record { next = suc n; moment = moment })
 
-unfoldable pub settled : ℕ → ℕ → Walked → Judged
-settled n next (Whole count stamp) = settled_by (ltb n next) n count stamp
-settled n next Broken = Goes Shape
+unfoldable pub settled : ℕ → ℕ → Result (Option Moment) Reason → Result Carried Reason
+settled n next (Ok moment) = settled_by (ltb n next) n moment
+settled n next (Err why) = Err why
 
 -- what a good block is after what is carried: a moment runs on into it where it has the next number
-unfoldable pub judged_block : Block → Carried → Judged
-judged_block b c = settled b.number c.next (walked_by (into (eqb b.number c.next) (open_at c.count c.stamp)) b.records)
+unfoldable pub judged_block : Block → Carried → Result Carried Reason
+judged_block b c = settled b.number c.next (walked_by (into (eqb b.number c.next) (open_at c.moment)) b.records)
 
 -- a reason as the code names it
 unfoldable pub told : Blocks.Reason → Reason
@@ -58,21 +70,21 @@ told shape = Shape
 told number = Number
 
 -- what a piece is after what is carried
-unfoldable pub judged_piece : Piece → Carried → Judged
+unfoldable pub judged_piece : Piece → Carried → Result Carried Reason
 judged_piece (good b) c = judged_block b c
-judged_piece (faulty why) c = Goes (told why)
+judged_piece (faulty why) c = Err (told why)
 
-unfoldable pub judgement : List ℕ → Carried → Judged
+unfoldable pub judgement : List ℕ → Carried → Result Carried Reason
 judgement bytes c = judged_piece (piece_of bytes) c
 
 -- what is carried at the beginning of a card
 abbrev pub nothing : Carried
-nothing = record { next = 0; count = 0; stamp = 0 }
+nothing = record { next = 0; moment = None }
 
--- what is carried is what stands before a piece: the next number, and an open moment by its count and stamp
+-- what is carried is what stands before a piece: the next number, and the open moment
 pub record Carries (f : Before) (c : Carried) : Type 0 where
   pub next : c.next ≡ f.next
-  pub held : open_at c.count c.stamp ≡ opening_of f.opened
+  pub held : open_at c.moment ≡ opening_of f.opened
   pub plain : flagged f.opened ≡ false
   pub one : together f.opened ≡ true
 
@@ -88,6 +100,6 @@ pub record Kept (f : Before) (bytes : List ℕ) (g : Carried) : Type 0 where
   pub carries : Carries (after f (block_of bytes)) g
 
 -- a judgement is right: it is the piece's fate
-abbrev pub Judges : Before → List ℕ → Judged → Type 0
-Judges f bytes (Stays g) = Kept f bytes g
-Judges f bytes (Goes why) = fate f (piece_of bytes) ≡ goes (meant why)
+abbrev pub Judges : Before → List ℕ → Result Carried Reason → Type 0
+Judges f bytes (Ok g) = Kept f bytes g
+Judges f bytes (Err why) = fate f (piece_of bytes) ≡ goes (meant why)

@@ -1,72 +1,57 @@
-// The moments that run through a block, with the count and the stamp of the open one.
+// The moments that run through a block, and the one that is open.
 ghost use Rattle.std.specs.Prelude.{◌+◌, ◌*◌, ◌≤◌, ◌≡◌, length, drop};
 ghost use Rattle.card_block.specs.Shapes.{records_from};
-ghost use Rattle.card_block.specs.Judging.{open_at, may_belong, walked_by, onward};
+ghost use Rattle.card_block.specs.Judging.{open_at, left_by, went_on, walked_by};
 
+use crate::Reason;
 use crate::sums::number_at;
 
-// What a block's records make of the open moment: its count and stamp after them, or a breach.
-#[derive(Drop)]
-pub enum Walked {
-    Whole(u32, u32),
-    Broken,
-}
-
-// An open moment: the count of its records, and their stamp.
-#[derive(Drop)]
-pub struct Opened {
-    pub count: u32,
+// A moment that is open: the stamp of its records, and how many it has beyond the first.
+#[derive(Clone, Copy, PartialEq, Eq)]
+pub struct Moment {
     pub stamp: u32,
+    pub more: u32,
 }
 
-// A record of this stamp can belong to the open moment, or begin one.
-pub fn may_belong(count: u32, stamp: u32, new: u32) -> bool
-    ensures { result ≡ may_belong count stamp new }
-{
-    if count == 0 {
-        return true;
-    }
-    if 8 <= count {
-        return false;
-    }
-    new == stamp
-}
+// A moment has at most 8 records, so 7 beyond its first.
+const MOST: u32 = 7;
 
-// What is open after a record of this stamp and flag.
-pub fn go_on(count: u32, stamp: u32, new: u32, flag: u8) -> Opened
-    requires { count ≤ 8 }
-    ensures { open_at result.count result.stamp ≡ onward count stamp new flag }
+// What a record of this stamp leaves open, which has so many before it in its moment: nothing where it is the last.
+fn left(stamp: u32, more: u32, last: bool) -> Option<Moment>
+    ensures { result ≡ left_by last more stamp }
 {
-    if flag == 1 {
-        return Opened { count: 0, stamp: 0 };
-    }
-    if count == 0 {
-        return Opened {
-            count: 1,
-            stamp: new,
-        };
-    }
-    Opened {
-        count: count + 1,
-        stamp,
+    if last {
+        None
+    } else {
+        Some(Moment { stamp, more })
     }
 }
 
-// Goes over the first `records` records of a block.
-pub fn walk(piece: &[u8], records: usize, count: u32, stamp: u32) -> Walked
-    requires { 6 + 24 * records ≤ length piece.now }
-    ensures { result ≡ walked_by (open_at count stamp) (records_from records (drop 6 piece.now)) }
+// What is open after a record of this stamp, flagged as the last of its moment or not. A record that is a ninth, or has another stamp than the
+// open moment, is a bad shape.
+pub fn go_on(held: Option<Moment>, stamp: u32, last: bool) -> Result<Option<Moment>, Reason>
+    ensures { result ≡ went_on (open_at held) stamp last }
 {
-    let mut held = Opened { count, stamp };
-    let mut i: usize = 0;
-    while i < records {
-        let at = 6 + 24 * i;
-        let new = number_at(piece, at);
-        if !may_belong(held.count, held.stamp, new) {
-            return Walked::Broken;
+    match held {
+        None => Ok(left(stamp, 0, last)),
+        Some(m) => {
+            if MOST <= m.more || m.stamp != stamp {
+                return Err(Reason::Shape);
+            }
+            Ok(left(stamp, m.more + 1, last))
         }
-        held = go_on(held.count, held.stamp, new, piece[at + 9]);
-        i += 1;
     }
-    Walked::Whole(held.count, held.stamp)
+}
+
+// What is open after the first `records` records of a block.
+pub fn walk(piece: &[u8], records: usize, before: Option<Moment>) -> Result<Option<Moment>, Reason>
+    requires { 6 + 24 * records ≤ length piece.now }
+    ensures { result ≡ walked_by (open_at before) (records_from records (drop 6 piece.now)) }
+{
+    let mut held = before;
+    for i in 0..records {
+        let at = 6 + 24 * i;
+        held = go_on(held, number_at(piece, at), piece[at + 9] == 1)?;
+    }
+    Ok(held)
 }

@@ -1,18 +1,22 @@
 -- `record_shaped` meets its contract. Assumes nothing.
-use Rattle.card_block.proofs.TestLaws.{record_many, record_flag, record_zero, record_zero_2, record_past}
+use Prim.Native.Nat.{ℕ, ◌+◌, ◌-◌, ◌*◌}
+use mathlib.Core.Path.{◌≡◌, ap, ◌∙◌}
+use mathlib.Core.List.{List}
+use lib.ListN.{length, take, drop, get_or}
+use lib.Seq.{take_all}
+use Rattle.std.proofs.Common.{arith, length-drop}
+use Rattle.card_block.specs.Shapes.{unused, record_shaped}
 use Rattle.card_block.proofs.shape.record_shaped.Goals as goal
 
-pub returns-then-values-gt3 : goal.returns-then-values-gt3
-returns-then-values-gt3 c = record_many c.args.s.now c.args.at c.if-values-gt3.true
+past : (s : List ℕ) (k n : ℕ) → k ≡ n → unused (take (length s - (12 + 4 * k)) (drop (12 + 4 * k) s)) ≡ unused (drop (12 + 4 * n) s)
+past s k n e = rw e (ap unused (take_all _ (drop (12 + 4 * n) s) (omega (arith, length-drop (12 + 4 * n) s))))
 
-pub returns-then-s-at-gt1 : goal.returns-then-s-at-gt1
-returns-then-s-at-gt1 c = record_flag c.args.s.now c.args.at c.if-values-gt3.false c.if-s-at-gt1.true
+pub returns-then-bytes-eq0-2 : goal.returns-then-bytes-eq0-2
+unfolding record_shaped
+returns-then-bytes-eq0-2 c =
+    let rest : c.zeros.result ≡ unused (drop (12 + 4 * get_or c.args.bytes.now 8 0) c.args.bytes.now) = c.zeros.ensures ∙ past c.args.bytes.now _ _ c.from.ensures in
+    grind arith
 
-pub returns-then-s-at-ne0 : goal.returns-then-s-at-ne0
-returns-then-s-at-ne0 c = record_zero c.args.s.now c.args.at c.if-values-gt3.false c.if-s-at-gt1.false c.if-s-at-ne0.true
-
-pub returns-then-s-at-ne0-2 : goal.returns-then-s-at-ne0-2
-returns-then-s-at-ne0-2 c = record_zero_2 c.args.s.now c.args.at c.if-values-gt3.false c.if-s-at-gt1.false c.if-s-at-ne0.false c.if-s-at-ne0-2.true
-
-pub returns : goal.returns
-returns c = record_past c.args.s.now c.args.at c.zeros.result c.if-values-gt3.false c.if-s-at-gt1.false c.if-s-at-ne0.false c.if-s-at-ne0-2.false c.zeros.ensures
+pub returns-else-bytes-eq0-2 : goal.returns-else-bytes-eq0-2
+unfolding record_shaped
+returns-else-bytes-eq0-2 c = grind arith

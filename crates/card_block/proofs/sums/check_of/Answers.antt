@@ -29,19 +29,11 @@ ends bytes a b i h s =
     let all : i ≡ length bytes = omega (arith, s.within) in
     sym s.leads ∙ rw (all, drop-length bytes)
 
-pub loop-i-init : goal.loop-i-init
-loop-i-init c = begins c.args.bytes.now
+pub loop-byte-init : goal.loop-byte-init
+loop-byte-init c = begins _
 
-pub overflow_add-a : goal.overflow_add-a
-overflow_add-a c = omega (arith, c.loop-i.invariant.first, c.wide.ensures.small)
-
-pub overflow_add-b : goal.overflow_add-b
-overflow_add-b c = omega (arith, c.loop-i.invariant.second)
-
-pub loop-i-preserved : goal.loop-i-preserved
-loop-i-preserved c =
-    goes_on c.args.bytes.now c.loop-i.a c.loop-i.b
-    c.loop-i.i c.wide.result (omega arith) c.wide.ensures.same c.loop-i.invariant
+pub loop-byte-preserved : goal.loop-byte-preserved
+loop-byte-preserved c = goes_on _ _ _ _ _ c.loop-byte-test.true c.from.ensures c.loop-byte.invariant
 
 pub returns : goal.returns
-returns c = ends c.args.bytes.now c.loop-i.a c.loop-i.b c.loop-i.i (omega arith) c.loop-i.invariant
+returns c = ends _ _ _ _ (omega arith) c.loop-byte.invariant

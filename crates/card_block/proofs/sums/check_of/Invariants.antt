@@ -1,5 +1,5 @@
 -- `check_of` meets its contract: the sums of the bytes so far, taken on over those to come, are the check. Assumes nothing.
-use Prim.Native.Nat.{ℕ, ◌-◌, ◌≤◌, ◌<◌}
+use Prim.Native.Nat.{ℕ, ◌≤◌, ◌<◌}
 use mathlib.Core.Path.{◌≡◌}
 use mathlib.Core.List.{List}
 use lib.ListN.{length, drop}
@@ -13,8 +13,5 @@ pub record Sofar (bytes : List ℕ) (a b i : ℕ) : Type 0 where
   pub second : b < 255
   pub leads : sums a b (drop i bytes) ≡ check bytes
 
-abbrev pub invariant-loop-i : goal.invariant-loop-i
-invariant-loop-i l = Sofar l.bytes l.a l.b l.i
-
-abbrev pub decreases-loop-i : goal.decreases-loop-i
-decreases-loop-i l = length l.bytes - l.i
+abbrev pub invariant-loop-byte : goal.invariant-loop-byte
+invariant-loop-byte l = Sofar l.bytes l.first l.second l.byte-index

@@ -4,12 +4,4 @@ use Rattle.cards.proofs.BytesLaws.{number_four}
 use Rattle.card_block.proofs.sums.number_at.Goals as goal
 
 pub returns : goal.returns
-returns c =
-    omega (
-      arith,
-      number_four c.args.s.now c.args.at (omega arith),
-      c.wide-a.ensures.same,
-      c.wide-b.ensures.same,
-      c.wide-c.ensures.same,
-      c.wide-d.ensures.same,
-    )
+returns c = omega (arith, number_four c.args.s.now c.args.at c.requires, c.from_le_bytes.ensures)
