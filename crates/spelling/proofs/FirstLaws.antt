@@ -9,7 +9,7 @@ use lib.ListN.{length, drop, get_or}
 use lib.Seq.{drop-cons}
 use Rattle.trees.proofs.Tests.{false_true, and_true_l}
 use Rattle.text.specs.Words.{is_letter, is_digit, all, Word, name, number, constant, prefix, binary, quantifier, opening, closing, comma, dot, once, historically, previously, negation, sinces, ands, ors, implies, universal, existential, bytes_of, led, some, Proper, Spelled, nothing, space, word}
-use Rattle.spelling.specs.Codes.{Spells, Skips}
+use Rattle.spelling.specs.Codes.{Spells}
 
 -- no word begins with a space
 no_space : (w : Word) (rest bs : List ℕ) → Proper w → bytes_of w ++ rest ≡ 32 ∷ bs → ⊥
@@ -47,9 +47,6 @@ pub record Skipped (text : List ℕ) (at i : ℕ) : Type 0 where
   pub high : i ≤ length text
   pub words : (ws : List Word) → Spells ws (drop at text) → Spells ws (drop i text)
 
-pub skip_none : (text : List ℕ) (at : ℕ) → at ≤ length text → Skipped text at at
-skip_none text at h = record { low = omega arith; high = h; words = λ ws s. s }
-
 module _ (text : List ℕ) (at i : ℕ) (k : Skipped text at i) where
   pub skip_more : i < length text → get_or text i 0 ≡ 32 → Skipped text at (i + 1)
   skip_more h e = record {
@@ -59,9 +56,3 @@ module _ (text : List ℕ) (at i : ℕ) (k : Skipped text at i) where
         let t : Spells ws (drop i text) = k.words ws s in
         record { after = false; spelled = rw (add-one i) (unspace (drop (suc i) text) t.spelled (rw e at (drop-cons text i 0 h))) };
   }
-
-  pub skip_stops : (get_or text i 0 ≡ 32 → ⊥) → Skips text at i
-  skip_stops n = record { low = k.low; high = k.high; words = k.words; stop = λ h e. n e }
-
-  pub skip_ends : length text ≤ i → Skips text at i
-  skip_ends h = record { low = k.low; high = k.high; words = k.words; stop = λ l e. omega arith }

@@ -1,8 +1,6 @@
 -- The laws behind the proofs of the functions. Assumes nothing.
-pub mod Tables
-pub mod TableLaws
+pub mod Each
 pub mod KindLaws
-pub mod Classes
 pub mod SameLaws
 pub mod RunLaws
 pub mod PickLaws

@@ -11,6 +11,10 @@ use Rattle.text.specs.Words.{is_letter, is_digit, is_word_byte, all, same, Word,
 use Rattle.text.specs.Reader.{class_of, sign_among, signs}
 use Rattle.text.proofs.ClassLaws.{class_letter, class_digit, digit_in_word}
 use Rattle.text.proofs.LexLaws
+use Rattle.std.specs.Prelude.{Some, None}
+use Rattle.spelling.specs.declared.kinds.Kind.{Kind}
+use Rattle.spelling.specs.Kinds.{kind_code}
+use Rattle.spelling.proofs.KindLaws.{code_lt}
 use Rattle.spelling.specs.Codes.{code_of, class_number, Stops, Ends, Spells, Skips, Next}
 use Rattle.spelling.proofs.RunLaws.{run_same}
 
@@ -111,10 +115,10 @@ no_words (word w {bs = rest} p a s) e =
 
 module _ (text : List ℕ) (at from : ℕ) (k : Skips text at from) where
   -- nothing is left
-  pub none_left : from ≡ length text → (v : Bool) (ws : List Word) → Spelled v ws (drop at text) → Next text at ws 18 from from
+  pub none_left : from ≡ length text → (v : Bool) (ws : List Word) → Spelled v ws (drop at text) → Next text at ws None
   none_left e v ws s =
       let t : Spells ws (drop from text) = k.words ws (record { after = v; spelled = s }) in
-      rw (no_words t.spelled (rw e (drop-length text))) refl
+      rw (no_words t.spelled (rw e (drop-length text))) tt
 
   -- the head of what is left
   headed : from < length text → (v : Bool) (ws : List Word) → Spelled v ws (drop at text) → Head ws (drop from text) (get_or text from 0)
@@ -123,9 +127,9 @@ module _ (text : List ℕ) (at from : ℕ) (k : Skips text at from) where
       head t.spelled (get_or text from 0) (drop (suc from) text) (drop-cons text from 0 h) (k.stop h)
 
   -- a word that ends where its bytes do
-  found : (ws : List Word) (code past : ℕ) (d : Head ws (drop from text) (get_or text from 0)) → code ≡ code_of d.first
-      → past ≡ from + length (bytes_of d.first) → Next text at ws code from past
-  found ws code past d e z =
+  found : (ws : List Word) (kind : Kind) (past : ℕ) (d : Head ws (drop from text) (get_or text from 0)) → kind_code kind ≡ code_of d.first
+      → past ≡ from + length (bytes_of d.first) → Next text at ws (Some (record { word = kind; from = from; past = past }))
+  found ws kind past d e z =
       let n : past - from ≡ length (bytes_of d.first) = omega arith in
       let l : length text - from ≡ length (bytes_of d.first) + length d.rest =
       sym (length-drop from text) ∙ ap length d.bytes_are ∙ length-append (bytes_of d.first) d.rest in
@@ -141,26 +145,26 @@ module _ (text : List ℕ) (at from : ℕ) (k : Skips text at from) where
       })
 
   module _ (h : from < length text) (class : ℕ) (cl : class ≡ class_number (class_of (get_or text from 0))) where
-    pub arrow_next : class ≡ 11 → (v : Bool) (ws : List Word) → Spelled v ws (drop at text) → Next text at ws 11 from (from + 2)
-    arrow_next e v ws s = go (headed h v ws s)
+    pub arrow_next : (kind : Kind) → kind_code kind ≡ class → class ≡ 11 → (v : Bool) (ws : List Word) → Spelled v ws (drop at text) → Next text at ws (Some (record { word = kind; from = from; past = from + 2 }))
+    arrow_next kind same e v ws s = go (headed h v ws s)
       where
-        go : Head ws (drop from text) (get_or text from 0) → Next text at ws 11 from (from + 2)
+        go : Head ws (drop from text) (get_or text from 0) → Next text at ws (Some (record { word = kind; from = from; past = from + 2 }))
         go d = by d d.begun
           where
-            by : (d : Head ws (drop from text) (get_or text from 0)) → Begins d.first (get_or text from 0) → Next text at ws 11 from (from + 2)
+            by : (d : Head ws (drop from text) (get_or text from 0)) → Begins d.first (get_or text from 0) → Next text at ws (Some (record { word = kind; from = from; past = from + 2 }))
             by d (lettered a b x y) = absurd (omega arith)
             by d (numeral a b x y) = absurd (omega arith)
-            by d (arrow a b x) = found ws 11 (from + 2) d (sym b) (omega arith)
+            by d (arrow a b x) = found ws kind (from + 2) d (same ∙ e ∙ sym b) (omega arith)
             by d (single a b x y) = absurd (x (sym a ∙ sym cl ∙ e))
 
-    pub sign_next : 2 ≤ class → (class ≡ 11 → ⊥) → (v : Bool) (ws : List Word) → Spelled v ws (drop at text) → Next text at ws class from (from + 1)
-    sign_next e n v ws s = by (headed h v ws s) (headed h v ws s).begun
+    pub sign_next : (kind : Kind) → kind_code kind ≡ class → 2 ≤ class → (class ≡ 11 → ⊥) → (v : Bool) (ws : List Word) → Spelled v ws (drop at text) → Next text at ws (Some (record { word = kind; from = from; past = from + 1 }))
+    sign_next kind e l n v ws s = by (headed h v ws s) (headed h v ws s).begun
       where
-        by : (d : Head ws (drop from text) (get_or text from 0)) → Begins d.first (get_or text from 0) → Next text at ws class from (from + 1)
+        by : (d : Head ws (drop from text) (get_or text from 0)) → Begins d.first (get_or text from 0) → Next text at ws (Some (record { word = kind; from = from; past = from + 1 }))
         by d (lettered a b x y) = absurd (omega arith)
         by d (numeral a b x y) = absurd (omega arith)
         by d (arrow a b x) = absurd (n (cl ∙ a))
-        by d (single a b x y) = found ws class (from + 1) d (cl ∙ a) (omega arith)
+        by d (single a b x y) = found ws kind (from + 1) d (e ∙ cl ∙ a) (omega arith)
 
     -- a word of letters or digits ends where they do
     ends_there : (past : ℕ) → Ends text from past → (ws : List Word) (d : Head ws (drop from text) (get_or text from 0)) → wordy d.first ≡ true
@@ -178,25 +182,35 @@ module _ (text : List ℕ) (at from : ℕ) (k : Skips text at from) where
         stopping [] u = tt
         stopping (b ∷ bs) u = u
 
-    pub number_next : class ≡ 1 → (past : ℕ) → Ends text from past → (v : Bool) (ws : List Word) → Spelled v ws (drop at text) → Next text at ws 1 from past
-    number_next e past t v ws s = by (headed h v ws s) (headed h v ws s).begun
+    pub number_next : (kind : Kind) → kind_code kind ≡ class → class ≡ 1 → (past : ℕ) → Ends text from past → (v : Bool) (ws : List Word) → Spelled v ws (drop at text) → Next text at ws (Some (record { word = kind; from = from; past = past }))
+    number_next kind same e past t v ws s = by (headed h v ws s) (headed h v ws s).begun
       where
-        by : (d : Head ws (drop from text) (get_or text from 0)) → Begins d.first (get_or text from 0) → Next text at ws 1 from past
+        by : (d : Head ws (drop from text) (get_or text from 0)) → Begins d.first (get_or text from 0) → Next text at ws (Some (record { word = kind; from = from; past = past }))
         by d (lettered a b x y) = absurd (omega arith)
-        by d (numeral a b x y) = found ws 1 past d (sym b) (ends_there past t ws d x y)
+        by d (numeral a b x y) = found ws kind past d (same ∙ e ∙ sym b) (ends_there past t ws d x y)
         by d (arrow a b x) = absurd (omega arith)
         by d (single a b x y) = absurd (omega arith)
 
-    pub letters_next : class < 2 → (class ≡ 1 → ⊥) → (past code : ℕ) → Ends text from past → code ≡ code_of (word_of (take (past - from) (drop from text)))
-        → (v : Bool) (ws : List Word) → Spelled v ws (drop at text) → Next text at ws code from past
-    letters_next e n past code t c v ws s = by (headed h v ws s) (headed h v ws s).begun
+    pub letters_next : class ≡ 0 → (past : ℕ) (kind : Kind) → Ends text from past → kind_code kind ≡ code_of (word_of (take (past - from) (drop from text)))
+        → (v : Bool) (ws : List Word) → Spelled v ws (drop at text) → Next text at ws (Some (record { word = kind; from = from; past = past }))
+    letters_next e past kind t c v ws s = by (headed h v ws s) (headed h v ws s).begun
       where
-        by : (d : Head ws (drop from text) (get_or text from 0)) → Begins d.first (get_or text from 0) → Next text at ws code from past
+        by : (d : Head ws (drop from text) (get_or text from 0)) → Begins d.first (get_or text from 0) → Next text at ws (Some (record { word = kind; from = from; past = past }))
         by d (lettered a b x y) =
             let q : past ≡ from + length (bytes_of d.first) = ends_there past t ws d b x in
             let m : past - from ≡ length (bytes_of d.first) = omega arith in
             let u : take (past - from) (drop from text) ≡ bytes_of d.first = rw (m, d.bytes_are) (take-append_seam (bytes_of d.first) d.rest) in
-            found ws code past d (c ∙ rw u (ap code_of y)) q
-        by d (numeral a b x y) = absurd (n (cl ∙ a))
+            found ws kind past d (c ∙ rw u (ap code_of y)) q
+        by d (numeral a b x y) = absurd (omega arith)
         by d (arrow a b x) = absurd (omega arith)
         by d (single a b x y) = absurd (omega arith)
+
+    -- a space is passed before, and what begins no word begins no text that spells words
+    pub nothing_next : 18 ≤ class → (v : Bool) (ws : List Word) → Spelled v ws (drop at text) → Next text at ws None
+    nothing_next e v ws s = by (headed h v ws s) (headed h v ws s).begun
+      where
+        by : (d : Head ws (drop from text) (get_or text from 0)) → Begins d.first (get_or text from 0) → Next text at ws None
+        by d (lettered a b x y) = absurd (omega arith)
+        by d (numeral a b x y) = absurd (omega arith)
+        by d (arrow a b x) = absurd (omega arith)
+        by d (single a b x y) = absurd (omega (arith, code_lt d.first))

@@ -2,7 +2,7 @@
 use Prim.Native.Nat.{ℕ, zero, suc, ◌+◌, ◌-◌, ◌≤◌, ◌<◌, min, ◌*◌}
 use native.Mathlib.Omega.{arith}
 use mathlib.Core.Path.{◌≡◌, refl, sym, ap, ◌∙◌}
-use mathlib.Core.Bool.{true, false}
+use mathlib.Core.Bool.{true}
 use mathlib.Core.List.{List, [], ◌∷◌, ◌++◌}
 use lib.ListN.{length, take, drop, get_or, length-drop}
 use lib.Seq.{drop-cons, drop-length, take-suc, get_or-drop}
@@ -12,7 +12,7 @@ use mathlib.Core.Logic.{⊎_elim}
 use Rattle.text.specs.Words.{is_word_byte, all}
 use Rattle.text.specs.Unfold.{value_after}
 use Rattle.text.proofs.LexLaws.{value_grows}
-use Rattle.spelling.specs.Codes.{Stops, Ends}
+use Rattle.spelling.specs.Codes.{Stops}
 
 -- the run of word bytes at the front is as long as the word
 pub run_same : (x rest : List ℕ) (n : ℕ) → all is_word_byte x ≡ true → Stops rest → n ≤ length (x ++ rest)
@@ -64,14 +64,6 @@ module _ (text : List ℕ) (at i : ℕ) (r : Run text at i) where
         high = omega arith;
         run = rw (n, take-suc (drop at text) (i - at) 0 l, get_or-drop at text (i - at) 0, m) (all_snoc _ _ r.run e);
       }
-
-  pub run_stops : i < length text → is_word_byte (get_or text i 0) ≡ false → Ends text at i
-  run_stops h e = record { low = r.low; high = r.high; run = r.run; stop = rw (drop-cons text i 0 h) e }
-
-  pub run_ends : length text ≤ i → Ends text at i
-  run_ends h =
-      let e : i ≡ length text = omega (arith, r.high) in
-      record { low = r.low; high = r.high; run = r.run; stop = rw (e, drop-length text) tt }
 
 -- the digits left, read after a value no larger than 2^32, give the value of all, as far as 2^32
 pub record Valued (digits : List ℕ) (i value : ℕ) : Type 0 where

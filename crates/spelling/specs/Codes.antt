@@ -1,7 +1,9 @@
 -- Words, classes of bytes and modes by number, as the code has them, and what it is to find the next word of a text. Assumes nothing.
-use Rattle.std.specs.Prelude.{ℕ, ◌+◌, ◌-◌, ◌*◌, ◌≤◌, ◌<◌, ◌≡◌, Bool, true, false, List, [], ◌∷◌, length, take, drop, get_or}
+use Rattle.std.specs.Prelude.{ℕ, ◌+◌, ◌-◌, ◌*◌, ◌≤◌, ◌<◌, ◌≡◌, Bool, true, false, List, [], ◌∷◌, length, take, drop, get_or, Option, Some, None}
 use Rattle.text.specs.Words.{is_word_byte, all, Word, name, number, constant, prefix, binary, quantifier, opening, closing, comma, dot, once, historically, previously, negation, sinces, ands, ors, implies, universal, existential, bytes_of, wordy, Spelled}
 use Rattle.text.specs.Reader.{Class, blank, letter, digit, minus, sign, foreign}
+use Rattle.spelling.specs.declared.words.Taken.{Taken}
+use Rattle.spelling.specs.Kinds.{kind_code}
 use Rattle.text.specs.Shape.{Mode, operand, operator, call, slot, point, argument, separator, nowhere}
 
 -- the number of a word
@@ -113,7 +115,9 @@ pub record First (text : List ℕ) (at : ℕ) (w : Word) (ws : List Word) (code 
   pub bytes_are : take (past - from) (drop from text) ≡ bytes_of w
   pub rest : Spelled (wordy w) ws (drop past text)
 
--- it, or 18 where no word is left
-abbrev pub Next : List ℕ → ℕ → List Word → ℕ → ℕ → ℕ → Type 0
-Next text at [] code from past = code ≡ 18
-Next text at (w ∷ ws) code from past = First text at w ws code from past
+-- it, or none where no word is left
+abbrev pub Next : List ℕ → ℕ → List Word → Option Taken → Type 0
+Next text at [] None = Unit {0}
+Next text at [] (Some t) = ⊥
+Next text at (w ∷ ws) None = ⊥
+Next text at (w ∷ ws) (Some t) = First text at w ws (kind_code t.word) t.from t.past

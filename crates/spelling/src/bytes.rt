@@ -1,55 +1,46 @@
-// Bytes and runs of bytes.
+// Bytes: what each begins, and which go on with a word of letters.
 ghost use Rattle.std.specs.Prelude.{◌≡◌};
-ghost use Rattle.text.specs.Words.{is_word_byte, same};
+ghost use Rattle.text.specs.Words.{is_word_byte};
 ghost use Rattle.text.specs.Reader.{class_of};
 ghost use Rattle.spelling.specs.Codes.{class_number};
+ghost use Rattle.spelling.specs.Kinds.{beginning_code};
 
-// What each byte begins: 0 a word of letters, 1 a constant, 11 `->`, 18 nothing (a space), 19 nothing that is a word, else the word of
-// one sign.
-const CLASS: [u8; 256] = [
-    19, 19, 19, 19, 19, 19, 19, 19, 19, 19, 19, 19, 19, 19, 19, 19, 19, 19, 19, 19, 19, 19, 19, 19,
-    19, 19, 19, 19, 19, 19, 19, 19, 18, 7, 19, 19, 19, 19, 9, 19, 14, 15, 19, 19, 16, 11, 17, 19,
-    1, 1, 1, 1, 1, 1, 1, 1, 1, 1, 19, 19, 19, 19, 19, 19, 6, 0, 0, 0, 0, 0, 0, 0, 0, 0, 0, 0, 0, 0,
-    0, 0, 0, 0, 0, 0, 0, 0, 0, 0, 0, 0, 0, 19, 19, 19, 19, 19, 19, 0, 0, 0, 0, 0, 0, 0, 0, 0, 0, 0,
-    0, 0, 0, 0, 0, 0, 0, 0, 0, 0, 0, 0, 0, 0, 0, 19, 10, 19, 19, 19, 19, 19, 19, 19, 19, 19, 19,
-    19, 19, 19, 19, 19, 19, 19, 19, 19, 19, 19, 19, 19, 19, 19, 19, 19, 19, 19, 19, 19, 19, 19, 19,
-    19, 19, 19, 19, 19, 19, 19, 19, 19, 19, 19, 19, 19, 19, 19, 19, 19, 19, 19, 19, 19, 19, 19, 19,
-    19, 19, 19, 19, 19, 19, 19, 19, 19, 19, 19, 19, 19, 19, 19, 19, 19, 19, 19, 19, 19, 19, 19, 19,
-    19, 19, 19, 19, 19, 19, 19, 19, 19, 19, 19, 19, 19, 19, 19, 19, 19, 19, 19, 19, 19, 19, 19, 19,
-    19, 19, 19, 19, 19, 19, 19, 19, 19, 19, 19, 19, 19, 19, 19, 19, 19, 19, 19, 19, 19, 19, 19, 19,
-    19,
-];
+use crate::kinds::Kind;
 
-pub fn class_of(b: u8) -> u8
-    ensures { result ≡ class_number (class_of b) }
+// What a byte begins: a word, a space, or nothing that is in a rule text. A letter begins a word of letters, shown as a name whatever the
+// whole word is; a digit begins a constant, and `-` begins `->`.
+#[derive(Clone, Copy, PartialEq, Eq)]
+pub enum Beginning {
+    Word(Kind),
+    Space,
+    Foreign,
+}
+
+#[tactic(auto, unfolding(crate::specs::Codes::class_number, crate::specs::Codes::code_of, text::specs::Reader::class_of, text::specs::Reader::sign_among, text::specs::Reader::signs, text::specs::Words::is_letter, text::specs::Words::is_digit, text::specs::Words::same, text::specs::Words::bytes_of))]
+pub fn class_of(b: u8) -> Beginning
+    ensures { beginning_code result ≡ class_number (class_of b) }
 {
-    let i = b as usize;
-    CLASS[i]
+    match b {
+        b'A'..=b'Z' | b'a'..=b'z' => Beginning::Word(Kind::Name),
+        b'0'..=b'9' => Beginning::Word(Kind::Constant),
+        b' ' => Beginning::Space,
+        b'-' => Beginning::Word(Kind::Implies),
+        b'@' => Beginning::Word(Kind::Before),
+        b'!' => Beginning::Word(Kind::Not),
+        b'&' => Beginning::Word(Kind::And),
+        b'|' => Beginning::Word(Kind::Or),
+        b'(' => Beginning::Word(Kind::Open),
+        b')' => Beginning::Word(Kind::Close),
+        b',' => Beginning::Word(Kind::Comma),
+        b'.' => Beginning::Word(Kind::Dot),
+        _ => Beginning::Foreign,
+    }
 }
 
 // Whether a word of letters goes on with the byte.
+#[tactic(auto, unfolding(text::specs::Words::is_word_byte, text::specs::Words::is_letter, text::specs::Words::is_digit))]
 pub fn is_word_byte(b: u8) -> bool
     ensures { result ≡ is_word_byte b }
 {
-    if class_of(b) < 2 {
-        return true;
-    }
-    b == b'_'
-}
-
-// Whether two runs of bytes are the same.
-pub fn same_bytes(a: &[u8], b: &[u8]) -> bool
-    ensures { result ≡ same a.now b.now }
-{
-    if a.len() != b.len() {
-        return false;
-    }
-    let mut i = 0;
-    while i < a.len() {
-        if a[i] != b[i] {
-            return false;
-        }
-        i += 1;
-    }
-    true
+    matches!(b, b'A'..=b'Z' | b'a'..=b'z' | b'0'..=b'9' | b'_')
 }

@@ -1,33 +1,67 @@
-// What must come, by number: 0 an operand; 1 an operator, `)` or the end; 2 these or `(` after a name; 3 a variable; 4 `.`; 5 an argument;
-// 6 `,` or `)`; 7 nothing.
-ghost use Rattle.std.specs.Prelude.{◌≡◌, ◌<◌, get_or};
-ghost use Rattle.spelling.specs.Codes.{kinds, next_mode};
+// What must come, and where each word leads.
+ghost use Rattle.std.specs.Prelude.{◌≡◌};
+ghost use Rattle.spelling.specs.Codes.{next_mode};
+ghost use Rattle.spelling.specs.Kinds.{kind_code};
+ghost use Rattle.spelling.specs.Modes.{mode_code};
 
-// The kinds of words: 0 a name, 1 a constant's digits, 2 `true` or `false`, 3 a prefix operator, 4 an operator, 5 a quantifier,
-// 6 `(`, 7 `)`, 8 `,`, 9 `.`.
-const KIND: [usize; 18] = [0, 1, 2, 2, 3, 3, 3, 3, 4, 4, 4, 4, 5, 5, 6, 7, 8, 9];
+use crate::kinds::Kind;
 
-// Where a word of the kind leads, ten kinds for each of the modes 0 to 7.
-const NEXT: [u8; 80] = [
-    2, 7, 1, 0, 7, 3, 0, 7, 7, 7, 7, 7, 7, 7, 0, 7, 7, 1, 7, 7, 7, 7, 7, 7, 0, 7, 5, 1, 7, 7, 4, 7,
-    7, 7, 7, 7, 7, 7, 7, 7, 7, 7, 7, 7, 7, 7, 7, 7, 7, 0, 6, 6, 7, 7, 7, 7, 7, 7, 7, 7, 7, 7, 7, 7,
-    7, 7, 7, 1, 5, 7, 7, 7, 7, 7, 7, 7, 7, 7, 7, 7,
-];
-
-// The kind of a word.
-fn kind_of(word: u8) -> usize
-    requires { word < 18 }
-    ensures { (result ≡ get_or kinds word 0) × (result < 10) }
-{
-    let w = word as usize;
-    KIND[w]
+// What must come: an operand; an operator, `)` or the end; these or `(` after a name; a variable; `.`; an argument; `,` or `)`; nothing.
+#[derive(Clone, Copy, PartialEq, Eq)]
+pub enum Mode {
+    Operand,
+    Operator,
+    AfterName,
+    Variable,
+    AfterVariable,
+    Argument,
+    AfterArgument,
+    Nothing,
 }
 
-// The mode after a word, by their numbers. A `)` that closes nothing is not told apart here.
-pub fn next_mode(mode: u8, word: u8) -> u8
-    requires { (mode < 8) × (word < 18) }
-    ensures { (result ≡ next_mode mode word) × (result < 8) }
+// The mode after a word. A `)` that closes nothing is not told apart here.
+#[tactic(auto, unfolding(crate::specs::Codes::next_mode, crate::specs::Codes::nexts, crate::specs::Codes::kinds))]
+pub fn next_mode(mode: Mode, word: Kind) -> Mode
+    ensures { mode_code result ≡ next_mode (mode_code mode) (kind_code word) }
 {
-    let i = mode as usize * 10 + kind_of(word);
-    NEXT[i]
+    match mode {
+        Mode::Operand => match word {
+            Kind::Name => Mode::AfterName,
+            Kind::True | Kind::False => Mode::Operator,
+            Kind::Once | Kind::Historically | Kind::Before | Kind::Not | Kind::Open => {
+                Mode::Operand
+            }
+            Kind::Forall | Kind::Exists => Mode::Variable,
+            _ => Mode::Nothing,
+        },
+        Mode::Operator => match word {
+            Kind::Since | Kind::And | Kind::Or | Kind::Implies => Mode::Operand,
+            Kind::Close => Mode::Operator,
+            _ => Mode::Nothing,
+        },
+        Mode::AfterName => match word {
+            Kind::Since | Kind::And | Kind::Or | Kind::Implies => Mode::Operand,
+            Kind::Open => Mode::Argument,
+            Kind::Close => Mode::Operator,
+            _ => Mode::Nothing,
+        },
+        Mode::Variable => match word {
+            Kind::Name => Mode::AfterVariable,
+            _ => Mode::Nothing,
+        },
+        Mode::AfterVariable => match word {
+            Kind::Dot => Mode::Operand,
+            _ => Mode::Nothing,
+        },
+        Mode::Argument => match word {
+            Kind::Name | Kind::Constant => Mode::AfterArgument,
+            _ => Mode::Nothing,
+        },
+        Mode::AfterArgument => match word {
+            Kind::Close => Mode::Operator,
+            Kind::Comma => Mode::Argument,
+            _ => Mode::Nothing,
+        },
+        Mode::Nothing => Mode::Nothing,
+    }
 }
