@@ -46,3 +46,14 @@ noted w i a b d r = set (set (set (set w i a) (i + 1) b) (i + 2) d) (i + 3) (r +
 abbrev pub Looked : List ℕ → ℕ → ℕ → ℕ → ℕ → Option ℕ → Type 0
 Looked w i a b d None = Unit {0}
 Looked w i a b d (Some r) = SlotIs w i a b d (r + 1)
+
+-- nodes were made over w₀, and then r was noted for a key in the slot at place i
+pub record Noted (w₀ : List ℕ) (ns : List ℕ) (n : ℕ) (w : List ℕ) (c i a b d r : ℕ) : Type 0 where
+  pub before : List ℕ
+  pub shelved : Shelved w₀ ns n before c
+  pub is : w ≡ noted before i a b d r
+
+-- the diagram t was made, and its reference noted for a key in the slot at place i, or there is no room for it
+abbrev pub Kept : List ℕ → List ℕ → ℕ → Tree → List ℕ → List ℕ → ℕ → ℕ → ℕ → ℕ → ℕ → Option Made → Type 0
+Kept ns ns' n t w w' c i a b d None = Stuck ns ns' n t
+Kept ns ns' n t w w' c i a b d (Some m) = Grown ns ns' n m.count m.reference t × Noted w ns' m.count w' c i a b d m.reference

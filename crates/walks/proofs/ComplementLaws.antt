@@ -10,11 +10,10 @@ use Rattle.nodes.specs.Nodes.{Splits, Grown}
 use Rattle.visits.specs.Visits.{complement, Refines}
 use Rattle.visits.proofs.VisitLaws.{walk_fits}
 use Rattle.visits.proofs.VisitSteps.{refines_leaf, refines_hit, apart_refines}
-use Rattle.making.specs.declared.Made.TheVariants as made
+use Rattle.std.specs.Prelude.{Option, Some, None}
 use Rattle.making.specs.Tables.{Shelved}
 use Rattle.making.proofs.WalkLaws.{front_less, joined}
 use Rattle.walks.specs.declared.Counted.{Counted}
-use Rattle.walks.specs.declared.Counted.TheVariants.{Full, At}
 use Rattle.walks.specs.Walks.{Within}
 use Rattle.walks.specs.Desks.{Desk}
 use Rattle.walks.specs.Complements.{map_of, KeptNot, Complemented}
@@ -24,7 +23,7 @@ use Rattle.walks.proofs.StepLaws.{Step}
 
 module _ {ns : List ℕ} {n levels : ℕ} {w : List ℕ} {c slots : ℕ} (k : Desk ns n levels w c slots) (left p : ℕ) where
   -- a leaf
-  pub complement_leaf : p < 2 → Complemented ns ns n levels left p w w c slots (At n (1 - p) 1)
+  pub complement_leaf : p < 2 → Complemented ns ns n levels left p w w c slots (Some (record { count = n; reference = 1 - p; visits = 1 }))
   unfolding complement
   complement_leaf h = (not_leaf levels ns n p k.shelf.table h, k, refines_leaf (λ r. 1 - r) ns left (trees_of ns n) (map_of c w) p h)
 
@@ -32,13 +31,15 @@ module _ {ns : List ℕ} {n levels : ℕ} {w : List ℕ} {c slots : ℕ} (k : De
   place : 2 ≤ p → p < n + 2 → p - 2 < c
   place h l = omega (arith, k.shelf.table.fits, k.shelf.size)
 
-  pub complement_hit : 2 ≤ p → p < n + 2 → 0 < get_or w (4 * c + (p - 2)) 0 → Complemented ns ns n levels left p w w c slots (At n (get_or w (4 * c + (p - 2)) 0 - 1) 1)
+  pub complement_hit : 2 ≤ p → p < n + 2 → (r : ℕ) → 1 ≤ get_or w (4 * c + (p - 2)) 0 → r ≡ get_or w (4 * c + (p - 2)) 0 - 1
+      → Complemented ns ns n levels left p w w c slots (Some (record { count = n; reference = r; visits = 1 }))
   unfolding complement
-  complement_hit h l e =
-      let z = map_at c w (p - 2) (place h l) in (
-        map_hit k.shelf.table k.complements p h (place h l) e,
+  complement_hit h l r some e =
+      let z = map_at c w (p - 2) (place h l) in
+      rw e (
+        map_hit k.shelf.table k.complements p h (place h l) some,
         k,
-        rw (← z) (refines_hit (λ r. 1 - r) ns left (trees_of ns n) (map_of c w) p h (rw z e)),
+        rw (← z) (refines_hit (λ r. 1 - r) ns left (trees_of ns n) (map_of c w) p h (rw z some)),
       )
 
   -- the visits fit: no more than two for each node, and one
@@ -64,13 +65,13 @@ module _ {ns : List ℕ} {n levels left p l a b : ℕ} {w : List ℕ} {c slots :
   pub complement_apart : {ns₁ ns₂ : List ℕ} {n₁ n₂ r₁ r₂ v₁ v₂ : ℕ} {k₁ : List ℕ} (w₂ : List ℕ)
       → Grown ns ns₁ n n₁ r₁ (not_t levels (at (trees_of ns n) a)) → Refines (complement ns (left - 1) (trees_of ns n) (map_of c w) a) (trees_of ns₁ n₁) k₁ r₁ v₁
       → Grown ns₁ ns₂ n₁ n₂ r₂ (not_t levels (at (trees_of ns n) b)) → Refines (complement ns₁ (left - 1) (trees_of ns₁ n₁) k₁ b) (trees_of ns₂ n₂) (map_of c w₂) r₂ v₂
-      → (ns₃ w₃ : List ℕ) (m : Counted) → KeptNot ns₂ ns₃ n₂ levels (mk l (at (trees_of ns₂ n₂) r₁) (at (trees_of ns₂ n₂) r₂)) p (v₁ + v₂ + 1) w₂ w₃ c slots m
+      → (ns₃ w₃ : List ℕ) (m : Option Counted) → KeptNot ns₂ ns₃ n₂ levels (mk l (at (trees_of ns₂ n₂) r₁) (at (trees_of ns₂ n₂) r₂)) p (v₁ + v₂ + 1) w₂ w₃ c slots m
       → Complemented ns ns₃ n levels left p w w₃ c slots m
   unfolding complement
-  complement_apart w₂ g₁ f₁ g₂ f₂ ns₃ w₃ Full q = rw (not_node levels s) (joined _ _ _ k.shelf.table g₁ g₂ (λ xs j. Desk xs j levels w₃ c slots) ns₃ made.Full q)
-  complement_apart w₂ g₁ f₁ g₂ f₂ ns₃ w₃ (At n₃ r v) q =
+  complement_apart w₂ g₁ f₁ g₂ f₂ ns₃ w₃ None q = rw (not_node levels s) (joined _ _ _ k.shelf.table g₁ g₂ (λ xs j. Desk xs j levels w₃ c slots) ns₃ None q)
+  complement_apart w₂ g₁ f₁ g₂ f₂ ns₃ w₃ (Some m) q =
       let z = map_at c w (p - 2) (omega (arith, k.shelf.table.fits, k.shelf.size)) in (
-        rw (not_node levels s) (joined _ _ _ k.shelf.table g₁ g₂ (λ xs j. Desk xs j levels w₃ c slots) ns₃ (made.At n₃ r) (q.0, q.1)).0,
+        rw (not_node levels s) (joined _ _ _ k.shelf.table g₁ g₂ (λ xs j. Desk xs j levels w₃ c slots) ns₃ (Some (record { count = m.count; reference = m.reference })) (q.0, q.1)).0,
         q.1,
         rw (q.2, q.3) (apart_refines (λ r. 1 - r) left (map_of c w) k.shelf.table h i s.some (z ∙ e) sp g₁ f₁ f₂ q.0),
       )

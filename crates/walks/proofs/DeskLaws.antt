@@ -8,11 +8,11 @@ use lib.Seq.{get_or-set_other}
 use Rattle.trees.specs.Tree.{Tree, not_t}
 use Rattle.trees.specs.Table.{at, trees_of, Ref}
 use Rattle.making.specs.declared.Made.{Made}
-use Rattle.making.specs.declared.Made.TheVariants.{Full, At}
+use Rattle.std.specs.Prelude.{Option, Some, None}
 use Rattle.nodes.specs.Nodes.{Front, Grown}
 use Rattle.nodes.proofs.ChainLaws.{chained_same}
 use Rattle.nodes.proofs.ReadLaws.{grown_count}
-use Rattle.making.specs.Tables.{Added, Shelf, Shelved, Spot, noted}
+use Rattle.making.specs.Tables.{Added, Shelf, Shelved, Spot, noted, Kept}
 use Rattle.walks.specs.Desks.{recalled, Key, Desk, Remembered}
 use Rattle.making.proofs.WalkLaws.{kept, front_less, front_trans}
 use Rattle.walks.proofs.MemoryLaws.{key_later, recalled_kept, memory_same, memory_grown, noted_other, memory_note}
@@ -43,9 +43,9 @@ module _ {ns : List ℕ} {n levels : ℕ} {w : List ℕ} {c slots : ℕ} (k : De
   }
 
   -- the same of a walk that only makes nodes
-  pub desk_added : (w' ms : List ℕ) (t : Tree) (m : Made) → Added (λ xs j. Shelved w xs j w' c) ns ms n t m → Added (λ xs j. Remembered w xs j levels w' c slots) ns ms n t m
-  desk_added w' ms t Full g = g
-  desk_added w' ms t (At m r) g = (g.0, record { desk = desk_shelved g.0 g.1; same = front_less g.1.same (omega arith) })
+  pub desk_added : (w' ms : List ℕ) (t : Tree) (m : Option Made) → Added (λ xs j. Shelved w xs j w' c) ns ms n t m → Added (λ xs j. Remembered w xs j levels w' c slots) ns ms n t m
+  desk_added w' ms t None g = g
+  desk_added w' ms t (Some m) g = (g.0, record { desk = desk_shelved g.0 g.1; same = front_less g.1.same (omega arith) })
 
   -- a result is noted
   desk_noted : (i a b d r : ℕ) → Spot c slots i → Key n a b d → Ref (trees_of ns n) r (recalled levels (trees_of ns n) a b d) → Desk ns n levels (noted w i a b d r) c slots
@@ -77,7 +77,7 @@ module _ {ns : List ℕ} {n levels : ℕ} {w : List ℕ} {c slots : ℕ} (k : De
       }
 
 -- the diagram that was made is what a key stands for, and is noted
-pub desk_keep : {ns : List ℕ} {n levels : ℕ} {w : List ℕ} {c slots : ℕ} → Desk ns n levels w c slots → (i a b d : ℕ) → Spot c slots i → Key n a b d
+desk_keep : {ns : List ℕ} {n levels : ℕ} {w : List ℕ} {c slots : ℕ} → Desk ns n levels w c slots → (i a b d : ℕ) → Spot c slots i → Key n a b d
     → {ms : List ℕ} {m r : ℕ} {t : Tree} {w' : List ℕ} → recalled levels (trees_of ns n) a b d ≡ t → Grown ns ms n m r t → Shelved w ms m w' c → Remembered w ms m levels (noted w' i a b d r) c slots
 desk_keep {levels = levels} {w} {c} k i a b d p q {r = r} {w' = w'} e g s =
     let k' = desk_shelved k g s in
@@ -89,15 +89,21 @@ desk_keep {levels = levels} {w} {c} k i a b d p q {r = r} {w' = w'} e g s =
       same = record { eq = λ x h. noted_other w' i a b d r (omega arith) x (λ z. absurd (omega arith)) ∙ s.same.eq x (omega arith) };
     }
 
+-- and so the walk remembers it
+pub desk_kept : {ns : List ℕ} {n levels : ℕ} {w : List ℕ} {c slots : ℕ} → Desk ns n levels w c slots → (i a b d : ℕ) → Spot c slots i → Key n a b d
+    → (ms w' : List ℕ) (t : Tree) → recalled levels (trees_of ns n) a b d ≡ t → (m : Option Made) → Kept ns ms n t w w' c i a b d m → Added (λ xs j. Remembered w xs j levels w' c slots) ns ms n t m
+desk_kept k i a b d p q ms w' t e None g = g
+desk_kept k i a b d p q ms w' t e (Some m) g = (g.0, rw g.1.is (desk_keep k i a b d p q e g.0 g.1.shelved))
+
 -- nothing is made
 pub desk_stays : {ns : List ℕ} {n levels : ℕ} {w : List ℕ} {c slots : ℕ} → Desk ns n levels w c slots → Remembered w ns n levels w c slots
 desk_stays k = record { desk = k; same = record { eq = λ i h. refl } }
 
 -- one walk after another, each of which only makes and remembers
-pub desk_then : (c : ℕ) {w₀ w₁ : List ℕ} → Front (5 * c) w₀ w₁ → (levels slots : ℕ) (w₂ ns ms : List ℕ) (n : ℕ) (t : Tree) (m : Made)
+pub desk_then : (c : ℕ) {w₀ w₁ : List ℕ} → Front (5 * c) w₀ w₁ → (levels slots : ℕ) (w₂ ns ms : List ℕ) (n : ℕ) (t : Tree) (m : Option Made)
     → Added (λ xs j. Remembered w₁ xs j levels w₂ c slots) ns ms n t m → Added (λ xs j. Remembered w₀ xs j levels w₂ c slots) ns ms n t m
-desk_then c e levels slots w₂ ns ms n t Full g = g
-desk_then c e levels slots w₂ ns ms n t (At m r) g = (g.0, record { desk = g.1.desk; same = front_trans e g.1.same (omega arith) })
+desk_then c e levels slots w₂ ns ms n t None g = g
+desk_then c e levels slots w₂ ns ms n t (Some m) g = (g.0, record { desk = g.1.desk; same = front_trans e g.1.same (omega arith) })
 
 -- the same of a complement
 pub desk_keep_not : {ns : List ℕ} {n levels : ℕ} {w : List ℕ} {c slots : ℕ} → Desk ns n levels w c slots → (p : ℕ) → 2 ≤ p → p < n + 2

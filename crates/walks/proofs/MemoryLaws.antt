@@ -1,5 +1,5 @@
 -- Laws of the memory of results. Assumes nothing.
-use Prim.Native.Nat.{ℕ, zero, suc, ◌+◌, ◌*◌, ◌-◌, ◌≤◌, ◌<◌}
+use Prim.Native.Nat.{ℕ, zero, suc, ◌+◌, ◌*◌, ◌≤◌, ◌<◌}
 use mathlib.Core.Path.{◌≡◌, refl, sym, ◌∙◌}
 use mathlib.Core.List.{List}
 use native.Mathlib.Decide.{ℕ_discrete}
@@ -12,6 +12,7 @@ use Rattle.trees.proofs.TableLaws.{goes_ref}
 use Rattle.nodes.specs.Nodes.{Table, Grown}
 use Rattle.walks.specs.Walks.{Within}
 use Rattle.walks.specs.Desks.{recalled, Key, Memory}
+use Rattle.std.specs.Prelude.{Some}
 use Rattle.making.specs.Tables.{Spot, SlotIs, noted, Looked}
 use Rattle.trees.proofs.ReadLaws.{length_trees}
 use Rattle.nodes.proofs.ReadLaws.{grown_goes, grown_count, grown_ref, stays}
@@ -126,12 +127,11 @@ memory_note {ns} {w} {n} {levels} {c} {slots} o i a b d r at_i room k v = record
         apart h = let u = p.is in let v = at_i.is in omega arith
 
 -- what the memory has for a key is the result
-pub memory_hit : {ns w : List ℕ} {n levels c slots : ℕ} → Table ns n → Memory ns n levels w c slots → {i : ℕ} → Spot c slots i → (a b d h : ℕ) → Looked w i a b d h → 0 < h
-    → Grown ns ns n n (h - 1) (recalled levels (trees_of ns n) a b d)
-memory_hit {ns} {w} {n} t o {i} p a b d h f k =
-    let e : h ≡ h - 1 + 1 = omega arith in
-    let v = (o.hit i a b d (h - 1) p (rw e at (f.found k))).1 in
-    stays ns n (h - 1) _ t (omega (arith, v.below, length_trees ns n)) (sym v.is)
+pub memory_hit : {ns w : List ℕ} {n levels c slots : ℕ} → Table ns n → Memory ns n levels w c slots → {i : ℕ} → Spot c slots i → (a b d r : ℕ) → Looked w i a b d (Some r)
+    → Grown ns ns n n r (recalled levels (trees_of ns n) a b d)
+memory_hit {ns} {w} {n} t o {i} p a b d r f =
+    let v = (o.hit i a b d r p f).1 in
+    stays ns n r _ t (omega (arith, v.below, length_trees ns n)) (sym v.is)
 
 -- what a key stands for, after the diagrams of both sides are there
 pub recalled_over : {ns ns₁ ns₂ : List ℕ} {n n₁ n₂ p q : ℕ} {x y : Tree} (levels l a b c : ℕ) → recalled levels (trees_of ns n) a b c ≡ mk l x y

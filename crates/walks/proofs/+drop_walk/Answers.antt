@@ -4,7 +4,7 @@ use Rattle.trees.specs.Tree.{mk, drop_t}
 use Rattle.trees.specs.Table.{at, trees_of}
 use Rattle.nodes.proofs.ReadLaws.{grown_ref, grown_count, stays}
 use Rattle.walks.specs.Desks.{Remembered}
-use Rattle.walks.proofs.DeskLaws.{spot_inside, desk_stays, desk_then}
+use Rattle.walks.proofs.DeskLaws.{spot_inside, desk_stays, desk_kept, desk_then}
 use Rattle.walks.proofs.DropLaws.{drop_leaf, drop_stay, drop_here, drop_node, within_sure}
 use Rattle.walks.proofs.StepLaws.{within_grown, Step, steps}
 use Rattle.walks.proofs.MemoryLaws.{drop_key, recalled_drop, memory_hit, key_later, recalled_over}
@@ -59,15 +59,15 @@ spot-i-requires t c =
     let k = c.requires.desk in
     (omega (arith, k.shelf.size, k.shelf.table.small), k.some, k.fits)
 
-pub recall-hit-requires : goal.recall-hit-requires
-recall-hit-requires t c =
+pub recall-requires : goal.recall-requires
+recall-requires t c =
     let k = c.requires.desk in
     omega (arith, spot_inside k c.spot-i.ensures, k.shelf.long)
 
-pub returns-then-hit-gt0 : goal.returns-then-hit-gt0
-returns-then-hit-gt0 t c =
+pub returns-in-Some : goal.returns-in-Some
+returns-in-Some t c =
     let k = c.requires.desk in
-    (rw (← recalled_drop c.args.levels _ c.args.v _) (memory_hit k.shelf.table k.memory c.spot-i.ensures _ _ _ _ c.recall-hit.ensures c.if-hit-gt0.true), desk_stays k)
+    (rw (← recalled_drop c.args.levels _ c.args.v _) (memory_hit k.shelf.table k.memory c.spot-i.ensures _ _ _ _ c.in-Some.ensures), desk_stays k)
 
 pub overflow_sub-left-2 : goal.overflow_sub-left-2
 overflow_sub-left-2 t c = (stepped t (goal.at.overflow_sub-left-2 t c).After-read-x).some
@@ -77,10 +77,10 @@ drop_walk-requires t c =
     let d = stepped t (goal.at.drop_walk-requires t c).After-read-x in
     (omega (arith, c.decreases, d.some), (c.requires.desk, (omega (arith, c.requires.left_le_levels.0), d.low)))
 
-pub returns-in_default : goal.returns-in_default
-returns-in_default t c =
-    rw (early t (goal.at.returns-in_default t c).Else-x-v)
-    (stuck_low _ _ _ c.requires.desk.shelf.table c.in_default.ensures)
+pub returns-in_err-a : goal.returns-in_err-a
+returns-in_err-a t c =
+    rw (c.from_residual.ensures, early t (goal.at.returns-in_err-a t c).Else-x-v)
+    (stuck_low _ _ _ c.requires.desk.shelf.table c.in_err-a.ensures)
 
 pub overflow_sub-left-3 : goal.overflow_sub-left-3
 overflow_sub-left-3 t c = (stepped t (goal.at.overflow_sub-left-3 t c).After-read-x).some
@@ -88,35 +88,37 @@ overflow_sub-left-3 t c = (stepped t (goal.at.overflow_sub-left-3 t c).After-rea
 pub drop_walk-requires-2 : goal.drop_walk-requires-2
 drop_walk-requires-2 t c =
     let d = stepped t (goal.at.drop_walk-requires-2 t c).After-read-x in
-    let g = c.in-At.ensures in
+    let g = c.in_ok-a.ensures in
     (omega (arith, c.decreases, d.some), (g.1.desk, (omega (arith, c.requires.left_le_levels.0), within_grown g.0 d.high)))
 
-pub returns-in_default-drop_walk : goal.returns-in_default-drop_walk
-returns-in_default-drop_walk t c =
-    let k = goal.at.returns-in_default-drop_walk t c in
+pub returns-in_err-b : goal.returns-in_err-b
+returns-in_err-b t c =
+    let k = goal.at.returns-in_err-b t c in
     let d = stepped t k.After-read-x in
-    let g = c.in-At.ensures.0 in
-    rw (early t k.Else-x-v)
-    (stuck_high _ _ _ c.requires.desk.shelf.table g (rw (kept g _ d.high.below) at c.in_default-drop_walk.ensures))
+    let g = c.in_ok-a.ensures.0 in
+    rw (c.from_residual-in_err-b.ensures, early t k.Else-x-v)
+    (stuck_high _ _ _ c.requires.desk.shelf.table g (rw (kept g _ d.high.below) at c.in_err-b.ensures))
 
 pub keep-requires : goal.keep-requires
 keep-requires t c =
-    let k = goal.at.keep-requires t c in
-    let d = stepped t k.After-read-x in
-    let g = c.in-At.ensures.0 in
-    let h = rw (kept g _ d.high.below) at c.in-At-drop_walk.ensures in
-    let key = drop_key c.args.v c.requires.left_le_levels.1 in
-    let gc = grown_count g in
+    let d = stepped t (goal.at.keep-requires t c).After-read-x in
+    let g = c.in_ok-a.ensures.0 in
+    let h = rw (kept g _ d.high.below) at c.in_ok-b.ensures in
     let hc = grown_count h.0 in
-    let is = recalled_drop c.args.levels _ c.args.v _ ∙ early t k.Else-x-v in
-    record { desk = h.1.desk; spot = (c.spot-i.ensures, key_later (omega arith) key, omega (arith, grown_ref g), grown_ref h.0); d_value = recalled_over c.args.levels _ _ _ _ is g h.0 key }
+    let k = h.1.desk in
+    record { shelf = k.shelf; low_bound = (omega (arith, grown_ref g), grown_ref h.0); room = omega (arith, spot_inside k c.spot-i.ensures, k.shelf.long) }
 
 pub returns : goal.returns
 returns t c =
     let k = goal.at.returns t c in
     let d = stepped t k.After-read-x in
-    let g = c.in-At.ensures in
-    let h = rw (kept g.0 _ d.high.below) at c.in-At-drop_walk.ensures in
+    let g = c.in_ok-a.ensures in
+    let h = rw (kept g.0 _ d.high.below) at c.in_ok-b.ensures in
+    let key = drop_key c.args.v c.requires.left_le_levels.1 in
+    let gc = grown_count g.0 in
+    let hc = grown_count h.0 in
+    let is = recalled_drop c.args.levels _ c.args.v _ ∙ early t k.Else-x-v in
     rw (early t k.Else-x-v)
     (desk_then c.args.c (front_trans g.1.same h.1.same (omega arith)) c.args.levels c.args.slots c.keep.new.work _ c.keep.new.nodes _ _ c.keep.result
-    (joined _ _ _ c.requires.desk.shelf.table g.0 h.0 (λ xs j. Remembered c.drop_walk-2.new.work xs j c.args.levels c.keep.new.work c.args.c c.args.slots) c.keep.new.nodes c.keep.result c.keep.ensures))
+    (joined _ _ _ c.requires.desk.shelf.table g.0 h.0 (λ xs j. Remembered c.drop_walk-2.new.work xs j c.args.levels c.keep.new.work c.args.c c.args.slots) c.keep.new.nodes c.keep.result
+    (desk_kept h.1.desk _ _ _ _ c.spot-i.ensures (key_later (omega arith) key) c.keep.new.nodes c.keep.new.work _ (recalled_over c.args.levels _ _ _ _ is g.0 h.0 key) c.keep.result c.keep.ensures)))

@@ -16,7 +16,7 @@ stepped : (t : ℕ) (c : After-read-x t)
 stepped t c = steps c.requires.left_le_levels.0 c.requires.left_le_levels.1 c.read-x.ensures
 
 pub returns-then-p-lt2 : goal.returns-then-p-lt2
-returns-then-p-lt2 t c = complement_leaf c.requires.desk _ _ c.if-p-lt2.true
+returns-then-p-lt2 t c = rw c.seen.ensures (complement_leaf c.requires.desk _ _ c.if-p-lt2.true)
 
 pub overflow_mul-j : goal.overflow_mul-j
 overflow_mul-j t c =
@@ -38,8 +38,8 @@ bounds-work-j t c =
     let k = c.requires.desk.shelf in
     omega (arith, k.table.fits, k.table.small, k.size, k.long, c.requires.left_le_levels.1.below)
 
-pub returns-then-seen-gt0 : goal.returns-then-seen-gt0
-returns-then-seen-gt0 t c = complement_hit c.requires.desk _ _ (omega arith) c.requires.left_le_levels.1.below c.if-seen-gt0.true
+pub returns-in-Some : goal.returns-in-Some
+returns-in-Some t c = rw c.seen-in-Some.ensures (complement_hit c.requires.desk _ _ (omega arith) c.requires.left_le_levels.1.below _ c.in-Some.ensures.0 c.in-Some.ensures.1)
 
 pub read-x-requires : goal.read-x-requires
 read-x-requires t c =
@@ -53,10 +53,10 @@ not_walk-requires t c =
     let d = stepped t (goal.at.not_walk-requires t c).After-read-x in
     (omega (arith, c.decreases, d.some), (c.requires.desk, (omega (arith, c.requires.left_le_levels.0), d.low)))
 
-pub returns-in_default : goal.returns-in_default
-returns-in_default t c =
-    rw (not_node c.args.levels (stepped t (goal.at.returns-in_default t c).After-read-x))
-    (stuck_low _ _ _ c.requires.desk.shelf.table c.in_default.ensures)
+pub returns-in_err-a : goal.returns-in_err-a
+returns-in_err-a t c =
+    rw (c.from_residual.ensures, not_node c.args.levels (stepped t (goal.at.returns-in_err-a t c).After-read-x))
+    (stuck_low _ _ _ c.requires.desk.shelf.table c.in_err-a.ensures)
 
 pub overflow_sub-left-2 : goal.overflow_sub-left-2
 overflow_sub-left-2 t c = (stepped t (goal.at.overflow_sub-left-2 t c).After-read-x).some
@@ -64,42 +64,42 @@ overflow_sub-left-2 t c = (stepped t (goal.at.overflow_sub-left-2 t c).After-rea
 pub not_walk-requires-2 : goal.not_walk-requires-2
 not_walk-requires-2 t c =
     let d = stepped t (goal.at.not_walk-requires-2 t c).After-read-x in
-    let g = c.in-At.ensures in
+    let g = c.in_ok-a.ensures in
     (omega (arith, c.decreases, d.some), (g.1, (omega (arith, c.requires.left_le_levels.0), within_grown g.0 d.high)))
 
-pub returns-in_default-not_walk : goal.returns-in_default-not_walk
-returns-in_default-not_walk t c =
-    let d = stepped t (goal.at.returns-in_default-not_walk t c).After-read-x in
-    let g = c.in-At.ensures.0 in
-    rw (not_node c.args.levels d)
-    (stuck_high _ _ _ c.requires.desk.shelf.table g (rw (kept g _ d.high.below) at c.in_default-not_walk.ensures))
+pub returns-in_err-b : goal.returns-in_err-b
+returns-in_err-b t c =
+    let d = stepped t (goal.at.returns-in_err-b t c).After-read-x in
+    let g = c.in_ok-a.ensures.0 in
+    rw (c.from_residual-in_err-b.ensures, not_node c.args.levels d)
+    (stuck_high _ _ _ c.requires.desk.shelf.table g (rw (kept g _ d.high.below) at c.in_err-b.ensures))
 
-pub overflow_add-v1 : goal.overflow_add-v1
-overflow_add-v1 t c =
-    let d = stepped t (goal.at.overflow_add-v1 t c).After-read-x in
+pub overflow_add-visits : goal.overflow_add-visits
+overflow_add-visits t c =
+    let d = stepped t (goal.at.overflow_add-visits t c).After-read-x in
     let left = c.requires.left_le_levels.0 in
-    let g = c.in-At.ensures in
-    let h = c.in-At-not_walk.ensures in
+    let g = c.in_ok-a.ensures in
+    let h = c.in_ok-b.ensures in
     omega (arith, complement_fits c.requires.desk _ _ (omega arith) d.low g.2, complement_fits g.1 _ _ (omega arith) (within_grown g.0 d.high) h.2)
 
-pub overflow_add-v1-2 : goal.overflow_add-v1-2
-overflow_add-v1-2 t c =
-    let d = stepped t (goal.at.overflow_add-v1-2 t c).After-read-x in
+pub overflow_add-visits-2 : goal.overflow_add-visits-2
+overflow_add-visits-2 t c =
+    let d = stepped t (goal.at.overflow_add-visits-2 t c).After-read-x in
     let left = c.requires.left_le_levels.0 in
-    let g = c.in-At.ensures in
-    let h = c.in-At-not_walk.ensures in
+    let g = c.in_ok-a.ensures in
+    let h = c.in_ok-b.ensures in
     omega (arith, complement_fits c.requires.desk _ _ (omega arith) d.low g.2, complement_fits g.1 _ _ (omega arith) (within_grown g.0 d.high) h.2)
 
 pub keep_not-requires : goal.keep_not-requires
 keep_not-requires t c =
     let d = stepped t (goal.at.keep_not-requires t c).After-read-x in
-    let g = c.in-At.ensures.0 in
-    let h = rw (kept g _ d.high.below) at c.in-At-not_walk.ensures.0 in
+    let g = c.in_ok-a.ensures.0 in
+    let h = rw (kept g _ d.high.below) at c.in_ok-b.ensures.0 in
     let gc = grown_count g in
     let hc = grown_count h in
     let inside = c.requires.left_le_levels.1.below in
     record {
-      desk = c.in-At-not_walk.ensures.1;
+      desk = c.in_ok-b.ensures.1;
       le_p = (omega (arith, c.if-p-lt2.false), omega arith, omega (arith, grown_ref g), grown_ref h);
       p_value = not_over c.args.levels _ _ (not_node c.args.levels d) g h inside;
     }
@@ -107,7 +107,7 @@ keep_not-requires t c =
 pub returns : goal.returns
 returns t c =
     let d = stepped t (goal.at.returns t c).After-read-x in
-    let g = c.in-At.ensures in
-    let h = rw (kept g.0 _ d.high.below) at c.in-At-not_walk.ensures.0 in
-    complement_apart c.requires.desk d c.read-x.ensures (omega (arith, c.if-p-lt2.false)) c.requires.left_le_levels.1.below (omega (arith, c.if-seen-gt0.false))
-    c.not_walk-2.new.work g.0 g.2 h c.in-At-not_walk.ensures.2 c.keep_not.new.nodes c.keep_not.new.work c.keep_not.result c.keep_not.ensures
+    let g = c.in_ok-a.ensures in
+    let h = rw (kept g.0 _ d.high.below) at c.in_ok-b.ensures.0 in
+    complement_apart c.requires.desk d c.read-x.ensures (omega (arith, c.if-p-lt2.false)) c.requires.left_le_levels.1.below (omega (arith, c.in_default.ensures))
+    c.not_walk-2.new.work g.0 g.2 h c.in_ok-b.ensures.2 c.keep_not.new.nodes c.keep_not.new.work c.keep_not.result c.keep_not.ensures

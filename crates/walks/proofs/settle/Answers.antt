@@ -3,4 +3,4 @@ use Rattle.walks.proofs.SettleLaws.{in_order}
 use Rattle.walks.proofs.settle.Goals as goal
 
 pub returns : goal.returns
-returns c = in_order _ _ _ (rw (c.lesser.ensures, c.greater.ensures) at c.settle_ordered.ensures)
+returns c = in_order _ _ _ (rw (c.min.ensures, c.max.ensures) at c.settle_ordered.ensures)
