@@ -5,8 +5,9 @@ use mathlib.Core.Bool.{Bool, true, false, not, ◌&&◌, ◌||◌, and-false}
 use mathlib.Core.List.{List, [], ◌∷◌, ◌++◌}
 use native.Mathlib.Omega.{arith}
 use lib.Dec.{eqb, leb}
-use lib.ListN.{length, get_or, take, length-take}
+use lib.ListN.{length, take, length-take}
 use borrow.Author.Tests.{ne_eqb, le-leb, lt-leb}
+use Rattle.std.specs.List.{list_all}
 use Rattle.trees.specs.Kept.{all_below}
 use Rattle.trees.proofs.Tests.{false_true, not_true}
 use Rattle.trees.proofs.KeptLaws.{all_at, all_of}
@@ -92,30 +93,21 @@ counts_right raw p n l h = record {
 abbrev pub no_fact : Given
 no_fact = record { predicate = 0; count = 0; values = [] }
 
--- the facts before the place n are right
-facts_right : (rule : List Row) (fs : List Given) (n : ℕ) → n ≤ length fs → ((j : ℕ) → j < n → fact_right rule (get_or fs j no_fact) ≡ true) → all_right rule (take n fs) ≡ true
+-- facts that are all right
+facts_all : (rule : List Row) (fs : List Given) → list_all (fact_right rule) fs ≡ all_right rule fs
 unfolding all_right
-facts_right rule fs zero l h = refl
-facts_right rule [] (suc n) l h = absurd (omega arith)
-facts_right rule (f ∷ fs) (suc n) l h = rw (h 0 (omega arith), facts_right rule fs n (omega arith) (λ j k. h (suc j) (omega arith)))
+facts_all rule [] = refl
+facts_all rule (f ∷ fs) = rw (facts_all rule fs)
 
--- one of them is not
-facts_wrong : (rule : List Row) (fs : List Given) (n j : ℕ) → j < n → j < length fs → fact_right rule (get_or fs j no_fact) ≡ false → all_right rule (take n fs) ≡ false
-unfolding all_right
-facts_wrong rule fs zero j k l h = absurd (omega arith)
-facts_wrong rule [] (suc n) j k l h = absurd (omega arith)
-facts_wrong rule (f ∷ fs) (suc n) zero k l h = rw h
-facts_wrong rule (f ∷ fs) (suc n) (suc j) k l h = rw (facts_wrong rule fs n j (omega arith) (omega arith) h) (and-false (fact_right rule f))
+-- what is found of a fact's predicate and count is found of the fact
+pub fact_found : (raw : List ℕ) (f : Given) (r : Bool) → FactAgrees raw f.predicate f.count r → r ≡ fact_right (rule_of raw) f
+fact_found raw f r a = a.each f refl refl
 
--- an event of more than eight facts; one with a wrong fact; and one without
+-- an event of more than eight facts, and one of no more
 pub event_high : (raw : List ℕ) (e : Event) → 8 < e.count → Agrees raw e false
 unfolding count_right
 event_high raw e h = rw (lt-leb e.count 8 h)
 
-pub event_wrong : (raw : List ℕ) (e : Event) (j : ℕ) → j < e.count → j < length e.facts → fact_right (rule_of raw) (get_or e.facts j no_fact) ≡ false → Agrees raw e false
+pub event_all : (raw : List ℕ) (e : Event) {r : Bool} → e.count ≤ 8 → r ≡ list_all (fact_right (rule_of raw)) (take e.count e.facts) → Agrees raw e r
 unfolding count_right given
-event_wrong raw e j k l h = rw (facts_wrong (rule_of raw) e.facts e.count j k l h, and-false (leb e.count 8))
-
-pub event_right : (raw : List ℕ) (e : Event) → e.count ≤ 8 → e.count ≤ length e.facts → ((j : ℕ) → j < e.count → fact_right (rule_of raw) (get_or e.facts j no_fact) ≡ true) → Agrees raw e true
-unfolding count_right given
-event_right raw e k l h = rw (le-leb e.count 8 k, facts_right (rule_of raw) e.facts e.count l h)
+event_all raw e k h = h ∙ facts_all (rule_of raw) (take e.count e.facts) ∙ rw (le-leb e.count 8 k)

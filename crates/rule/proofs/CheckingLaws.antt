@@ -14,11 +14,12 @@ use Rattle.trees.specs.Kept.{all_below}
 use Rattle.trees.proofs.Tests.{lt_or_ge, false_true, not_true, and_true_r}
 use Rattle.trees.proofs.KeptLaws.{all_at, all_of, not_false}
 use Rattle.meaning.specs.Qtl.{free}
-use Rattle.meaning.specs.Rows.{row_right, disagree, row_fault, row_at, count_of_rows, rule_of, formula_at, closed, first_below, right, fault, judge_rows, check_rows}
+use Rattle.meaning.specs.Rows.{row_right, disagree, row_fault, row_at, count_of_rows, rule_of, formula_at, closed, first_below, fault, judge_rows, check_rows}
 use Rattle.meaning.proofs.RowsLaws.{first_none, first_some, rows_length, row_ok}
-use Rattle.rule.specs.declared.Checked.TheVariants.{Right}
 use Rattle.rule.specs.Masks.{has_bit, mask_of, free_of_row}
-use Rattle.rule.specs.Checking.{agrees_before, found_of, refused_at, Free, Checks}
+use Rattle.std.specs.Prelude.{Result, Ok, Err}
+use Rattle.rule.specs.declared.Fault.{Fault}
+use Rattle.rule.specs.Checking.{agrees_before, found_of, Free, Checks}
 use Rattle.rule.proofs.MasksLaws.{has_mask, mask_none, mask_same, mask_small}
 use Rattle.rule.proofs.FormulasLaws.{free_row}
 
@@ -91,24 +92,25 @@ walk_more raw masks i m w l k r a e = record {
 pub walk_all : (raw masks : List ℕ) (i : ℕ) → Walked raw masks i → i ≡ count_of_rows raw → Walked raw masks (count_of_rows raw)
 walk_all raw masks i w e = rw e at w
 
--- a fault, as the code returns it
-refused_is : (raw : List ℕ) (p : ℕ) → check_rows raw ≡ fault p → Checks raw (refused_at p)
-unfolding refused_at found_of
-refused_is raw p e = record { found = sym e; size = length-replicate {A = ℕ} 64 0; masks = rw e refl }
+-- what a check finds is what is defined
+pub check_found : (raw : List ℕ) (r : Result (List ℕ) Fault) → Checks raw r → found_of r ≡ check_rows raw
+unfolding found_of
+check_found raw (Ok masks) c = sym c.0
+check_found raw (Err f) c = sym c
 
 -- the shape
 module _ (raw : List ℕ) where
-  shape_bad : (eqb (length raw % 9) 0 && (ltb 0 (count_of_rows raw) && leb (count_of_rows raw) 64)) ≡ false → Checks raw (refused_at 0)
+  shape_bad : (eqb (length raw % 9) 0 && (ltb 0 (count_of_rows raw) && leb (count_of_rows raw) 64)) ≡ false → check_rows raw ≡ fault 0
   unfolding check_rows judge_rows
-  shape_bad e = refused_is raw 0 (rw e)
+  shape_bad e = rw e
 
-  pub parts_left : length raw % 9 ≢ 0 → Checks raw (refused_at 0)
+  pub parts_left : length raw % 9 ≢ 0 → check_rows raw ≡ fault 0
   parts_left h = shape_bad (rw (ne_eqb (length raw % 9) 0 h))
 
-  pub no_rows : count_of_rows raw ≡ 0 → Checks raw (refused_at 0)
+  pub no_rows : count_of_rows raw ≡ 0 → check_rows raw ≡ fault 0
   no_rows h = shape_bad (rw (h, and-false (eqb (length raw % 9) 0)))
 
-  pub many_rows : 64 < count_of_rows raw → Checks raw (refused_at 0)
+  pub many_rows : 64 < count_of_rows raw → check_rows raw ≡ fault 0
   many_rows h = shape_bad (rw (lt-leb (count_of_rows raw) 64 h, and-false (ltb 0 (count_of_rows raw)), and-false (eqb (length raw % 9) 0)))
 
 -- the first place of a fault
@@ -127,10 +129,10 @@ first_not n f h = not_true (ltb (first_below n f) n) (λ e. let l = below e in f
 
 module _ (raw : List ℕ) (s : Shaped raw) where
   -- the first fault
-  pub found_fault : (i : ℕ) → i < count_of_rows raw → ((j : ℕ) → j < i → row_fault raw j ≡ false) → row_fault raw i ≡ true → Checks raw (refused_at i)
+  pub found_fault : (i : ℕ) → i < count_of_rows raw → ((j : ℕ) → j < i → row_fault raw j ≡ false) → row_fault raw i ≡ true → check_rows raw ≡ fault i
   unfolding check_rows judge_rows
-  found_fault i l h e = refused_is raw i
-      (rw (eq-eqb (length raw % 9) 0 s.whole, lt-ltb 0 (count_of_rows raw) s.some, le-leb (count_of_rows raw) 64 s.most, first_is (count_of_rows raw) (row_fault raw) i l e h, lt-ltb i (count_of_rows raw) l))
+  found_fault i l h e =
+      rw (eq-eqb (length raw % 9) 0 s.whole, lt-ltb 0 (count_of_rows raw) s.some, le-leb (count_of_rows raw) 64 s.most, first_is (count_of_rows raw) (row_fault raw) i l e h, lt-ltb i (count_of_rows raw) l)
 
   -- no fault
   found_none : (c : Bool) → closed (rule_of raw) ≡ c → ((j : ℕ) → j < count_of_rows raw → row_fault raw j ≡ false)
@@ -187,14 +189,11 @@ free_masks raw masks w = record {
 
 -- the two ends of a walk without a fault
 module _ (raw masks : List ℕ) (s : Shaped raw) (w : Walked raw masks (count_of_rows raw)) where
-  pub found_open : get_or masks (count_of_rows raw - 1) 0 ≢ 0 → Checks raw (refused_at (count_of_rows raw - 1))
+  pub found_open : get_or masks (count_of_rows raw - 1) 0 ≢ 0 → check_rows raw ≡ fault (count_of_rows raw - 1)
   unfolding judge_rows
-  found_open z =
-      refused_is raw (count_of_rows raw - 1)
-      (found_none raw s false (open_more raw _ (w.free_of (count_of_rows raw - 1) (omega (arith, s.some))) z) w.none)
+  found_open z = found_none raw s false (open_more raw _ (w.free_of (count_of_rows raw - 1) (omega (arith, s.some))) z) w.none
 
-  pub found_right : get_or masks (count_of_rows raw - 1) 0 ≡ 0 → Checks raw (record { checked = Right; free = masks })
-  unfolding judge_rows found_of
+  pub found_right : get_or masks (count_of_rows raw - 1) 0 ≡ 0 → Checks raw (Ok masks)
+  unfolding judge_rows
   found_right z =
-      let e : check_rows raw ≡ right = found_none raw s true (closed_zero raw _ (w.free_of (count_of_rows raw - 1) (omega (arith, s.some))) z) w.none in
-      record { found = sym e; size = w.size; masks = rw e (free_masks raw masks w) }
+      (found_none raw s true (closed_zero raw _ (w.free_of (count_of_rows raw - 1) (omega (arith, s.some))) z) w.none, w.size, free_masks raw masks w)

@@ -52,7 +52,7 @@ pub argument_read_law : {m x y z : ℕ} {a : Argument} → m ≡ y → x ≡ z �
 argument_read_law p q e = e ∙ rw (p, q)
 
 -- an atom whose arguments were read
-pub atom_read : (p q : ℕ) {a b c x y z : Argument} → a ≡ x → b ≡ y → c ≡ z → Atom p q a b c ≡ Atom p q x y z
+pub atom_read : (p q : ℕ) {a b c x y z : Argument} → a ≡ x → b ≡ y → c ≡ z → Atom (record { predicate = p; count = q; arguments = a ∷ b ∷ c ∷ [] }) ≡ Atom (record { predicate = p; count = q; arguments = x ∷ y ∷ z ∷ [] })
 atom_read p q ea eb ec = cc
 
 -- a row whose kind, p and q were read

@@ -2,7 +2,8 @@
 use Prim.Native.Nat.{ℕ, zero, suc, ◌+◌, ◌-◌, ◌*◌, ◌/◌, ◌%◌, ◌^◌, ◌≤◌, ◌<◌}
 use mathlib.Core.Path.{◌≡◌, refl, ap, sym, ◌∙◌}
 use mathlib.Core.Bool.{Bool, true, false, not, ◌&&◌, ◌||◌, and_comm, or-false, or_assoc}
-use mathlib.Core.List.{List, [], ◌∷◌}
+use mathlib.Core.List.{List, [], ◌∷◌, ◌++◌, map}
+use denote.Ref.{Bor}
 use native.Mathlib.Nat.{mod-eq_of_lt}
 use native.Mathlib.Omega.{arith}
 use lib.Bits.{bit_or, bit_and, and_le_r, or_shr, or_mod, and_shr, and_mod}
@@ -142,6 +143,14 @@ without_is x f {m} p e =
     e ∙ mask_same (λ v. not (eqb x v) && has_bit m v) (λ v. not (eqb x v) && f v) (λ v h. rw (p, has_mask f v h))
 
 -- the mask of one variable
+pub single_some : (v : ℕ) → v < 4 → 1 * 2 ^ v % 4294967296 ≡ mask_of (eqb v)
+unfolding mask_of digit
+single_some zero h = refl
+single_some (suc zero) h = refl
+single_some (suc (suc zero)) h = refl
+single_some (suc (suc (suc zero))) h = refl
+single_some (suc (suc (suc (suc v)))) h = absurd (omega arith)
+
 pub single_none : (v : ℕ) → 4 ≤ v → 0 ≡ mask_of (eqb v)
 unfolding mask_of digit
 single_none v h = rw (ne_eqb v 0 (λ e. omega arith), ne_eqb v 1 (λ e. omega arith), ne_eqb v 2 (λ e. omega arith), ne_eqb v 3 (λ e. omega arith))
@@ -157,24 +166,34 @@ unfolding free_arguments
 first_free (variable w) gs v = rw (or-false (eqb w v))
 first_free (constant c) gs v = refl
 
--- two arguments
-pub two_free : (g h : Argument) {r : ℕ} → r ≡ mask_of (λ v. free_arguments (g ∷ []) v || free_arguments (h ∷ []) v) → r ≡ mask_of (free_arguments (g ∷ h ∷ []))
-two_free g h e = e ∙ mask_same (λ v. free_arguments (g ∷ []) v || free_arguments (h ∷ []) v) (free_arguments (g ∷ h ∷ [])) (λ v k. first_free g (h ∷ []) v)
+-- the free variables of two lists of arguments
+both_free : (gs hs : List Argument) (v : ℕ) → free_arguments (gs ++ hs) v ≡ (free_arguments gs v || free_arguments hs v)
+unfolding free_arguments
+both_free [] hs v = refl
+both_free (variable w ∷ gs) hs v = rw (both_free gs hs v) (sym (or_assoc (eqb w v) (free_arguments gs v) (free_arguments hs v)))
+both_free (constant c ∷ gs) hs v = both_free gs hs v
 
--- three arguments
-pub three_free : (g h k : Argument) {r : ℕ} → r ≡ mask_of (λ v. free_arguments (g ∷ h ∷ []) v || free_arguments (k ∷ []) v) → r ≡ mask_of (free_arguments (g ∷ h ∷ k ∷ []))
-three_free g h k e = e ∙ mask_same (λ v. free_arguments (g ∷ h ∷ []) v || free_arguments (k ∷ []) v) (free_arguments (g ∷ h ∷ k ∷ []))
-    (λ v l.
-    rw (← first_free g (h ∷ []) v, ← first_free g (h ∷ k ∷ []) v, ← first_free h (k ∷ []) v)
-    (or_assoc (free_arguments (g ∷ []) v) (free_arguments (h ∷ []) v) (free_arguments (k ∷ []) v)))
+-- one more argument
+pub argument_more : (xs : List (Bor Decoded.Argument)) (x : Bor Decoded.Argument) {m a r : ℕ} → m ≡ mask_of (free_arguments (map argument_of (map (λ (a : Bor Decoded.Argument). a.now) xs)))
+    → a ≡ mask_of (free_arguments (argument_of x.now ∷ [])) → r ≡ mask_of (λ v. has_bit m v || has_bit a v)
+    → r ≡ mask_of (free_arguments (map argument_of (map (λ (a : Bor Decoded.Argument). a.now) (xs ++ x ∷ []))))
+argument_more xs x p q e =
+    let gs : List Argument = map argument_of (map (λ (a : Bor Decoded.Argument). a.now) xs) in
+    let g : Argument = argument_of x.now in
+    join_is (free_arguments gs) (free_arguments (g ∷ [])) p q e
+    ∙ mask_same (λ v. free_arguments gs v || free_arguments (g ∷ []) v) (free_arguments (gs ++ g ∷ [])) (λ v h. sym (both_free gs (g ∷ []) v))
+    ∙ ap (λ (hs : List Argument). mask_of (free_arguments hs)) (mapped_more xs x)
+  where
+    mapped_more : (xs : List (Bor Decoded.Argument)) (x : Bor Decoded.Argument)
+        → map argument_of (map (λ (a : Bor Decoded.Argument). a.now) xs) ++ argument_of x.now ∷ [] ≡ map argument_of (map (λ (a : Bor Decoded.Argument). a.now) (xs ++ x ∷ []))
+    mapped_more [] x = refl
+    mapped_more (y ∷ xs) x = ap (λ (hs : List Argument). argument_of y.now ∷ hs) (mapped_more xs x)
 
--- the first q of three
-pub take_three : (g h k : Argument) (q : ℕ) → 3 ≤ q → take q (g ∷ h ∷ k ∷ []) ≡ g ∷ h ∷ k ∷ []
-take_three g h k zero l = absurd (omega arith)
-take_three g h k (suc zero) l = absurd (omega arith)
-take_three g h k (suc (suc zero)) l = absurd (omega arith)
-take_three g h k (suc (suc (suc zero))) l = refl
-take_three g h k (suc (suc (suc (suc q)))) l = refl
+-- the first of the mapped are the first mapped
+pub take_mapped : {A B : Type 0} (f : A → B) (xs : List A) (n : ℕ) → map f (take n xs) ≡ take n (map f xs)
+take_mapped f xs zero = refl
+take_mapped f [] (suc n) = refl
+take_mapped f (x ∷ xs) (suc n) = rw (take_mapped f xs n)
 
 -- the mask of what a value was found to be is the mask of the value
 pub argument_is : {a b : Decoded.Argument} {r : ℕ} → a ≡ b → r ≡ mask_of (free_arguments (argument_of b ∷ [])) → r ≡ mask_of (free_arguments (argument_of a ∷ []))

@@ -12,25 +12,32 @@ use Rattle.trees.specs.Kept.{all_below}
 use Rattle.trees.proofs.Tests.{EqCase, equal, other, eq_case, lt_or_ge, false_true, not_true, and_true_l, and_true_r}
 use Rattle.trees.proofs.KeptLaws.{all_at, all_of}
 use Rattle.meaning.specs.Rows.{field, Use, use_of, field_right, pairs_used, pair_right, row_right, disagree}
-use Rattle.rule.specs.Table.{code_of, use_coded, used_pairs}
+use Rattle.rule.specs.declared.right.Use.{Use as Entry}
+use Rattle.rule.specs.Table.{entry, used_as, used_pairs}
 use Rattle.rule.specs.Checking.{pairs_right, agrees_before, atom_of, other_count}
-use Rattle.rule.proofs.TableLaws.{code_use}
+use Rattle.rule.proofs.TableLaws.{entry_use}
 
 -- a pair whose mark and value were read
 pub pair_read : (raw : List ℕ) (i j : ℕ) (used : Bool) {u : Bool} {m x : ℕ} {r : Bool} → u ≡ used → m ≡ field raw i (3 + 2 * j) → x ≡ field raw i (4 + 2 * j)
     → r ≡ pair_right u m x → r ≡ pair_right used (field raw i (3 + 2 * j)) (field raw i (4 + 2 * j))
 pair_read raw i j used s p q e = e ∙ rw (s, p, q)
 
--- the three pairs
-pub pairs_are : (raw : List ℕ) (i n : ℕ) {a b c : Bool}
-    → a ≡ pair_right (ltb 0 n) (field raw i 3) (field raw i 4) → b ≡ pair_right (ltb 1 n) (field raw i 5) (field raw i 6)
-    → c ≡ pair_right (ltb 2 n) (field raw i 7) (field raw i 8) → pairs_right raw i n ≡ ((a && b) && c)
-unfolding pairs_right all_below
-pairs_are raw i n p q r = rw (p, q, r)
+-- the pair at place j of the row at place i, of which the first n are used
+abbrev pub pair_at : List ℕ → ℕ → ℕ → ℕ → Bool
+pair_at raw i n j = pair_right (ltb j n) (field raw i (3 + 2 * j)) (field raw i (4 + 2 * j))
+
+-- one of the three is wrong, or none
+pub pair_wrong : (raw : List ℕ) (i n j : ℕ) → j < 3 → pair_at raw i n j ≡ false → false ≡ pairs_right raw i n
+unfolding pairs_right
+pair_wrong raw i n j l e = sym (not_true (all_below 3 (pair_at raw i n)) (λ t. false_true e (all_at 3 (pair_at raw i n) t j l)))
+
+pub pairs_all : (raw : List ℕ) (i n : ℕ) → ((j : ℕ) → j < 3 → pair_at raw i n j ≡ true) → true ≡ pairs_right raw i n
+unfolding pairs_right
+pairs_all raw i n h = sym (all_of 3 (pair_at raw i n) h)
 
 -- a field whose use was looked up
-pub field_read : (i x kind f : ℕ) {u : ℕ} {r : Bool} → f < 2 → u ≡ code_of kind f → r ≡ field_right i (use_coded u) x → r ≡ field_right i (use_of kind f) x
-field_read i x kind f l h e = e ∙ ap (λ (how : Use). field_right i how x) (ap use_coded h ∙ code_use kind f l)
+pub field_read : (i x kind f : ℕ) {u : Entry} {r : Bool} → f < 2 → u ≡ entry kind f → r ≡ field_right i (used_as u) x → r ≡ field_right i (use_of kind f) x
+field_read i x kind f l h e = e ∙ ap (λ (how : Use). field_right i how x) (ap used_as h ∙ entry_use kind f l)
 
 -- a row of kind 0
 pub row_low : (raw : List ℕ) (i : ℕ) {k : ℕ} → k ≡ field raw i 0 → k ≡ 0 → false ≡ row_right raw i

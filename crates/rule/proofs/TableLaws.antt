@@ -5,13 +5,15 @@ use mathlib.Core.List.{List, [], ◌∷◌, map}
 use native.Mathlib.Omega.{arith}
 use lib.ListN.{get_or, take}
 use lib.Seq.{get_or-take}
-use borrow.Author.Tests.{ne_eqb}
-use Rattle.meaning.specs.Rows.{Use, unused, as_count, uses, use_of}
-use Rattle.rule.specs.Table.{table, code_of, use_coded, used_pairs}
+use Rattle.meaning.specs.Rows
+use Rattle.meaning.specs.Rows.{unused, uses, use_of}
+use Rattle.rule.specs.declared.right.Use.{Use}
+use Rattle.rule.specs.declared.right.Use.TheVariants.{Unused, Arguments}
+use Rattle.rule.specs.Table.{table, entry, used_as, used_pairs}
 
--- the test of the columns p and q: decoded, they are the table of the meaning
-table_right : map (λ (row : List ℕ). map use_coded (take 2 row)) table ≡ uses
-unfolding table use_coded uses
+-- the test of the columns p and q: they are the table of the meaning
+table_right : map (λ (row : List Use). map used_as (take 2 row)) table ≡ uses
+unfolding table used_as uses
 table_right = refl
 
 -- an element of a list that is mapped
@@ -22,36 +24,34 @@ at_map f (x ∷ xs) zero d = refl
 at_map f (x ∷ xs) (suc i) d = at_map f xs i d
 
 -- each entry for p and q says how its field is used
-pub code_use : (kind f : ℕ) → f < 2 → use_coded (code_of kind f) ≡ use_of kind f
-unfolding use_coded code_of use_of
-code_use kind f h =
-    ap use_coded (sym (get_or-take 2 (get_or table (kind - 1) []) f 0 h))
-    ∙ sym (at_map use_coded (take 2 (get_or table (kind - 1) [])) f 0)
-    ∙ ap (λ (us : List Use). get_or us f unused) (sym (at_map (λ (row : List ℕ). map use_coded (take 2 row)) table (kind - 1) []) ∙ ap (λ (t : List (List Use)). get_or t (kind - 1) []) table_right)
+pub entry_use : (kind f : ℕ) → f < 2 → used_as (entry kind f) ≡ use_of kind f
+unfolding used_as entry use_of
+entry_use kind f h =
+    ap used_as (sym (get_or-take 2 (get_or table (kind - 1) []) f Unused h))
+    ∙ sym (at_map used_as (take 2 (get_or table (kind - 1) [])) f Unused)
+    ∙ ap (λ (us : List Rows.Use). get_or us f unused) (sym (at_map (λ (row : List Use). map used_as (take 2 row)) table (kind - 1) []) ∙ ap (λ (t : List (List Rows.Use)). get_or t (kind - 1) []) table_right)
 
--- a code over 3 is a count
-pub coded_count : (n : ℕ) → 4 ≤ n → use_coded n ≡ as_count
-unfolding use_coded
-coded_count zero h = absurd (omega arith)
-coded_count (suc zero) h = absurd (omega arith)
-coded_count (suc (suc zero)) h = absurd (omega arith)
-coded_count (suc (suc (suc zero))) h = absurd (omega arith)
-coded_count (suc (suc (suc (suc n)))) h = refl
-
--- a kind whose pairs have the code 0 uses none
-pub pairs_unused : (kind q : ℕ) → code_of kind 2 ≡ 0 → 0 ≡ used_pairs kind q
-unfolding used_pairs code_of table
-pairs_unused kind q e = rw (ne_eqb kind 2 (λ z. let f = rw z at e in absurd (omega arith)))
-
--- and one where they have another code is the atom's
-pub pairs_used : (kind q : ℕ) → 0 < kind → kind ≤ 7 → (code_of kind 2 ≡ 0 → ⊥) → q ≡ used_pairs kind q
-unfolding used_pairs code_of table
+-- a kind whose pairs are arguments uses as many as its field q says, and any other none
+pub pairs_used : (kind q : ℕ) → 0 < kind → kind ≤ 7 → entry kind 2 ≡ Arguments → q ≡ used_pairs kind q
+unfolding used_pairs entry table
 pairs_used zero q some few e = absurd (omega arith)
-pairs_used (suc zero) q some few e = absurd (e refl)
+pairs_used (suc zero) q some few e = cc
 pairs_used (suc (suc zero)) q some few e = refl
-pairs_used (suc (suc (suc zero))) q some few e = absurd (e refl)
-pairs_used (suc (suc (suc (suc zero)))) q some few e = absurd (e refl)
-pairs_used (suc (suc (suc (suc (suc zero))))) q some few e = absurd (e refl)
-pairs_used (suc (suc (suc (suc (suc (suc zero)))))) q some few e = absurd (e refl)
-pairs_used (suc (suc (suc (suc (suc (suc (suc zero))))))) q some few e = absurd (e refl)
+pairs_used (suc (suc (suc zero))) q some few e = cc
+pairs_used (suc (suc (suc (suc zero)))) q some few e = cc
+pairs_used (suc (suc (suc (suc (suc zero))))) q some few e = cc
+pairs_used (suc (suc (suc (suc (suc (suc zero)))))) q some few e = cc
+pairs_used (suc (suc (suc (suc (suc (suc (suc zero))))))) q some few e = cc
 pairs_used (suc (suc (suc (suc (suc (suc (suc (suc kind)))))))) q some few e = absurd (omega arith)
+
+pub pairs_unused : (kind q : ℕ) → 0 < kind → kind ≤ 7 → (entry kind 2 ≡ Arguments → ⊥) → 0 ≡ used_pairs kind q
+unfolding used_pairs entry table
+pairs_unused zero q some few e = absurd (omega arith)
+pairs_unused (suc zero) q some few e = refl
+pairs_unused (suc (suc zero)) q some few e = absurd (e refl)
+pairs_unused (suc (suc (suc zero))) q some few e = refl
+pairs_unused (suc (suc (suc (suc zero)))) q some few e = refl
+pairs_unused (suc (suc (suc (suc (suc zero))))) q some few e = refl
+pairs_unused (suc (suc (suc (suc (suc (suc zero)))))) q some few e = refl
+pairs_unused (suc (suc (suc (suc (suc (suc (suc zero))))))) q some few e = refl
+pairs_unused (suc (suc (suc (suc (suc (suc (suc (suc kind)))))))) q some few e = absurd (omega arith)

@@ -1,14 +1,12 @@
 -- What the check of a rule and the question about an event's counts promise, for all input. Assumes nothing: these are definitions.
-use Rattle.std.specs.Prelude.{ℕ, min, ◌+◌, ◌*◌, ◌≤◌, ◌<◌, ◌≡◌, Bool, not, ◌&&◌, List, eqb, ltb, length, get_or, replicate}
+use Rattle.std.specs.Prelude.{ℕ, min, ◌+◌, ◌*◌, ◌≤◌, ◌<◌, ◌≡◌, Bool, not, ◌&&◌, List, Result, Ok, Err, eqb, ltb, length, get_or}
 use Rattle.trees.specs.Kept.{all_below}
 use Rattle.meaning.specs.declared.Event.{Event}
 use Rattle.meaning.specs.declared.Fact.{Fact as Given}
 use Rattle.meaning.specs.Qtl.{free}
 use Rattle.meaning.specs.Rows.{field, pair_right, disagree, count_of_rows, rule_of, formula_at, Found, right, fault, check_rows}
 use Rattle.meaning.specs.Outcome.{fact_right, count_right}
-use Rattle.rule.specs.declared.Checked.{Checked}
-use Rattle.rule.specs.declared.Checked.TheVariants.{Right, Fault}
-use Rattle.rule.specs.declared.Rule.{Rule}
+use Rattle.rule.specs.declared.Fault.{Fault}
 use Rattle.rule.specs.Masks.{has_bit}
 
 -- the three pairs of the row at place i, of which the first n are used
@@ -28,13 +26,9 @@ unfoldable pub other_count : List ℕ → ℕ → ℕ → ℕ → Bool
 other_count raw i p n = atom_of raw i p && not (eqb (min (field raw i 2) 3) n)
 
 -- what the check found
-unfoldable pub found_of : Checked → Found
-found_of Right = right
-found_of (Fault p) = fault p
-
--- a rule with a fault at the place p
-unfoldable pub refused_at : ℕ → Rule
-refused_at p = record { checked = Fault p; free = replicate 64 0 }
+unfoldable pub found_of : Result (List ℕ) Fault → Found
+found_of (Ok masks) = right
+found_of (Err f) = fault f.row
 
 -- the free variables of each row of a right rule
 pub record Free (raw masks : List ℕ) : Type 0 where
@@ -42,16 +36,10 @@ pub record Free (raw masks : List ℕ) : Type 0 where
   pub bits : (i v : ℕ) → i < count_of_rows raw → v < 4 → has_bit (get_or masks i 0) v ≡ free (formula_at (rule_of raw) i) v
   pub rest : (i : ℕ) → count_of_rows raw ≤ i → get_or masks i 0 ≡ 0
 
--- the masks that go with what was found: a faulty rule has none
-abbrev pub MasksFor : Found → List ℕ → List ℕ → Type 0
-MasksFor right raw masks = Free raw masks
-MasksFor (fault p) raw masks = masks ≡ replicate 64 0
-
--- the check of a rule
-pub record Checks (raw : List ℕ) (r : Rule) : Type 0 where
-  pub found : found_of r.checked ≡ check_rows raw
-  pub size : length r.free ≡ 64
-  pub masks : MasksFor (check_rows raw) raw r.free
+-- the check of a rule: of a right one the free variables of each row, and of a faulty one the row of its first fault and no masks
+abbrev pub Checks : List ℕ → Result (List ℕ) Fault → Type 0
+Checks raw (Ok masks) = (check_rows raw ≡ right) × (length masks ≡ 64) × Free raw masks
+Checks raw (Err f) = check_rows raw ≡ fault f.row
 
 -- the answer for a fact of this predicate and count
 pub record FactAgrees (raw : List ℕ) (predicate count : ℕ) (r : Bool) : Type 0 where

@@ -1,5 +1,5 @@
 -- What the decoded rows and arguments of the code mean. Assumes nothing: these are definitions.
-use Rattle.std.specs.Prelude.{ℕ, zero, suc, ◌≡◌, cond, List, [], ◌∷◌, eqb, take}
+use Rattle.std.specs.Prelude.{ℕ, zero, suc, ◌≡◌, cond, List, [], ◌∷◌, map, eqb, take}
 use Rattle.meaning.specs.Qtl
 use Rattle.meaning.specs.Qtl.{variable, constant}
 use Rattle.meaning.specs.Rows
@@ -14,10 +14,10 @@ unfoldable pub argument_of : Argument → Qtl.Argument
 argument_of (Variable v) = variable v
 argument_of (Constant c) = constant c.0
 
--- the row of the meaning: of an atom's three arguments the first q are used
+-- the row of the meaning: of an atom's three arguments the first `count` are used
 unfoldable pub row_of : Row → Rows.Row
 row_of True = truth
-row_of (Atom p q a b c) = atom p (take q (argument_of a ∷ argument_of b ∷ argument_of c ∷ []))
+row_of (Atom a) = atom a.predicate (take a.count (map argument_of a.arguments))
 row_of (And l r) = both l r
 row_of (Not r) = neg r
 row_of (Since l r) = since l r
@@ -32,7 +32,7 @@ argument_read mark x = cond (eqb mark 0) (Variable x) (Constant (record { 0 = x 
 unfoldable pub row_read : ℕ → ℕ → ℕ → Argument → Argument → Argument → Row
 row_read zero p q a b c = True
 row_read (suc zero) p q a b c = True
-row_read (suc (suc zero)) p q a b c = Atom p q a b c
+row_read (suc (suc zero)) p q a b c = Atom (record { predicate = p; count = q; arguments = a ∷ b ∷ c ∷ [] })
 row_read (suc (suc (suc zero))) p q a b c = And p q
 row_read (suc (suc (suc (suc zero)))) p q a b c = Not p
 row_read (suc (suc (suc (suc (suc zero))))) p q a b c = Since p q

@@ -1,30 +1,34 @@
--- The table of uses as the code has it, and what its codes mean. Assumes nothing: these are definitions.
-use Rattle.std.specs.Prelude.{ℕ, zero, suc, ◌-◌, cond, List, [], ◌∷◌, eqb, get_or}
-use Rattle.meaning.specs.Rows.{Use, unused, as_predicate, as_row, as_variable, as_count}
+-- The table of uses as the code has it, and what its entries mean. Assumes nothing: these are definitions.
+use Rattle.std.specs.Prelude.{ℕ, ◌-◌, cond, List, [], ◌∷◌, eqb, get_or}
+use Rattle.meaning.specs.Rows
+use Rattle.meaning.specs.Rows.{unused, as_predicate, as_row, as_variable, as_count}
+use Rattle.rule.specs.declared.right.Use.{Use}
+use Rattle.rule.specs.declared.right.Use.TheVariants.{Unused, Predicate, Row, Variable, Count, Arguments}
 
 -- the constant `USES`: p, q and the three pairs of the kinds 1 to 7
-unfoldable pub table : List (List ℕ)
+unfoldable pub table : List (List Use)
 table =
-    (0 ∷ 0 ∷ 0 ∷ [])
-    ∷ (1 ∷ 4 ∷ 5 ∷ [])
-    ∷ (2 ∷ 2 ∷ 0 ∷ [])
-    ∷ (2 ∷ 0 ∷ 0 ∷ [])
-    ∷ (2 ∷ 2 ∷ 0 ∷ [])
-    ∷ (2 ∷ 0 ∷ 0 ∷ [])
-    ∷ (3 ∷ 2 ∷ 0 ∷ [])
+    (Unused ∷ Unused ∷ Unused ∷ [])
+    ∷ (Predicate ∷ Count ∷ Arguments ∷ [])
+    ∷ (Row ∷ Row ∷ Unused ∷ [])
+    ∷ (Row ∷ Unused ∷ Unused ∷ [])
+    ∷ (Row ∷ Row ∷ Unused ∷ [])
+    ∷ (Row ∷ Unused ∷ Unused ∷ [])
+    ∷ (Variable ∷ Row ∷ Unused ∷ [])
     ∷ []
 
 -- its entry for a kind and a field
-unfoldable pub code_of : ℕ → ℕ → ℕ
-code_of kind f = get_or (get_or table (kind - 1) []) f 0
+unfoldable pub entry : ℕ → ℕ → Use
+entry kind f = get_or (get_or table (kind - 1) []) f Unused
 
--- of p and q: 0 is not used, 1 a predicate, 2 a row, 3 a variable, 4 and what is above it a count
-unfoldable pub use_coded : ℕ → Use
-use_coded zero = unused
-use_coded (suc zero) = as_predicate
-use_coded (suc (suc zero)) = as_row
-use_coded (suc (suc (suc zero))) = as_variable
-use_coded (suc (suc (suc (suc n)))) = as_count
+-- what it says of p and q: arguments stand in neither, and would be a count
+unfoldable pub used_as : Use → Rows.Use
+used_as Unused = unused
+used_as Predicate = as_predicate
+used_as Row = as_row
+used_as Variable = as_variable
+used_as Count = as_count
+used_as Arguments = as_count
 
 -- how many of the pairs a row of a kind uses, where its field q is q: "first q used" in an atom, and none in the other kinds
 unfoldable pub used_pairs : ℕ → ℕ → ℕ

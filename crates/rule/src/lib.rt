@@ -8,7 +8,7 @@ mod right;
 ghost use Rattle.std.specs.Prelude.{◌≡◌, ◌+◌, ◌*◌, ◌<◌, ◌≤◌, length};
 ghost use Rattle.meaning.specs.Rows.{field};
 ghost use Rattle.rule.specs.Decoded.{argument_read, Decodes};
-ghost use Rattle.rule.specs.Checking.{refused_at, Checks, FactAgrees, Agrees};
+ghost use Rattle.rule.specs.Checking.{Checks, FactAgrees, Agrees};
 
 use meaning::{Event, Value};
 
@@ -19,11 +19,19 @@ pub enum Argument {
     Constant(Value),
 }
 
-// A row: one of seven kinds. An atom has its predicate, its count and three arguments, of which the first `count` are used.
+// An atom: its predicate, and three arguments, of which the first `count` are used.
+#[derive(Clone, Copy)]
+pub struct Atom {
+    pub predicate: u32,
+    pub count: u32,
+    pub arguments: [Argument; 3],
+}
+
+// A row: one of seven kinds.
 #[derive(Clone, Copy)]
 pub enum Row {
     True,
-    Atom(u32, u32, Argument, Argument, Argument),
+    Atom(Atom),
     And(u32, u32),
     Not(u32),
     Since(u32, u32),
@@ -31,19 +39,18 @@ pub enum Row {
     Exists(u32, u32),
 }
 
-// What a check finds: all right, or the row of the first fault.
-#[derive(Drop)]
-pub enum Checked {
-    Right,
-    Fault(u32),
+// Refusal 2: the row of the first fault.
+#[derive(Clone, Copy, PartialEq, Eq)]
+pub struct Fault {
+    pub row: u32,
 }
 
-// A checked rule: of each row, a number whose bit v says that the variable v is free in it.
-#[derive(Drop)]
-pub struct Rule {
-    pub checked: Checked,
-    pub free: [u32; 64],
-}
+// The most rows of a rule, values of a fact and facts of an event.
+const MOST_ROWS: usize = 64;
+
+const MOST_VALUES: u32 = 3;
+
+const MOST_FACTS: u32 = 8;
 
 // The field `f` of the row at place `i`.
 fn field_of(rows: &[u32], i: usize, f: usize) -> u32
@@ -74,12 +81,15 @@ pub fn row_at(rows: &[u32], i: usize) -> Row
     let q = field_of(rows, i, 2);
     match kind {
         0 | 1 => Row::True,
-        2 => {
-            let a = argument_of(field_of(rows, i, 3), field_of(rows, i, 4));
-            let b = argument_of(field_of(rows, i, 5), field_of(rows, i, 6));
-            let c = argument_of(field_of(rows, i, 7), field_of(rows, i, 8));
-            Row::Atom(p, q, a, b, c)
-        }
+        2 => Row::Atom(Atom {
+            predicate: p,
+            count: q,
+            arguments: [
+                argument_of(field_of(rows, i, 3), field_of(rows, i, 4)),
+                argument_of(field_of(rows, i, 5), field_of(rows, i, 6)),
+                argument_of(field_of(rows, i, 7), field_of(rows, i, 8)),
+            ],
+        }),
         3 => Row::And(p, q),
         4 => Row::Not(p),
         5 => Row::Since(p, q),
@@ -88,67 +98,40 @@ pub fn row_at(rows: &[u32], i: usize) -> Row
     }
 }
 
-// A rule with a fault at `place`.
-fn refused(place: usize) -> Rule
-    requires { place < 64 }
-    ensures { result ≡ refused_at place }
-{
-    Rule {
-        checked: Checked::Fault(place as u32),
-        free: [0; 64],
-    }
-}
-
-// Refusal 2: the shape; then row by row its own rules and the counts; then the last row's free variables.
-pub fn check(rows: &[u32]) -> Rule
+// The free variables of each row, as a number whose bit v says that the variable v is free in it; or refusal 2: the shape; then row by
+// row its own rules and the counts; then the last row's free variables.
+pub fn check(rows: &[u32]) -> Result<[u32; 64], Fault>
     ensures { Checks rows.now result }
 {
-    if rows.len() % 9 != 0 {
-        return refused(0);
-    }
     let n = rows.len() / 9;
-    if n == 0 {
-        return refused(0);
-    }
-    if 64 < n {
-        return refused(0);
+    if rows.len() % 9 != 0 || n == 0 || MOST_ROWS < n {
+        return Err(Fault { row: 0 });
     }
     let mut free = [0u32; 64];
-    let mut i: usize = 0;
-    while i < n {
-        if !right::row_right(rows, i) {
-            return refused(i);
-        }
-        if !right::counts_agree(rows, i) {
-            return refused(i);
+    for i in 0..n {
+        if !right::row_right(rows, i) || !right::counts_agree(rows, i) {
+            return Err(Fault { row: i as u32 });
         }
         let m = masks::of_row(row_at(rows, i), &free);
         free[i] = m;
-        i += 1;
     }
     if free[n - 1] != 0 {
-        return refused(n - 1);
+        return Err(Fault { row: n as u32 - 1 });
     }
-    Rule {
-        checked: Checked::Right,
-        free,
-    }
+    Ok(free)
 }
 
 // A fact of this predicate and count agrees with every atom of the rule.
 fn fact_agrees(rows: &[u32], predicate: u32, count: u32) -> bool
     ensures { FactAgrees rows.now predicate count result }
 {
-    if 3 < count {
+    if MOST_VALUES < count {
         return false;
     }
-    let n = rows.len() / 9;
-    let mut i: usize = 0;
-    while i < n {
+    for i in 0..rows.len() / 9 {
         if right::other_count(rows, i, predicate, count) {
             return false;
         }
-        i += 1;
     }
     true
 }
@@ -157,18 +140,13 @@ fn fact_agrees(rows: &[u32], predicate: u32, count: u32) -> bool
 pub fn agrees(rows: &[u32], event: Event) -> bool
     ensures { Agrees rows.now event result }
 {
-    if 8 < event.count {
+    if MOST_FACTS < event.count {
         return false;
     }
-    let facts = event.facts;
     let n = event.count as usize;
-    let mut i: usize = 0;
-    while i < n {
-        let fact = facts[i];
-        if !fact_agrees(rows, fact.predicate, fact.count) {
-            return false;
-        }
-        i += 1;
-    }
-    true
+    event
+        .facts
+        .iter()
+        .take(n)
+        .all(|fact| fact_agrees(rows, fact.predicate, fact.count))
 }

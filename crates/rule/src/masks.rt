@@ -1,22 +1,16 @@
-// Free variables as numbers: bit v of a mask says that the variable v is free.
-ghost use Rattle.std.specs.Prelude.{◌≡◌, not, ◌&&◌, ◌||◌, [], ◌∷◌, eqb, length, get_or, take};
+// Sets of the four variables, packed in a number: bit v says that the variable v is in the set. Here the sets are the free variables of rows.
+ghost use Rattle.std.specs.Prelude.{◌≡◌, not, ◌&&◌, ◌||◌, [], ◌∷◌, eqb, length, get_or, map, take};
 ghost use Rattle.meaning.specs.Qtl.{free_arguments};
 ghost use Rattle.rule.specs.Decoded.{argument_of, row_of};
 ghost use Rattle.rule.specs.Masks.{has_bit, mask_of, free_of_row};
 
-use crate::{Argument, Row};
+use crate::{Argument, Atom, Row};
 
 // The mask of one variable. A variable is 0 to 3: any other has no bit.
 fn single(v: u32) -> u32
     ensures { result ≡ mask_of (eqb v) }
 {
-    match v {
-        0 => 1,
-        1 => 2,
-        2 => 4,
-        3 => 8,
-        _ => 0,
-    }
+    if v < 4 { 1 << v } else { 0 }
 }
 
 // The variables of both masks together.
@@ -38,10 +32,7 @@ fn at(free: &[u32; 64], p: u32) -> u32
     requires { length free.now ≡ 64 }
     ensures { result ≡ mask_of (has_bit (get_or free.now p 0)) }
 {
-    if p < 64 {
-        return free[p as usize] % 16;
-    }
-    0
+    if p < 64 { free[p as usize] % 16 } else { 0 }
 }
 
 // The mask of an argument.
@@ -54,21 +45,15 @@ fn of_argument(a: Argument) -> u32
     }
 }
 
-// The mask of the first `q` arguments.
-fn of_arguments(q: u32, a: Argument, b: Argument, c: Argument) -> u32
-    ensures { result ≡ mask_of (free_arguments (take q (argument_of a ∷ argument_of b ∷ argument_of c ∷ []))) }
+// The mask of an atom: of those of its arguments that are used.
+fn of_atom(atom: Atom) -> u32
+    ensures { result ≡ mask_of (free_arguments (take atom.count (map argument_of atom.arguments))) }
 {
-    if q == 0 {
-        return 0;
+    let mut m = 0;
+    for a in atom.arguments.iter().take(atom.count as usize) {
+        m = join(m, of_argument(*a));
     }
-    if q == 1 {
-        return of_argument(a);
-    }
-    let m = join(of_argument(a), of_argument(b));
-    if q == 2 {
-        return m;
-    }
-    join(m, of_argument(c))
+    m
 }
 
 // The mask of a row, over those of the rows that it names.
@@ -78,11 +63,9 @@ pub fn of_row(row: Row, free: &[u32; 64]) -> u32
 {
     match row {
         Row::True => 0,
-        Row::Atom(_, q, a, b, c) => of_arguments(q, a, b, c),
-        Row::And(l, r) => join(at(free, l), at(free, r)),
-        Row::Not(r) => at(free, r),
-        Row::Since(l, r) => join(at(free, l), at(free, r)),
-        Row::Previous(r) => at(free, r),
+        Row::Atom(atom) => of_atom(atom),
+        Row::And(l, r) | Row::Since(l, r) => join(at(free, l), at(free, r)),
+        Row::Not(r) | Row::Previous(r) => at(free, r),
         Row::Exists(x, r) => without(x, at(free, r)),
     }
 }

@@ -1,64 +1,47 @@
 use mathlib.Core.Path.{refl, sym, ◌∙◌}
 use native.Mathlib.Omega.{arith}
-use borrow.Author.Tests.{not-true, not-false}
 use Rattle.meaning.specs.Rows.{count_of_rows}
 use Rattle.rule.proofs.CheckingLaws.{shaped, walk_start, walk_more, walk_all, agreed, fault_row, fault_count, parts_left, no_rows, many_rows, found_fault, found_open, found_right}
 use Rattle.rule.proofs.check.Goals as goal
+use Rattle.rule.proofs.check.Goals.{then-rows-ne0-via-then-rows-ne0, then-rows-ne0-via-else-rows-ne0+then-n-eq0, then-rows-ne0-via-else-rows-ne0+else-n-eq0+then-n-gt-MOST_ROWS, then-not-row_right-via-then-not-row_right, then-not-row_right-via-else-not-row_right+then-not-counts_agree}
 
 pub returns-then-rows-ne0 : goal.returns-then-rows-ne0
-returns-then-rows-ne0 c = rw c.refused.ensures (parts_left _ c.if-rows-ne0.true)
-
-pub returns-then-n-eq0 : goal.returns-then-n-eq0
 unfolding count_of_rows
-returns-then-n-eq0 c = rw c.refused-then-n-eq0.ensures (no_rows _ c.if-n-eq0.true)
-
-pub returns-then-n-gt64 : goal.returns-then-n-gt64
-unfolding count_of_rows
-returns-then-n-gt64 c = rw c.refused-then-n-gt64.ensures (many_rows _ (omega arith))
+returns-then-rows-ne0 c =
+    elim c.then-rows-ne0.branch [
+      | then-rows-ne0-via-then-rows-ne0 w ↦ parts_left _ w.if-rows-ne0.true
+      | then-rows-ne0-via-else-rows-ne0+then-n-eq0 w ↦ no_rows _ w.if-n-eq0.true
+      | then-rows-ne0-via-else-rows-ne0+else-n-eq0+then-n-gt-MOST_ROWS w ↦ many_rows _ w.if-n-gt-MOST_ROWS.true
+    ]
 
 pub loop-i-init : goal.loop-i-init
-loop-i-init c = (refl, c.if-rows-ne0.false, omega arith, omega arith, omega arith, walk_start _)
+loop-i-init c = walk_start _
+
+pub counts_agree-requires : goal.counts_agree-requires
+counts_agree-requires c = (omega arith, λ j h. agreed _ j (c.loop-i.invariant.none j h))
 
 pub returns-then-not-row_right : goal.returns-then-not-row_right
 unfolding count_of_rows
 returns-then-not-row_right c =
-    rw c.refused-then-not-row_right.ensures (found_fault _ (shaped _ _ c.loop-i.invariant.0 c.loop-i.invariant.1 c.loop-i.invariant.2 c.loop-i.invariant.3) _ (omega arith) c.loop-i.invariant.5.none
-    (fault_row _ _ (sym c.row_right.ensures ∙ not-true _ c.if-not-row_right.true-raw)))
-
-pub counts_agree-requires : goal.counts_agree-requires
-counts_agree-requires c = (omega arith, λ j h. agreed _ j (c.loop-i.invariant.5.none j h))
-
-pub returns-then-not-counts_agree : goal.returns-then-not-counts_agree
-unfolding count_of_rows
-returns-then-not-counts_agree c =
-    rw c.refused-then-not-counts_agree.ensures (found_fault _ (shaped _ _ c.loop-i.invariant.0 c.loop-i.invariant.1 c.loop-i.invariant.2 c.loop-i.invariant.3) _ (omega arith) c.loop-i.invariant.5.none
-    (fault_count _ _ (sym c.counts_agree.ensures ∙ not-true _ c.if-not-counts_agree.true-raw)))
+    found_fault _ (shaped _ _ refl c.if-rows-ne0.false (omega arith) c.if-n-gt-MOST_ROWS.false) _ c.loop-i-test.true c.loop-i.invariant.none
+    (elim c.then-not-row_right.branch [
+      | then-not-row_right-via-then-not-row_right w ↦ fault_row _ _ (sym c.row_right.ensures ∙ w.if-not-row_right.true)
+      | then-not-row_right-via-else-not-row_right+then-not-counts_agree w ↦ fault_count _ _ (sym w.counts_agree.ensures ∙ w.if-not-counts_agree.true)
+    ])
 
 pub of_row-m-requires : goal.of_row-m-requires
-of_row-m-requires c = c.loop-i.invariant.5.size
+of_row-m-requires c = c.loop-i.invariant.size
 
 pub loop-i-preserved : goal.loop-i-preserved
 unfolding count_of_rows
 loop-i-preserved c =
-    let l = c.loop-i in (
-      l.invariant.0,
-      l.invariant.1,
-      l.invariant.2,
-      l.invariant.3,
-      omega arith,
-      walk_more _ _ _ _ l.invariant.5 (omega arith) (omega arith)
-          (sym c.row_right.ensures ∙ not-false _ c.if-not-row_right.false-raw) (sym c.counts_agree.ensures ∙ not-false _ c.if-not-counts_agree.false-raw)
-          (rw c.row_at.ensures.says at c.of_row-m.ensures),
-    )
+    walk_more _ _ _ _ c.loop-i.invariant c.loop-i-test.true (omega arith) (sym c.row_right.ensures ∙ c.if-not-row_right.false)
+    (sym c.counts_agree.ensures ∙ c.if-not-counts_agree.false) (rw c.row_at.ensures.says at c.of_row-m.ensures)
 
 pub returns-then-free-n-ne0 : goal.returns-then-free-n-ne0
 unfolding count_of_rows
-returns-then-free-n-ne0 c =
-    let l = c.loop-i in
-    rw c.refused-then-free-n-ne0.ensures (found_open _ l.free (shaped _ _ c.loop-i.invariant.0 c.loop-i.invariant.1 c.loop-i.invariant.2 c.loop-i.invariant.3) (walk_all _ _ _ l.invariant.5 (omega arith)) (λ z. omega arith))
+returns-then-free-n-ne0 c = found_open _ c.loop-i.free (shaped _ _ refl c.if-rows-ne0.false (omega arith) c.if-n-gt-MOST_ROWS.false) (walk_all _ _ _ c.loop-i.invariant (omega arith)) c.if-free-n-ne0.true
 
 pub returns : goal.returns
 unfolding count_of_rows
-returns c =
-    let l = c.loop-i in
-    found_right _ l.free (shaped _ _ c.loop-i.invariant.0 c.loop-i.invariant.1 c.loop-i.invariant.2 c.loop-i.invariant.3) (walk_all _ _ _ l.invariant.5 (omega arith)) (omega arith)
+returns c = found_right _ c.loop-i.free (shaped _ _ refl c.if-rows-ne0.false (omega arith) c.if-n-gt-MOST_ROWS.false) (walk_all _ _ _ c.loop-i.invariant (omega arith)) c.if-free-n-ne0.false

@@ -10,9 +10,9 @@ unfolding row_read
 returns-in-2 c =
     row_read_law _ _ 2 c.field_of-kind.ensures c.field_of-p.ensures c.field_of-q.ensures c.in-2.is
     (atom_read _ _
-    (argument_read_law c.field_of.ensures c.field_of-in-2.ensures c.argument_of-a.ensures)
-    (argument_read_law c.field_of-in-2-2.ensures c.field_of-in-2-3.ensures c.argument_of-b.ensures)
-    (argument_read_law c.field_of-in-2-4.ensures c.field_of-in-2-5.ensures c.argument_of-c.ensures))
+    (argument_read_law c.field_of.ensures c.field_of-in-2.ensures c.argument_of.ensures)
+    (argument_read_law c.field_of-in-2-2.ensures c.field_of-in-2-3.ensures c.argument_of-in-2.ensures)
+    (argument_read_law c.field_of-in-2-4.ensures c.field_of-in-2-5.ensures c.argument_of-in-2-2.ensures))
 
 pub returns-in-3 : goal.returns-in-3
 unfolding row_read

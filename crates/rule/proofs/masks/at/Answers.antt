@@ -10,8 +10,8 @@ use Rattle.rule.proofs.masks.at.Goals as goal
 pub returns-then-p-lt64 : goal.returns-then-p-lt64
 returns-then-p-lt64 c = sym (mask_has _)
 
-pub returns : goal.returns
+pub returns-else-p-lt64 : goal.returns-else-p-lt64
 unfolding mask_of digit has_bit
-returns c =
+returns-else-p-lt64 c =
     let h : length c.args.free.now ≤ c.args.p = omega arith in
     rw (get_or-eq_default c.args.free.now 0 h)

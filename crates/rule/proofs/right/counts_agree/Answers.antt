@@ -9,25 +9,16 @@ use Rattle.rule.proofs.right.counts_agree.Goals as goal
 pub returns-then-field_of-ne2 : goal.returns-then-field_of-ne2
 returns-then-field_of-ne2 c = no_atom _ _ c.field_of.ensures c.if-field_of-ne2.true
 
-pub loop-j-init : goal.loop-j-init
-loop-j-init c = (omega arith, λ k h l. absurd (omega arith))
-
 pub returns-then-is_atom_of : goal.returns-then-is_atom_of
 returns-then-is_atom_of c =
-    let l = c in
-    let s = l in
-    nearest_atom _ _ _ _ (sym l.field_of.ensures ∙ l.if-field_of-ne2.false) l.field_of-p.ensures (omega arith) (λ k h q. l.loop-j.invariant.1 k (omega arith) q)
-    (sym c.is_atom_of.ensures ∙ c.if-is_atom_of.true) (s.requires.1 _ (omega arith)) c.field_of-then-is_atom_of.ensures c.field_of-then-is_atom_of-2.ensures
+    nearest_atom _ _ _ _ (sym c.field_of.ensures ∙ c.if-field_of-ne2.false) c.field_of-p.ensures (omega arith) (λ k h q. c.loop-j.invariant k (omega arith) q)
+    (sym c.is_atom_of.ensures ∙ c.if-is_atom_of.true) (c.requires.1 _ (omega arith)) c.field_of-then-is_atom_of.ensures c.field_of-then-is_atom_of-2.ensures
 
 pub loop-j-preserved : goal.loop-j-preserved
-loop-j-preserved c =
-    let l = c in (
-      omega arith,
-      λ k h q. ⊎_elim
-          (λ e. let z : k ≡ l.loop-j.j - 1 = sym e in rw z (sym c.is_atom_of.ensures ∙ c.if-is_atom_of.false))
-          (λ r. l.loop-j.invariant.1 k (omega arith) q)
-          (eq-or-lt_of_le h),
-    )
+loop-j-preserved c = λ k h q. ⊎_elim
+    (λ e. let z : k ≡ c.loop-j.j - 1 = sym e in rw z (sym c.is_atom_of.ensures ∙ c.if-is_atom_of.false))
+    (λ r. c.loop-j.invariant k (omega arith) q)
+    (eq-or-lt_of_le h)
 
 pub returns : goal.returns
-returns c = first_atom _ _ _ _ c.field_of-p.ensures c.loop-j.invariant.1 (omega arith)
+returns c = first_atom _ _ _ _ c.field_of-p.ensures c.loop-j.invariant (omega arith)

@@ -1,26 +1,25 @@
--- `rule::right::field_right` meets its contract: each code by its use. Assumes nothing.
-use native.Mathlib.Omega.{arith}
+-- `rule::right::field_right` meets its contract: each entry by its use. Assumes nothing.
+use Rattle.std.proofs.Common.{inl, inr}
 use Rattle.meaning.specs.Rows.{field_right}
-use Rattle.rule.specs.Table.{use_coded}
-use Rattle.rule.proofs.TableLaws.{coded_count}
+use Rattle.rule.specs.Table.{used_as}
 use Rattle.rule.proofs.right.field_right.Goals as goal
 
-pub returns-in-0 : goal.returns-in-0
-unfolding use_coded field_right
-returns-in-0 c = rw c.in-0.is
+pub returns-in-Unused : goal.returns-in-Unused
+unfolding used_as field_right
+returns-in-Unused c = rw c.in-Unused.is
 
-pub returns-in-1 : goal.returns-in-1
-unfolding use_coded field_right
-returns-in-1 c = rw c.in-1.is
+pub returns-in-Predicate : goal.returns-in-Predicate
+unfolding used_as field_right
+returns-in-Predicate c = rw c.in-Predicate.is
 
-pub returns-in-2 : goal.returns-in-2
-unfolding use_coded field_right
-returns-in-2 c = rw c.in-2.is
+pub returns-in-Row : goal.returns-in-Row
+unfolding used_as field_right
+returns-in-Row c = rw c.in-Row.is
 
-pub returns-in-3 : goal.returns-in-3
-unfolding use_coded field_right
-returns-in-3 c = rw c.in-3.is
+pub returns-in-Variable : goal.returns-in-Variable
+unfolding used_as field_right
+returns-in-Variable c = rw c.in-Variable.is
 
-pub returns-in_default : goal.returns-in_default
-unfolding field_right
-returns-in_default c = rw (coded_count c.args.code (omega arith))
+pub returns-in-Count : goal.returns-in-Count
+unfolding used_as field_right
+returns-in-Count c = elim c.in-Count.is [ inl e ↦ rw e | inr e ↦ rw e ]

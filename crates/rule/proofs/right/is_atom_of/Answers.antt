@@ -1,12 +1,12 @@
 -- `rule::right::is_atom_of` meets its contract: each return by the tests that led there. Assumes nothing.
-use borrow.Author.Tests.{eq-eqb, ne_eqb}
+use Rattle.std.proofs.Common.{rules}
 use Rattle.rule.specs.Checking.{atom_of}
 use Rattle.rule.proofs.right.is_atom_of.Goals as goal
 
-pub returns-then-field_of-ne2 : goal.returns-then-field_of-ne2
+pub returns-then-field_of-eq2 : goal.returns-then-field_of-eq2
 unfolding atom_of
-returns-then-field_of-ne2 c = rw (← c.field_of.ensures, ne_eqb _ _ c.if-field_of-ne2.true)
+returns-then-field_of-eq2 c = search rules
 
-pub returns : goal.returns
+pub returns-else-field_of-eq2 : goal.returns-else-field_of-eq2
 unfolding atom_of
-returns c = rw (← c.field_of.ensures, ← c.field_of-2.ensures, eq-eqb _ _ c.if-field_of-ne2.false)
+returns-else-field_of-eq2 c = search rules

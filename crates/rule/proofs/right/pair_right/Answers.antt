@@ -1,22 +1,20 @@
 -- `rule::right::pair_right` meets its contract: each return by the tests that led there. Assumes nothing.
-use mathlib.Core.Bool.{or-false}
-use mathlib.Core.Path.{sym}
-use borrow.Author.Tests.{eq-eqb, ne_eqb, not-true, not-false}
+use Rattle.std.proofs.Common.{rules}
 use Rattle.meaning.specs.Rows.{pair_right}
 use Rattle.rule.proofs.right.pair_right.Goals as goal
 
-pub returns-then-mark-ne0 : goal.returns-then-mark-ne0
+pub returns-then-x-lt4 : goal.returns-then-x-lt4
 unfolding pair_right
-returns-then-mark-ne0 c = rw (not-true c.args.used c.if-not-used.true-raw, ne_eqb _ _ c.if-mark-ne0.true)
+returns-then-x-lt4 c = search rules
 
-pub returns-then-not-used : goal.returns-then-not-used
+pub returns-else-x-lt4 : goal.returns-else-x-lt4
 unfolding pair_right
-returns-then-not-used c = rw (not-true c.args.used c.if-not-used.true-raw, eq-eqb _ _ c.if-mark-ne0.false)
+returns-else-x-lt4 c = search rules
 
-pub returns-then-mark-eq0 : goal.returns-then-mark-eq0
+pub returns-then-mark-eq0-2 : goal.returns-then-mark-eq0-2
 unfolding pair_right
-returns-then-mark-eq0 c = rw (not-false c.args.used c.if-not-used.false-raw, c.if-mark-eq0.true) (sym (or-false _))
+returns-then-mark-eq0-2 c = search rules
 
-pub returns : goal.returns
+pub returns-else-mark-eq0-2 : goal.returns-else-mark-eq0-2
 unfolding pair_right
-returns c = rw (not-false c.args.used c.if-not-used.false-raw, ne_eqb _ _ c.if-mark-eq0.false)
+returns-else-mark-eq0-2 c = search rules

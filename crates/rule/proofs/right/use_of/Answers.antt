@@ -1,8 +1,8 @@
 -- `rule::right::use_of` meets its contract: the constant is the table of specs/Table. Assumes nothing.
 use mathlib.Core.Path.{refl}
-use Rattle.rule.specs.Table.{table, code_of}
+use Rattle.rule.specs.Table.{table, entry}
 use Rattle.rule.proofs.right.use_of.Goals as goal
 
 pub returns : goal.returns
-unfolding code_of table
+unfolding entry table
 returns c = refl
