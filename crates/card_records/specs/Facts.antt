@@ -1,5 +1,5 @@
 -- The record that a `Fact` says: its first `count` values, at most three. Assumes nothing.
-use Rattle.std.specs.Prelude.{ℕ, min, Bool, true, false, List, [], ◌∷◌, ◌++◌, ltb, take}
+use Rattle.std.specs.Prelude.{ℕ, min, Bool, true, false, List, [], ◌∷◌, ◌++◌, ltb, take, get_or}
 use Rattle.cards.specs.Bytes.{bytes_of}
 use Rattle.cards.specs.Moments.{Record}
 use Rattle.cards.specs.Blocks.{flag_byte}
@@ -9,7 +9,7 @@ unfoldable pub record_from : Fact → Record
 record_from f = record {
   stamp = f.stamp;
   predicate = f.predicate;
-  values = take f.count (f.first ∷ f.second ∷ f.third ∷ []);
+  values = take f.count (get_or f.values 0 0 ∷ get_or f.values 1 0 ∷ get_or f.values 2 0 ∷ []);
   last = f.last;
 }
 
@@ -28,4 +28,4 @@ marks count last = min count 3 ∷ flag_byte last ∷ 0 ∷ 0 ∷ []
 -- the values, 12 bytes
 unfoldable pub values_bytes : Fact → List ℕ
 values_bytes f =
-    bytes_of 4 (used f.count 0 f.first) ++ (bytes_of 4 (used f.count 1 f.second) ++ bytes_of 4 (used f.count 2 f.third))
+    bytes_of 4 (used f.count 0 (get_or f.values 0 0)) ++ (bytes_of 4 (used f.count 1 (get_or f.values 1 0)) ++ bytes_of 4 (used f.count 2 (get_or f.values 2 0)))

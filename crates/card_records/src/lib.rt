@@ -1,10 +1,10 @@
 // A record of a card as a struct: read from the bytes of a block, and put as bytes. What a record's bytes are is in the crate `cards`.
 #![tactic(auto)]
 
-ghost use Rattle.std.specs.Prelude.{◌≡◌, ◌+◌, ◌*◌, ◌≤◌, min, length, take, drop};
+ghost use Rattle.std.specs.Prelude.{◌≡◌, ◌+◌, ◌*◌, ◌≤◌, length, take, drop};
 ghost use Rattle.std.proofs.lemmas.List.Edits.{sets};
 ghost use Rattle.cards.specs.Bytes.{bytes_of};
-ghost use Rattle.cards.specs.Blocks.{flag_byte, record_of, record_bytes};
+ghost use Rattle.cards.specs.Blocks.{record_of, record_bytes};
 ghost use Rattle.card_records.specs.Facts.{record_from, used, marks, values_bytes};
 
 use card_block::sums::number_at;
@@ -16,17 +16,8 @@ pub struct Fact {
     pub stamp: u32,
     pub predicate: u32,
     pub count: u32,
-    pub first: u32,
-    pub second: u32,
-    pub third: u32,
+    pub values: [u32; 3],
     pub last: bool,
-}
-
-// A byte as a wider number.
-fn wide(x: u8) -> u32
-    ensures { result ≡ x }
-{
-    x as u32
 }
 
 // The record at place i of a block.
@@ -35,21 +26,16 @@ pub fn fact_at(piece: &[u8], i: usize) -> Fact
     ensures { record_from result ≡ record_of (take 24 (drop (6 + 24 * i) piece.now)) }
 {
     let at = 6 + 24 * i;
-    let stamp = number_at(piece, at);
-    let predicate = number_at(piece, at + 4);
-    let count = wide(piece[at + 8]);
-    let last = piece[at + 9] == 1;
-    let first = number_at(piece, at + 12);
-    let second = number_at(piece, at + 16);
-    let third = number_at(piece, at + 20);
     Fact {
-        stamp,
-        predicate,
-        count,
-        first,
-        second,
-        third,
-        last,
+        stamp: number_at(piece, at),
+        predicate: number_at(piece, at + 4),
+        count: u32::from(piece[at + 8]),
+        values: [
+            number_at(piece, at + 12),
+            number_at(piece, at + 16),
+            number_at(piece, at + 20),
+        ],
+        last: piece[at + 9] == 1,
     }
 }
 
@@ -58,13 +44,7 @@ pub fn put_number(out: &mut [u8], at: usize, n: u32)
     requires { at + 4 ≤ length out.old }
     ensures { out.new ≡ sets out.old at (bytes_of 4 n) }
 {
-    let b = n / 256;
-    let c = b / 256;
-    let d = c / 256;
-    out[at] = (n % 256) as u8;
-    out[at + 1] = (b % 256) as u8;
-    out[at + 2] = (c % 256) as u8;
-    out[at + 3] = (d % 256) as u8;
+    out[at..at + 4].copy_from_slice(&n.to_le_bytes());
 }
 
 // The value at place i, and 0 past the count.
@@ -74,29 +54,13 @@ fn value_of(count: u32, i: u32, value: u32) -> u32
     if i < count { value } else { 0 }
 }
 
-// The count of values, at most 3.
-fn count_of(count: u32) -> u8
-    ensures { result ≡ min count 3 }
-{
-    if count < 3 { count as u8 } else { 3 }
-}
-
-// The flag's byte.
-fn flag_of(last: bool) -> u8
-    ensures { result ≡ flag_byte last }
-{
-    if last { 1 } else { 0 }
-}
-
-// Puts the count of values, the flag and two zero bytes.
+// Puts the count of values, at most 3, the flag and two zero bytes.
 fn put_marks(out: &mut [u8], at: usize, count: u32, last: bool)
     requires { at + 4 ≤ length out.old }
     ensures { out.new ≡ sets out.old at (marks count last) }
 {
-    out[at] = count_of(count);
-    out[at + 1] = flag_of(last);
-    out[at + 2] = 0;
-    out[at + 3] = 0;
+    let marks = [count.min(3) as u8, u8::from(last), 0, 0];
+    out[at..at + 4].copy_from_slice(&marks);
 }
 
 // Puts three values.
@@ -104,10 +68,9 @@ fn put_values(out: &mut [u8], at: usize, f: Fact)
     requires { at + 12 ≤ length out.old }
     ensures { out.new ≡ sets out.old at (values_bytes f) }
 {
-    let count = f.count;
-    put_number(out, at, value_of(count, 0, f.first));
-    put_number(out, at + 4, value_of(count, 1, f.second));
-    put_number(out, at + 8, value_of(count, 2, f.third));
+    put_number(out, at, value_of(f.count, 0, f.values[0]));
+    put_number(out, at + 4, value_of(f.count, 1, f.values[1]));
+    put_number(out, at + 8, value_of(f.count, 2, f.values[2]));
 }
 
 // Puts a record as 24 bytes.

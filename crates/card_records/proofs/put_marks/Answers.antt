@@ -1,17 +1,13 @@
 -- `put_marks` meets its contract. Assumes nothing.
-use native.Mathlib.Omega.{arith}
-use lib.ListN.{length-set}
-use Rattle.card_records.proofs.FactLaws.{sets_marks}
+use mathlib.Core.Path.{◌≡◌, ap, ◌∙◌}
+use lib.ListN.{length}
+use lib.Seq.{sets}
+use Rattle.card_records.specs.Facts.{marks}
+use Rattle.card_records.proofs.FactLaws.{put_part, length_marks, flag_is}
 use Rattle.card_records.proofs.put_marks.Goals as goal
 
-pub bounds-out-at-2 : goal.bounds-out-at-2
-bounds-out-at-2 c = simp length-set (omega arith)
-
-pub bounds-out-at-3 : goal.bounds-out-at-3
-bounds-out-at-3 c = simp length-set (omega arith)
-
-pub bounds-out-at-4 : goal.bounds-out-at-4
-bounds-out-at-4 c = simp length-set (omega arith)
-
 pub returns : goal.returns
-returns c = sets_marks _ _ _ _ _ _ c.count_of.ensures c.flag_of.ensures
+unfolding marks
+returns c =
+    let put : c.copy_from_slice.new.self ≡ marks c.args.count c.args.last = rw (c.copy_from_slice.ensures.after, c.min.ensures, c.from.ensures, flag_is c.args.last) in
+    put_part 4 _ _ _ c.requires (ap length put ∙ length_marks c.args.count c.args.last) ∙ ap (sets c.args.out.now c.args.at) put

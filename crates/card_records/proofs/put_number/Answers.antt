@@ -1,17 +1,11 @@
 -- `put_number` meets its contract. Assumes nothing.
-use native.Mathlib.Omega.{arith}
-use lib.ListN.{length-set}
-use Rattle.card_records.proofs.FactLaws.{sets_number}
+use mathlib.Core.Path.{ap, ◌∙◌}
+use lib.ListN.{length}
+use lib.Seq.{sets}
+use Rattle.card_records.proofs.FactLaws.{le_bytes, put_part, length_four}
 use Rattle.card_records.proofs.put_number.Goals as goal
 
-pub bounds-out-at-2 : goal.bounds-out-at-2
-bounds-out-at-2 c = simp length-set (omega arith)
-
-pub bounds-out-at-3 : goal.bounds-out-at-3
-bounds-out-at-3 c = simp length-set (omega arith)
-
-pub bounds-out-at-4 : goal.bounds-out-at-4
-bounds-out-at-4 c = simp length-set (omega arith)
-
 pub returns : goal.returns
-returns c = sets_number _ _ _
+returns c =
+    let put = c.copy_from_slice.ensures.after ∙ c.to_le_bytes.ensures ∙ le_bytes c.args.n in
+    put_part 4 _ _ _ c.requires (ap length put ∙ length_four c.args.n) ∙ ap (sets c.args.out.now c.args.at) put
