@@ -1,13 +1,16 @@
 -- Laws of the passes over references and single nodes. Assumes nothing.
 use Prim.Native.Nat.{ℕ, zero, suc, ◌+◌, ◌*◌, ◌-◌, ◌≤◌, ◌<◌}
 use mathlib.Core.Path.{◌≡◌, refl, sym}
-use mathlib.Core.Bool.{Bool, true, false, not, ◌&&◌}
-use mathlib.Core.List.{List}
+use mathlib.Core.Bool.{Bool, true, false, ◌&&◌}
+use mathlib.Core.List.{List, [], ◌∷◌}
 use mathlib.Core.Logic.{◌≢◌, ⊎_elim}
 use native.Mathlib.Omega.{arith}
 use lib.Bits.{bit_or, or_add_and, and_le_l, and_le_r}
+use Rattle.std.specs.Prelude.{Option, Some, None}
+use Rattle.std.specs.Option.{is_some}
+use Rattle.std.specs.List.{fold}
 use lib.Dec.{eqb, ltb}
-use lib.ListN.{length, get_or, get_or-eq_default}
+use lib.ListN.{get_or, get_or-eq_default}
 use borrow.Author.Tests.{eq-eqb, ne_eqb, eqb-true, lt-ltb, le-ltb}
 use Rattle.trees.specs.Table.{NodeIs}
 use Rattle.trees.specs.Kept.{above, node_right, equal_nodes}
@@ -21,15 +24,14 @@ pub equal_true : (ns : List ℕ) (i j : ℕ)
 unfolding equal_nodes
 equal_true ns i j e f g = rw (eq-eqb _ _ e, eq-eqb _ _ f, eq-eqb _ _ g)
 
--- a test that failed
-pub says_no : (P : Type 0) (b : Bool) → Decides P b → not b ≡ true → P → ⊥
-says_no P true d e p = false_true refl e
-says_no P false d e p = d p
+-- what a search has found, or has not
+pub some_is : (r : Option ℕ) → is_some r ≡ true → (j : ℕ) × (r ≡ Some j)
+some_is (Some j) e = (j, refl)
+some_is None e = absurd (false_true refl e)
 
--- a test that held
-pub says_yes : (P : Type 0) (b : Bool) → Decides P b → not b ≡ false → P
-says_yes P true d e = d
-says_yes P false d e = absurd (false_true e refl)
+pub none_is : (r : Option ℕ) → is_some r ≡ false → r ≡ None
+none_is (Some j) e = absurd (false_true e refl)
+none_is None e = refl
 
 -- the or of two numbers is 0 if both are
 or_zero : (a b : ℕ) → bit_or a b ≡ 0 → (a ≡ 0) × (b ≡ 0)
@@ -38,35 +40,29 @@ or_zero a b e = (omega (arith, or_add_and a b, and_le_r a b), omega (arith, or_a
 zero_or : (a b : ℕ) → a ≡ 0 → b ≡ 0 → bit_or a b ≡ 0
 zero_or a b e f = omega (arith, or_add_and a b)
 
--- the numbers from one place on and before another are 0
-abbrev ZeroTo : ℕ → List ℕ → ℕ → Type 0
-ZeroTo from xs i = (j : ℕ) → from ≤ j → j < i → get_or xs j 0 ≡ 0
-
--- which their or tells
-pub record Ored (from : ℕ) (xs : List ℕ) (i all : ℕ) : Type 0 where
-  pub start : from ≤ i
-  pub zeros : all ≡ 0 → ZeroTo from xs i
-  pub none : ZeroTo from xs i → all ≡ 0
-
--- at first there are none
-pub ored_none : (from : ℕ) (xs : List ℕ) → Ored from xs from 0
-ored_none from xs = record { start = omega arith; zeros = λ e j h k. absurd (omega arith); none = λ z. refl }
-
--- one number more
-pub ored_more : {from : ℕ} {xs : List ℕ} {i all : ℕ} → Ored from xs i all → Ored from xs (i + 1) (bit_or all (get_or xs i 0))
-ored_more {from} {xs} {i} {all} o = record {
-  start = omega (arith, o.start);
-  zeros = λ e j h k. ⊎_elim (λ l. o.zeros (or_zero all (get_or xs i 0) e).0 j h l) (λ l. let q : j ≡ i = omega arith in rw q (or_zero all (get_or xs i 0) e).1) (lt_or_ge j i);
-  none = λ z. zero_or all (get_or xs i 0) (o.none (λ j h k. z j h (omega arith))) (z i o.start (omega arith));
-}
-
--- and once the end is reached it tells of all
-pub ored_end : {from : ℕ} {xs : List ℕ} {i all : ℕ} → Ored from xs i all → length xs ≤ i → Decides (ZeroFrom from xs) (eqb all 0)
-ored_end {from} {xs} {i} {all} o l = go (eqb all 0) (eq_case all 0)
+-- numbers whose or is 0 are 0
+or_none : (xs : List ℕ) (a : ℕ) → fold bit_or a xs ≡ 0 → (a ≡ 0) × ZeroFrom 0 xs
+or_none [] a e = (e, λ j h. get_or-eq_default [] 0 {n = j} (omega arith))
+or_none (x ∷ xs) a e =
+    let r = or_none xs (bit_or a x) e in
+    let z = or_zero a x r.0 in
+    (z.0, λ j h. go r.1 z.1 j)
   where
-    go : (b : Bool) → EqCase all 0 b → Decides (ZeroFrom from xs) b
-    go true (equal e) = λ j h. ⊎_elim (λ k. o.zeros e j h k) (λ k. get_or-eq_default xs 0 (omega arith)) (lt_or_ge j i)
-    go false (other e) = λ z. e (o.none (λ j h k. z j h))
+    go : ZeroFrom 0 xs → x ≡ 0 → (j : ℕ) → get_or (x ∷ xs) j 0 ≡ 0
+    go rest first zero = first
+    go rest first (suc j) = rest j (omega arith)
+
+none_or : (xs : List ℕ) (a : ℕ) → a ≡ 0 → ZeroFrom 0 xs → fold bit_or a xs ≡ 0
+none_or [] a e z = e
+none_or (x ∷ xs) a e z = none_or xs (bit_or a x) (zero_or a x e (z 0 (omega arith))) (λ j h. z (suc j) (omega arith))
+
+-- so the or tells whether numbers are 0
+pub or_tells : (xs : List ℕ) → Decides (ZeroFrom 0 xs) (eqb (fold bit_or 0 xs) 0)
+or_tells xs = go (eqb (fold bit_or 0 xs) 0) (eq_case (fold bit_or 0 xs) 0)
+  where
+    go : (b : Bool) → EqCase (fold bit_or 0 xs) 0 b → Decides (ZeroFrom 0 xs) b
+    go true (equal e) = (or_none xs 0 e).1
+    go false (other e) = λ z. e (none_or xs 0 refl z)
 
 -- what holds of each below i, and of i, holds of each below i + 1
 pub more : (P : ℕ → Type 0) (i : ℕ) → ((j : ℕ) → j < i → P j) → P i → (j : ℕ) → j < i + 1 → P j

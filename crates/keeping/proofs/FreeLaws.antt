@@ -4,8 +4,7 @@ use mathlib.Core.Path.{◌≡◌, refl, sym, ◌∙◌}
 use mathlib.Core.Bool.{Bool, true, false, ◌&&◌, ◌||◌}
 use mathlib.Core.List.{List}
 use mathlib.Core.Logic.{⊎_elim}
-use native.Mathlib.Decide.{ℕ_discrete}
-use native.Mathlib.Nat.{le-div_iff_mul-le, div-lt_iff_lt-mul}
+use native.Mathlib.Nat.{div-lt_iff_lt-mul}
 use native.Mathlib.Omega.{arith}
 use lib.Bits.{bit_or}
 use lib.Dec.{eqb, ltb}
@@ -21,14 +20,6 @@ use Rattle.trees.proofs.TreeLaws.{node_fine}
 use Rattle.nodes.specs.Nodes.{Table, Rows, Decides}
 use Rattle.keeping.specs.Checks.{free_by, has_bit, asked, Marks, RowsAllowed, FreeOnly}
 use Rattle.keeping.proofs.BitLaws.{or_has, none_has, one_has, within_has, has_within}
-
--- the set of a level's variable, by what the level is between
-pub own_is : (l k v : ℕ) → 0 < k → v * k ≤ l → l < suc v * k → 2 ^ v ≡ 2 ^ (l / k)
-own_is l k v pos low high =
-    let p = (le-div_iff_mul-le {x = v} {y = l} pos).1 low in
-    let q = (div-lt_iff_lt-mul {x = l} {y = suc v} pos).1 high in
-    let e : l / k ≡ v = omega arith in
-    rw e
 
 -- with 0 at both leaves no node is marked yet
 pub marks_none : (ns : List ℕ) (kept k : ℕ) (w : List ℕ) → 2 ≤ length w → Marks ns kept k (set (set w 0 0) 1 0) 0
@@ -49,15 +40,6 @@ asks_is {ns} {kept} {k} {w} {j} t h m v =
     let high = get_or ns (3 * j + 2) 0 in
     let back = t.back j h in
     rw (at_node ns kept j t.back h, or_has v (2 ^ (get_or ns (3 * j) 0 / k)) (bit_or (get_or w low 0) (get_or w high 0)), or_has v (get_or w low 0) (get_or w high 0), one_has (get_or ns (3 * j) 0 / k) v, m.is low back.0 v, m.is high back.1 v)
-
--- one node more is marked
-pub marks_more : {ns : List ℕ} {kept k : ℕ} {w : List ℕ} {n : ℕ} → Marks ns kept k w n → n + 2 < length w
-    → (x : ℕ) → ((v : ℕ) → has_bit x v ≡ asked k v (at (trees_of ns kept) (n + 2))) → Marks ns kept k (set w (n + 2) x) (n + 1)
-marks_more {ns} {kept} {k} {w} {n} m l x e = record { is = λ r h v. go r h v (ℕ_discrete r (n + 2)) }
-  where
-    go : (r : ℕ) → r < n + 1 + 2 → (v : ℕ) → Dec (r ≡ n + 2) → has_bit (get_or (set w (n + 2) x) r 0) v ≡ asked k v (at (trees_of ns kept) r)
-    go r h v (yes q) = rw (q, get_or-set_same w (n + 2) x 0 l) (e v)
-    go r h v (no q) = rw (get_or-set_other w (n + 2) r x 0 q) (m.is r (omega arith) v)
 
 module _ (k : ℕ) (allowed : List ℕ) (i : ℕ) where
   -- a tree whose levels are free asks only variables that are allowed

@@ -1,20 +1,21 @@
 -- Laws of the walk that finds whether kept nodes stand in canonical order. Assumes nothing.
 use Prim.Native.Nat.{ℕ, zero, suc, ◌+◌, ◌≤◌, ◌<◌}
 use mathlib.Core.Path.{◌≡◌, refl, sym, ap, ◌∙◌}
-use mathlib.Core.Bool.{false}
+use mathlib.Core.Bool.{Bool, true, false}
 use mathlib.Core.List.{List, [], ◌∷◌, ◌++◌}
 use mathlib.Core.Logic.{◌≢◌, ⊎_elim}
 use native.Mathlib.Nat.{eq-or-lt_of_le}
 use native.Mathlib.Omega.{arith}
 use native.Mathlib.Numerals.{add-one}
+use lib.Dec.{eqb}
 use lib.ListN.{length, get_or, length-append}
 use Rattle.trees.specs.Tree.{Tree, node}
 use Rattle.trees.specs.Table.{mem, add_tree, add_trees, at, node_at, trees_of}
 use Rattle.trees.specs.Kept.{diagrams}
-use Rattle.trees.proofs.Tests.{lt_or_ge, not_true}
+use Rattle.trees.proofs.Tests.{EqCase, equal, other, eq_case, not_true}
 use Rattle.trees.proofs.TableLaws.{Goes, goes_refl, goes_trans, goes_at, at_index, mem_place, push_out, push_goes, add_goes, add_in}
-use Rattle.nodes.specs.Nodes.{Table, Splits, canonical}
-use Rattle.keeping.specs.Checks.{InOrder, OutOfOrder, Follows, InRowOrder}
+use Rattle.nodes.specs.Nodes.{Table, Splits, canonical, Decides}
+use Rattle.keeping.specs.Checks.{InOrder, OutOfOrder, InRowOrder}
 use Rattle.trees.proofs.ReadLaws.{length_trees, at_end, trees_goes, back_closed}
 use Rattle.nodes.proofs.PartLaws.{sides_only}
 use Rattle.nodes.proofs.ReadLaws.{canonical_suc}
@@ -30,7 +31,7 @@ unfolding add_tree
 high_goes ts l x y = push_goes (add_tree (add_tree ts x) y) (node l x y)
 
 -- the low side stands out of order
-order_low : {ns : List ℕ} {kept n r l a b : ℕ} → Splits ns kept r l a b → OutOfOrder ns kept n a → OutOfOrder ns kept n r
+pub order_low : {ns : List ℕ} {kept n r l a b : ℕ} → Splits ns kept r l a b → OutOfOrder ns kept n a → OutOfOrder ns kept n r
 order_low {ns} {kept} {n} {r} {l} {a} {b} s o = record {
   never = λ more e.
       let g = goes_trans (low_goes (trees_of ns n) l (at (trees_of ns kept) a) (at (trees_of ns kept) b)) (record { more = more; is = rw s.is at e }) in
@@ -38,7 +39,7 @@ order_low {ns} {kept} {n} {r} {l} {a} {b} s o = record {
 }
 
 -- the high side does
-order_high : {ns : List ℕ} {kept n n₁ r l a b : ℕ} → Splits ns kept r l a b → InOrder ns kept n a n₁ → OutOfOrder ns kept n₁ b → OutOfOrder ns kept n r
+pub order_high : {ns : List ℕ} {kept n n₁ r l a b : ℕ} → Splits ns kept r l a b → InOrder ns kept n a n₁ → OutOfOrder ns kept n₁ b → OutOfOrder ns kept n r
 order_high {ns} {kept} {n} {n₁} {r} {l} {a} {b} s p o = record {
   never = λ more e.
       let g = goes_trans (high_goes (trees_of ns n) l (at (trees_of ns kept) a) (at (trees_of ns kept) b)) (record { more = more; is = rw s.is at e }) in
@@ -51,7 +52,7 @@ module _ {ns : List ℕ} {kept : ℕ} (t : Table ns kept) where
   early n r h k = goes_at (trees_goes ns n kept h) r (omega (arith, length_trees ns n))
 
   -- a leaf, or a place that was passed
-  order_passed : {n r : ℕ} → n ≤ kept → r < n + 2 → InOrder ns kept n r n
+  pub order_passed : {n r : ℕ} → n ≤ kept → r < n + 2 → InOrder ns kept n r n
   order_passed {n} {r} h k = record {
     more = omega arith;
     fits = h;
@@ -87,7 +88,7 @@ module _ {ns : List ℕ} {kept : ℕ} (t : Table ns kept) where
     added = rw (s.is, p.trees, q.trees) (push_out (trees_of ns n₂) (node l x y) (rw both (sides_only (trees_of ns n) l x y before)))
 
     -- the node stands elsewhere
-    order_place : n₂ + 2 ≢ r → OutOfOrder ns kept n r
+    pub order_place : n₂ + 2 ≢ r → OutOfOrder ns kept n r
     unfolding x y
     order_place ne = record {
       never = λ more e.
@@ -102,7 +103,7 @@ module _ {ns : List ℕ} {kept : ℕ} (t : Table ns kept) where
     }
 
     -- the node stands at its place
-    order_node : n₂ + 2 ≡ r → InOrder ns kept n r (n₂ + 1)
+    pub order_node : n₂ + 2 ≡ r → InOrder ns kept n r (n₂ + 1)
     unfolding trees_of x y
     order_node e =
         let len = length_trees ns n₂ in
@@ -115,42 +116,6 @@ module _ {ns : List ℕ} {kept : ℕ} (t : Table ns kept) where
           trees = added ∙ rw (add-one n₂) (ap (λ (d : Tree). trees_of ns n₂ ++ d ∷ []) (sym here));
         }
 
--- a reference r is followed from the count n, unless it was passed; from a count over kept all were passed
-pub record Followed (ns : List ℕ) (kept n r n' : ℕ) : Type 0 where
-  pub most : n' ≤ kept + 1
-  pub inside : n' ≤ kept → (n ≤ kept) × InOrder ns kept n r n'
-  pub over : n ≤ kept → kept < n' → OutOfOrder ns kept n r
-
--- it was followed
-pub followed : {ns : List ℕ} {kept n r n' : ℕ} → n ≤ kept → Follows ns kept n r n' → Followed ns kept n r n'
-followed h f = record { most = f.most; inside = λ k. (h, f.inside k); over = λ k. f.over }
-
-module _ {ns : List ℕ} {kept : ℕ} (t : Table ns kept) where
-  -- it was passed
-  pub followed_not : {n r : ℕ} → n ≤ kept + 1 → r < n + 2 → Followed ns kept n r n
-  followed_not h k = record { most = h; inside = λ l. (l, order_passed t l k); over = λ l m. absurd (omega arith) }
-
-  -- both sides were followed: the node stands at its place, or elsewhere
-  module _ {n n₁ n₂ r l a b : ℕ} (s : Splits ns kept r l a b) (in₀ : n ≤ kept) (low : n + 2 ≤ r) (top : r < kept + 2) (p : Followed ns kept n a n₁) (q : Followed ns kept n₁ b n₂) where
-    pub follows_no : n₂ + 2 ≢ r → Follows ns kept n r (kept + 1)
-    follows_no ne = record {
-      most = omega arith;
-      inside = λ h. absurd (omega arith);
-      over = λ _. ⊎_elim
-          (λ h. order_low s (p.over in₀ h))
-          (λ h. ⊎_elim
-          (λ k. order_high s (p.inside h).1 (q.over h k))
-          (λ k. order_place t s low top (p.inside h).1 (q.inside k).1 ne)
-          (lt_or_ge kept n₂))
-          (lt_or_ge kept n₁);
-    }
-
-    pub follows_node : n₂ + 2 ≡ r → Follows ns kept n r (n₂ + 1)
-    follows_node e =
-        let h : n₂ ≤ kept = omega arith in
-        let o = order_node t s low top (p.inside (q.inside h).0).1 (q.inside h).1 e in
-        record { most = omega arith; inside = λ k. o; over = λ k. absurd (omega (arith, o.fits)) }
-
 -- the tables of more rows go on from those of fewer
 canonical_goes : (ns : List ℕ) (m : ℕ) (refs : List ℕ) (i j : ℕ) → i ≤ j → j ≤ length refs → Goes (canonical ns m refs i) (canonical ns m refs j)
 canonical_goes ns m refs i zero h k = let e : i ≡ 0 = omega arith in rw e (goes_refl (canonical ns m refs 0))
@@ -162,37 +127,33 @@ canonical_goes ns m refs i (suc j) h k = ⊎_elim
     goes_trans (canonical_goes ns m refs i j (omega arith) (omega arith)) (rw (← one, step) (add_goes (canonical ns m refs j) (at (trees_of ns m) (get_or refs j 0)))))
     (eq-or-lt_of_le h)
 
--- the first i rows lead to the first n nodes, or, where n is over kept, the rows are not in order
-pub record RowsFollowed (ns : List ℕ) (kept : ℕ) (refs : List ℕ) (count i n : ℕ) : Type 0 where
-  pub most : n ≤ kept + 1
-  pub inside : n ≤ kept → canonical ns kept refs i ≡ trees_of ns n
-  pub over : kept < n → InRowOrder ns kept refs count → ⊥
+-- the first i rows lead to the first n nodes
+pub record RowsFollowed (ns : List ℕ) (kept : ℕ) (refs : List ℕ) (i n : ℕ) : Type 0 where
+  pub fits : n ≤ kept
+  pub trees : canonical ns kept refs i ≡ trees_of ns n
 
-module _ (ns : List ℕ) (kept : ℕ) (refs : List ℕ) (count : ℕ) where
-  pub rows_none : RowsFollowed ns kept refs count 0 0
+module _ (ns : List ℕ) (kept : ℕ) (refs : List ℕ) where
+  pub rows_none : RowsFollowed ns kept refs 0 0
   unfolding canonical diagrams add_trees trees_of
-  rows_none = record { most = omega arith; inside = λ h. refl; over = λ h. absurd (omega arith) }
+  rows_none = record { fits = omega arith; trees = refl }
 
   -- one row more
-  pub rows_more : (i n n' : ℕ) → i < count → count ≤ length refs → RowsFollowed ns kept refs count i n → Followed ns kept n (get_or refs i 0) n'
-      → RowsFollowed ns kept refs count (i + 1) n'
-  rows_more i n n' h k w f = record {
-    most = f.most;
-    inside = λ l. let o = f.inside l in canonical_suc ns kept refs i (omega arith) ∙ rw (w.inside o.0) o.1.trees;
-    over = λ l e. ⊎_elim
-        (λ m. w.over m e)
-        (λ m.
-        let g = canonical_goes ns kept refs (i + 1) count (omega arith) k in
-        (f.over m l).never g.more (sym e ∙ g.is ∙ ap (λ (ts : List Tree). ts ++ g.more) (canonical_suc ns kept refs i (omega arith) ∙ ap (λ (ts : List Tree). add_tree ts (at (trees_of ns kept) (get_or refs i 0))) (w.inside m))))
-        (lt_or_ge kept n);
+  pub rows_more : (i n n' : ℕ) → i < length refs → RowsFollowed ns kept refs i n → InOrder ns kept n (get_or refs i 0) n' → RowsFollowed ns kept refs (i + 1) n'
+  rows_more i n n' h w o = record {
+    fits = o.fits;
+    trees = canonical_suc ns kept refs i h ∙ rw w.trees o.trees;
   }
 
-  -- all rows are in order, and nodes are left over or not
-  pub rows_short : (n : ℕ) → RowsFollowed ns kept refs count count n → n ≢ kept → InRowOrder ns kept refs count → ⊥
-  rows_short n w ne f = ⊎_elim
-      (λ h. w.over h f)
-      (λ h. ne (sym (length_trees ns n) ∙ ap length (sym (w.inside h) ∙ f) ∙ length_trees ns kept))
-      (lt_or_ge kept n)
+  -- a row that stands out of order
+  pub rows_out : (i n count : ℕ) → i < count → count ≤ length refs → RowsFollowed ns kept refs i n → OutOfOrder ns kept n (get_or refs i 0) → InRowOrder ns kept refs count → ⊥
+  rows_out i n count h k w o e =
+      let g = canonical_goes ns kept refs (i + 1) count (omega arith) k in
+      o.never g.more (sym e ∙ g.is ∙ ap (λ (ts : List Tree). ts ++ g.more) (canonical_suc ns kept refs i (omega arith) ∙ ap (λ (ts : List Tree). add_tree ts (at (trees_of ns kept) (get_or refs i 0))) w.trees))
 
-  pub rows_whole : (n : ℕ) → RowsFollowed ns kept refs count count n → n ≡ kept → InRowOrder ns kept refs count
-  rows_whole n w e = rw e at (w.inside (omega arith))
+  -- all rows are in order, and nodes are left over or not
+  pub rows_end : (count n : ℕ) → RowsFollowed ns kept refs count n → Decides (InRowOrder ns kept refs count) (eqb n kept)
+  rows_end count n w = go (eqb n kept) (eq_case n kept)
+    where
+      go : (b : Bool) → EqCase n kept b → Decides (InRowOrder ns kept refs count) b
+      go true (equal e) = rw e at w.trees
+      go false (other ne) = λ f. ne (sym (length_trees ns n) ∙ ap length (sym w.trees ∙ f) ∙ length_trees ns kept)

@@ -1,7 +1,7 @@
 -- The passes together say whether the diagrams are well kept. Assumes nothing.
-use Prim.Native.Nat.{ℕ, ◌*◌, ◌/◌, ◌≤◌, ◌<◌}
-use mathlib.Core.Path.{◌≡◌, refl, sym, ap, ◌∙◌}
-use mathlib.Core.Bool.{Bool, true, false, not, ◌&&◌}
+use Prim.Native.Nat.{ℕ, ◌*◌, ◌≤◌, ◌<◌}
+use mathlib.Core.Path.{◌≡◌, sym, ap, ◌∙◌}
+use mathlib.Core.Bool.{Bool, true, false, ◌&&◌}
 use mathlib.Core.List.{List, []}
 use native.Mathlib.Omega.{arith}
 use lib.ListN.{length, get_or, take, length-map, get_or-map}
@@ -9,16 +9,15 @@ use lib.Seq.{length-take-le, get_or-take}
 use Rattle.trees.specs.Tree.{Tree, off, on, node}
 use Rattle.trees.specs.Table.{add_trees, at, node_at, trees_of}
 use Rattle.trees.specs.Kept.{levels, diagrams, WellKept, well_kept}
-use Rattle.trees.proofs.Tests.{false_true, not_true, and_true_l, and_true_r}
+use Rattle.trees.proofs.Tests.{not_true, and_true_l, and_true_r}
 use Rattle.trees.proofs.TableLaws.{at_index}
 use Rattle.trees.proofs.RoomLaws.{Part, whole, low, high, all_adds}
 use Rattle.trees.proofs.KeptLaws.{kept_of, of_kept}
-use Rattle.nodes.specs.Nodes.{Rest, Table, Rows, canonical, Decides}
-use Rattle.keeping.specs.Checks.{free_by, Inside, ZeroFrom, Right, Apart, InRowOrder, FreeOnly, CheckLeaves}
+use Rattle.nodes.specs.Nodes.{Table, Rows, canonical, Decides}
+use Rattle.keeping.specs.Checks.{free_by, Inside, ZeroFrom, Right, Apart, InRowOrder, FreeOnly}
 use Rattle.trees.proofs.ReadLaws.{length_trees, at_node}
 use Rattle.keeping.proofs.FreeLaws.{free_below}
 use Rattle.keeping.proofs.SoundLaws.{right_back, sound_table, sound_rows}
-use Rattle.keeping.proofs.CheckLaws.{says_no}
 
 -- the passes over references and single nodes hold
 pub record Passed (k C count : ℕ) (refs : List ℕ) (kept : ℕ) (ns : List ℕ) : Type 0 where
@@ -94,11 +93,6 @@ module _ (k : ℕ) (allowed : List ℕ) (C count : ℕ) (refs : List ℕ) (kept 
   pub refused : (WellKept (free_by k allowed) C count refs kept ns → ⊥) → false ≡ well_kept (free_by k allowed) C count refs kept ns
   refused h = sym (not_true (well_kept (free_by k allowed) C count refs kept ns) (λ e. h (kept_of (free_by k allowed) C count refs kept ns e)))
 
-  -- a pass fails that well kept diagrams would hold in
-  pub refused_by : (P : Type 0) (b : Bool) → Decides P b → not b ≡ true → (WellKept (free_by k allowed) C count refs kept ns → P)
-      → false ≡ well_kept (free_by k allowed) C count refs kept ns
-  refused_by P b d e h = refused (λ w. says_no P b d e (h w))
-
   -- well kept nodes are in canonical order
   pub kept_order : WellKept (free_by k allowed) C count refs kept ns → InRowOrder ns kept refs count
   unfolding canonical
@@ -120,11 +114,3 @@ module _ (k : ℕ) (allowed : List ℕ) (C count : ℕ) (refs : List ℕ) (kept 
         rest = p.rest;
       }))
   verdict p order false d = refused (λ w. d w.free_only)
-
--- where the answer is no, the chains are of no account
-pub leaves_no : {ns : List ℕ} {kept : ℕ} {w w' : List ℕ} → Rest (15 * (length ns / 3)) w w' → CheckLeaves ns kept w w' false
-leaves_no r = record { rest = r; chained = λ e. absurd (false_true refl e) }
-
--- and nothing may have been written yet
-pub leaves_all : (ns : List ℕ) (kept : ℕ) (w : List ℕ) → CheckLeaves ns kept w w false
-leaves_all ns kept w = leaves_no (record { eq = λ i h. refl })

@@ -1,5 +1,5 @@
 -- What the check of a state's diagrams asks, pass by pass. Assumes nothing: these are definitions.
-use Rattle.std.specs.Prelude.{ℕ, ◌+◌, ◌*◌, ◌/◌, ◌%◌, ◌^◌, ◌≤◌, ◌<◌, ◌≡◌, Bool, true, false, ◌&&◌, ◌||◌, List, ◌++◌, eqb, ltb, length, get_or}
+use Rattle.std.specs.Prelude.{ℕ, ◌+◌, ◌*◌, ◌/◌, ◌%◌, ◌^◌, ◌≤◌, ◌<◌, ◌≡◌, Bool, true, false, ◌&&◌, ◌||◌, List, ◌++◌, Option, Some, None, eqb, ltb, length, get_or}
 use Rattle.std.specs.Int.Bits.{bit_or}
 use Rattle.trees.specs.Tree.{Tree, off, on, node}
 use Rattle.trees.specs.Table.{add_tree, at, trees_of}
@@ -38,11 +38,10 @@ pub record InOrder (ns : List ℕ) (kept n r n' : ℕ) : Type 0 where
 pub record OutOfOrder (ns : List ℕ) (kept n r : ℕ) : Type 0 where
   pub never : (more : List Tree) → trees_of ns kept ≡ add_tree (trees_of ns n) (at (trees_of ns kept) r) ++ more → ⊥
 
--- what the walk over a diagram answers: the count of nodes it leads to, or one over kept
-pub record Follows (ns : List ℕ) (kept n r n' : ℕ) : Type 0 where
-  pub most : n' ≤ kept + 1
-  pub inside : n' ≤ kept → InOrder ns kept n r n'
-  pub over : kept < n' → OutOfOrder ns kept n r
+-- what the walk over a diagram answers: the count of nodes it leads to, or that it is out of order
+abbrev pub Follows : List ℕ → ℕ → ℕ → ℕ → Option ℕ → Type 0
+Follows ns kept n r (Some n') = InOrder ns kept n r n'
+Follows ns kept n r None = OutOfOrder ns kept n r
 
 -- the kept nodes are the rows' diagrams, in canonical order
 abbrev pub InRowOrder : List ℕ → ℕ → List ℕ → ℕ → Type 0

@@ -5,36 +5,22 @@ ghost use Rattle.nodes.specs.Nodes.{Between, Decides};
 ghost use Rattle.nodes.specs.Chains.{Chained};
 ghost use Rattle.keeping.specs.Checks.{Inside, ZeroFrom, Right, Apart, Sized};
 
+use nodes::Node;
 use nodes::chain::{join, seek, slot};
-use nodes::zero;
 
-// Whether the references of the first `count` rows lead to kept nodes or leaves.
-pub fn inside(refs: &[u32; 64], count: u32, kept: u32) -> bool
-    requires { (count ≤ 64) × (kept ≤ 4096) }
-    ensures { Decides (Inside refs.now count kept) result }
+// Whether the rows' references lead to kept nodes or leaves.
+pub fn inside(rows: &[u32], kept: u32) -> bool
+    requires { kept ≤ 4096 }
+    ensures { Decides (Inside rows.now (length rows.now) kept) result }
 {
-    let mut i = 0;
-    while i < count {
-        let j = i as usize;
-        if kept + 2 <= refs[j] {
-            return false;
-        }
-        i += 1;
-    }
-    true
+    rows.iter().all(|r| *r < kept + 2)
 }
 
-// Whether the numbers from `from` on are 0. They are or-ed together with no way out, so that many are read at once.
-pub fn rest_zero(xs: &[u32], from: usize) -> bool
-    ensures { Decides (ZeroFrom from xs.now) result }
+// Whether the numbers are 0. They are or-ed together with no way out, so that many are read at once.
+pub fn all_zero(xs: &[u32]) -> bool
+    ensures { Decides (ZeroFrom 0 xs.now) result }
 {
-    let mut all = 0;
-    let mut i = from;
-    while i < xs.len() {
-        all = all | xs[i];
-        i += 1;
-    }
-    all == 0
+    xs.iter().fold(0, |all, x| all | *x) == 0
 }
 
 // Whether a reference leads to a level above this one, or to a leaf.
@@ -78,16 +64,13 @@ pub fn all_right(nodes: &[u32], n: u32, levels: u32) -> bool
     requires { (3 * n ≤ length nodes.now) × (length nodes.now ≤ 12288) }
     ensures { Decides (Right nodes.now n levels) result }
 {
-    let mut j = 0;
-    while j < n {
+    for j in 0..n {
         if !node_right(nodes, j) {
             return false;
         }
-        let i = 3 * (j as usize);
-        if levels <= nodes[i] {
+        if levels <= nodes[3 * j as usize] {
             return false;
         }
-        j += 1;
     }
     true
 }
@@ -103,19 +86,19 @@ pub fn all_differ(nodes: &[u32], n: u32, work: &mut [u32]) -> bool
 {
     let c = nodes.len() / 3;
     let links = 14 * c;
-    zero(work, 13 * c, links);
-    let mut j = 0;
-    while j < n {
+    work[13 * c..links].fill(0);
+    for j in 0..n {
         let i = 3 * (j as usize);
-        let level = nodes[i];
-        let low = nodes[i + 1];
-        let high = nodes[i + 2];
-        let head = 13 * c + slot(level, low, high, c);
-        if seek(nodes, work, links, work[head], level, low, high) != 0 {
+        let node = Node {
+            level: nodes[i],
+            low: nodes[i + 1],
+            high: nodes[i + 2],
+        };
+        let head = 13 * c + slot(node.level, node.low, node.high, c);
+        if seek(nodes, work, links, work[head], node).is_some() {
             return false;
         }
         join(work, head, links, j);
-        j += 1;
     }
     true
 }

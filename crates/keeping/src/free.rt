@@ -5,30 +5,12 @@ ghost use Rattle.trees.specs.Table.{at, trees_of};
 ghost use Rattle.nodes.specs.Nodes.{Table, Rest, Rows, Decides};
 ghost use Rattle.keeping.specs.Checks.{has_bit, asked, Marks, RowsAllowed, Right, FreeOnly};
 
-// What is marked at a reference.
-fn marked(work: &[u32], r: u32) -> u32
-    requires { r < length work.now }
-    ensures { result ≡ get_or work.now r 0 }
-{
-    let i = r as usize;
-    work[i]
-}
-
 // The set of a level's variable, which is level / k.
 fn own(level: u32, k: u32) -> u32
     requires { (0 < k) × (k ≤ 10) × (level < 4 * k) }
     ensures { result ≡ 2 ^ (level / k) }
 {
-    if level < k {
-        return 1;
-    }
-    if level < 2 * k {
-        return 2;
-    }
-    if level < 3 * k {
-        return 4;
-    }
-    8
+    1 << (level / k)
 }
 
 // The set that the diagram of the node at place j asks, where the references before it are marked.
@@ -39,7 +21,7 @@ fn asks(nodes: &[u32], kept: u32, work: &[u32], j: u32, k: u32) -> u32
     ensures { (v : ℕ) → has_bit result v ≡ asked k v (at (trees_of nodes.now kept) (j + 2)) }
 {
     let i = 3 * (j as usize);
-    own(nodes[i], k) | (marked(work, nodes[i + 1]) | marked(work, nodes[i + 2]))
+    own(nodes[i], k) | (work[nodes[i + 1] as usize] | work[nodes[i + 2] as usize])
 }
 
 // Marks the leaves and each kept node.
@@ -50,29 +32,23 @@ fn mark(nodes: &[u32], kept: u32, work: &mut [u32], k: u32)
 {
     work[0] = 0;
     work[1] = 0;
-    let mut j = 0;
-    while j < kept {
-        let x = asks(nodes, kept, work, j, k);
-        let r = j as usize + 2;
-        work[r] = x;
-        j += 1;
+    for j in 0..kept {
+        let set = asks(nodes, kept, work, j, k);
+        work[j as usize + 2] = set;
     }
 }
 
 // Whether every row is marked with variables that it is allowed.
-fn rows_allowed(work: &[u32], allowed: &[u32; 64], refs: &[u32; 64], count: u32) -> bool
-    requires count_bound { count ≤ 64 }
-    requires by_index { (i : ℕ) → i < count → get_or refs.now i 0 < length work.now }
-    ensures { Decides (RowsAllowed work.now allowed.now refs.now count) result }
+fn rows_allowed(work: &[u32], allowed: &[u32; 64], rows: &[u32]) -> bool
+    requires few { length rows.now ≤ 64 }
+    requires by_index { (i : ℕ) → i < length rows.now → get_or rows.now i 0 < length work.now }
+    ensures { Decides (RowsAllowed work.now allowed.now rows.now (length rows.now)) result }
 {
-    let mut i = 0;
-    while i < count {
-        let j = i as usize;
-        let set = allowed[j];
-        if marked(work, refs[j]) | set != set {
+    for (i, r) in rows.iter().enumerate() {
+        let set = allowed[i];
+        if work[*r as usize] | set != set {
             return false;
         }
-        i += 1;
     }
     true
 }
@@ -84,18 +60,17 @@ pub fn free_only(
     work: &mut [u32],
     k: u32,
     allowed: &[u32; 64],
-    refs: &[u32; 64],
-    count: u32,
+    rows: &[u32],
 ) -> bool
     requires table { Table nodes.now kept × Right nodes.now kept (4 * k) }
-    requires rows { Rows nodes.now kept (4 * k) refs.now count }
+    requires rows { Rows nodes.now kept (4 * k) rows.now (length rows.now) }
     requires kept_in_bounds { (kept + 2 ≤ length work.old) × (0 < k) × (k ≤ 10) }
-    ensures decides { Decides (FreeOnly nodes.now kept k allowed.now refs.now count) result }
+    ensures decides { Decides (FreeOnly nodes.now kept k allowed.now rows.now (length rows.now)) result }
     ensures rest { Rest (3 * kept) work.old work.new }
 {
     if kept == 0 {
         return true;
     }
     mark(nodes, kept, work, k);
-    rows_allowed(work, allowed, refs, count)
+    rows_allowed(work, allowed, rows)
 }

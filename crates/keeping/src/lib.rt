@@ -10,7 +10,7 @@ ghost use Rattle.std.specs.Prelude.{◌≡◌, ◌*◌, ◌/◌, ◌≤◌, leng
 ghost use Rattle.trees.specs.Kept.{well_kept};
 ghost use Rattle.keeping.specs.Checks.{free_by, Sized, CheckLeaves};
 
-use crate::each::{all_differ, all_right, inside, rest_zero};
+use crate::each::{all_differ, all_right, all_zero, inside};
 use crate::free::free_only;
 use crate::order::rows_in_order;
 
@@ -31,18 +31,19 @@ pub fn check(
     ensures value { result ≡ well_kept (free_by k allowed.now) (length nodes.now / 3) count refs.now kept nodes.now }
     ensures check_leaves { CheckLeaves nodes.now kept work.old work.new result }
 {
-    let c = nodes.len() / 3;
     let m = kept as usize;
-    if c < m {
+    if nodes.len() / 3 < m {
         return false;
     }
-    if !inside(refs, count, kept) {
+    let (rows, rest) = refs.split_at(count as usize);
+    if !inside(rows, kept) {
         return false;
     }
-    if !rest_zero(refs, count as usize) {
+    if !all_zero(rest) {
         return false;
     }
-    if !rest_zero(nodes, 3 * m) {
+    let (_, behind) = nodes.split_at(3 * m);
+    if !all_zero(behind) {
         return false;
     }
     if !all_right(nodes, kept, 4 * k) {
@@ -51,8 +52,8 @@ pub fn check(
     if !all_differ(nodes, kept, work) {
         return false;
     }
-    if !rows_in_order(nodes, kept, refs, count) {
+    if !rows_in_order(nodes, kept, rows) {
         return false;
     }
-    free_only(nodes, kept, work, k, allowed, refs, count)
+    free_only(nodes, kept, work, k, allowed, rows)
 }

@@ -1,14 +1,9 @@
 -- `free::mark` meets its contract. The loop's invariant: the leaves and the first j nodes are marked, and nothing past the marks has
--- changed. The measure is what is left. Assumes nothing.
-use Prim.Native.Nat.{◌+◌, ◌-◌, ◌≤◌}
-use mathlib.Core.Path.{◌≡◌}
-use lib.ListN.{length}
+-- changed. Assumes nothing.
+use Prim.Native.Nat.{◌+◌}
 use Rattle.nodes.specs.Nodes.{Rest}
 use Rattle.keeping.specs.Checks.{Marks}
 use Rattle.keeping.proofs.free.mark.Given as goal
 
 abbrev pub invariant-loop-j : goal.invariant-loop-j
-invariant-loop-j l = (l.j ≤ l.kept) × (length l.work ≡ length l.initial.work) × Marks l.nodes l.kept l.k l.work l.j × Rest (l.kept + 2) l.initial.work l.work
-
-abbrev pub decreases-loop-j : goal.decreases-loop-j
-decreases-loop-j l = l.kept - l.j
+invariant-loop-j l = Marks l.nodes l.kept l.k l.work l.j × Rest (l.kept + 2) l.initial.work l.work
