@@ -14,12 +14,10 @@ use Rattle.trees.proofs.Tests.{lt_or_ge}
 use Rattle.trees.proofs.TreeLaws.{asks_eval, fine_off, fine_on}
 use Rattle.trees.proofs.FunctionLaws.{tree_one}
 use Rattle.making.specs.declared.Made.{Made}
-use Rattle.making.specs.declared.Made.TheVariants as made
 use Rattle.walks.specs.declared.Counted.{Counted}
-use Rattle.walks.specs.declared.Counted.TheVariants.{Full, At}
+use Rattle.std.specs.Prelude.{Option, Some, None}
 use Rattle.diagram.specs.declared.Instruction.{Instruction}
 use Rattle.diagram.specs.declared.Instruction.TheVariants.{Yes, And, Not, Since, Old, Drop}
-use Rattle.diagram.specs.declared.Turn.{Turn}
 use Rattle.making.specs.Tables.{Added}
 use Rattle.walks.specs.Walks.{Within}
 use Rattle.walks.specs.Desks.{Desk, Remembered}
@@ -29,7 +27,7 @@ use Rattle.walks.proofs.MapLaws.{map_is}
 use Rattle.walks.proofs.ComplementLaws.{complement_fits}
 use Rattle.walks.proofs.Visited.{not_visits}
 use Rattle.nodes.specs.Nodes.{Grown, Stuck}
-use Rattle.diagram.specs.Steps.{facts, does, turns_say, turn_stages, instruction_says, task_says, drop_stages, stages_of, task_stages}
+use Rattle.diagram.specs.Steps.{Turn, facts, does, turns_say, turn_stages, instruction_says, task_says, drop_stages, stages_of, task_stages}
 use Rattle.diagram.specs.Works.{Leads, led, Base, Reached, Short, Worked, plainly, Plain, RowDone}
 use Rattle.nodes.proofs.ReadLaws.{grown_ref, stays}
 use Rattle.walks.proofs.SinceLaws.{and_since}
@@ -46,14 +44,14 @@ unfolding add_trees
 one_short f e g = record { over = rw e g.over; size = g.size; same = g.same }
 
 -- a row of one function, whose diagram a walk has added
-one_made : (levels : ℕ) (ns ms : List ℕ) (n : ℕ) (w w' : List ℕ) (c slots : ℕ) (f : Function) (d : Tree) (m : Made) → tree_of levels f ≡ d
+one_made : (levels : ℕ) (ns ms : List ℕ) (n : ℕ) (w w' : List ℕ) (c slots : ℕ) (f : Function) (d : Tree) (m : Option Made) → tree_of levels f ≡ d
     → Added (λ xs j. Remembered w xs j levels w' c slots) ns ms n d m → Worked levels ns ms n (f ∷ []) f w w' c slots m
-one_made levels ns ms n w w' c slots f d made.Full e g = one_short f e g
-one_made levels ns ms n w w' c slots f d (made.At k r) e g = (one_reached f e g.0, g.1)
+one_made levels ns ms n w w' c slots f d None e g = one_short f e g
+one_made levels ns ms n w w' c slots f d (Some m) e g = (one_reached f e g.0, g.1)
 
 -- the same of a diagram that is there
 one_there : {levels : ℕ} {ns : List ℕ} {n : ℕ} {w : List ℕ} {c slots : ℕ} → Desk ns n levels w c slots → (f : Function) (r : ℕ) → r < n + 2
-    → tree_of levels f ≡ at (trees_of ns n) r → Worked levels ns ns n (f ∷ []) f w w c slots (made.At n r)
+    → tree_of levels f ≡ at (trees_of ns n) r → Worked levels ns ns n (f ∷ []) f w w c slots (Some (record { count = n; reference = r }))
 one_there {levels} {ns} {n} d f r h e = (one_reached f e (stays ns n r (at (trees_of ns n) r) d.shelf.table h refl), desk_stays d)
 
 -- no asks no level
@@ -67,11 +65,11 @@ leads_to l a e = rw e (l.each a)
 
 module _ (k : ℕ) {ns : List ℕ} {n : ℕ} (olds news : List ℕ) (i : ℕ) {w : List ℕ} {c slots : ℕ} (d : Desk ns n (4 * k) w c slots) where
   -- what the row's work left, by its instruction
-  abbrev Row : List ℕ → List ℕ → Instruction → Counted → Type 0
+  abbrev Row : List ℕ → List ℕ → Instruction → Option Counted → Type 0
   Row ms w' x m = RowDone k ns ms n olds news i (does x) w w' c slots m
 
   -- the same of walks that count nothing
-  abbrev Walks : List ℕ → List ℕ → Instruction → Made → Type 0
+  abbrev Walks : List ℕ → List ℕ → Instruction → Option Made → Type 0
   Walks ms w' x m = Worked (4 * k) ns ms n (stages_of k (led ns n olds) (led ns n news) i x) (instruction_says k (led ns n olds) (led ns n news) i x) w w' c slots m
 
   -- the map is as it was
@@ -79,56 +77,56 @@ module _ (k : ℕ) {ns : List ℕ} {n : ℕ} (olds news : List ℕ) (i : ℕ) {w
   untouched {w' = w'} g = record { map = map_is c w w' d.shelf.long g.desk.shelf.long g.same; none = refl }
 
   -- yes
-  pub row_yes : Row ns w Yes (At n 1 0)
+  pub row_yes : Row ns w Yes (plainly (Some (record { count = n; reference = 1 })))
   unfolding task_stages task_says stages_of instruction_says at eval
   row_yes =
-      let g : Walks ns w Yes (made.At n 1) = one_there d _ 1 (omega arith) (tree_one (4 * k) (λ s. true) (record { only = λ s t h. refl }) on (fine_on 0 (4 * k)) (λ s. refl)) in
+      let g : Walks ns w Yes (Some (record { count = n; reference = 1 })) = one_there d _ 1 (omega arith) (tree_one (4 * k) (λ s. true) (record { only = λ s t h. refl }) on (fine_on 0 (4 * k)) (λ s. refl)) in
       (g.0, d, untouched g.1)
 
   -- an old diagram
-  pub row_old : (a : ℕ) → Leads ns n (4 * k) olds → Row ns w (Old a) (At n (get_or olds a 0) 0)
+  pub row_old : (a : ℕ) → Leads ns n (4 * k) olds → Row ns w (Old a) (plainly (Some (record { count = n; reference = get_or olds a 0 })))
   unfolding task_stages task_says stages_of instruction_says led
   row_old a l =
-      let g : Walks ns w (Old a) (made.At n (get_or olds a 0)) = one_there d _ (get_or olds a 0) (l.each a).below (tree_eval (4 * k) _ (within_fine (l.each a))) in
+      let g : Walks ns w (Old a) (Some (record { count = n; reference = (get_or olds a 0) })) = one_there d _ (get_or olds a 0) (l.each a).below (tree_eval (4 * k) _ (within_fine (l.each a))) in
       (g.0, d, untouched g.1)
 
   module _ (ms w' : List ℕ) where
     -- an atom
-    pub row_facts : (ts : List Turn) (m : Made) → Worked (4 * k) ns ms n (turn_stages k [] ts) (turns_say k ts) w w' c slots m → RowDone k ns ms n olds news i (facts ts) w w' c slots (plainly m)
+    pub row_facts : (ts : List Turn) (m : Option Made) → Worked (4 * k) ns ms n (turn_stages k [] ts) (turns_say k ts) w w' c slots m → RowDone k ns ms n olds news i (facts ts) w w' c slots (plainly m)
     unfolding task_stages task_says
-    row_facts ts made.Full g = g
-    row_facts ts (made.At j r) g = (g.0, g.1.desk, untouched g.1)
+    row_facts ts None g = g
+    row_facts ts (Some m) g = (g.0, g.1.desk, untouched g.1)
 
     -- an and
-    pub row_and : (a b : ℕ) (m : Made)
+    pub row_and : (a b : ℕ) (m : Option Made)
         → Added (λ xs j. Remembered w xs j (4 * k) w' c slots) ns ms n (since_t (4 * k) (at (trees_of ns n) (get_or news a 0)) (at (trees_of ns n) 0) (at (trees_of ns n) (get_or news b 0))) m → Row ms w' (And a b) (plainly m)
     unfolding task_stages task_says stages_of instruction_says led at
-    row_and a b made.Full g = one_short _ (sym (and_since (4 * k) (at (trees_of ns n) (get_or news a 0)) (at (trees_of ns n) (get_or news b 0)))) g
-    row_and a b (made.At j r) g = (one_reached _ (sym (and_since (4 * k) (at (trees_of ns n) (get_or news a 0)) (at (trees_of ns n) (get_or news b 0)))) g.0, g.1.desk, untouched g.1)
+    row_and a b None g = one_short _ (sym (and_since (4 * k) (at (trees_of ns n) (get_or news a 0)) (at (trees_of ns n) (get_or news b 0)))) g
+    row_and a b (Some m) g = (one_reached _ (sym (and_since (4 * k) (at (trees_of ns n) (get_or news a 0)) (at (trees_of ns n) (get_or news b 0)))) g.0, g.1.desk, untouched g.1)
 
     -- a complement
-    pub row_not : Leads ns n (4 * k) news → (a : ℕ) (m : Counted) → Complemented ns ms n (4 * k) (4 * k) (get_or news a 0) w w' c slots m → Row ms w' (Not a) m
+    pub row_not : Leads ns n (4 * k) news → (a : ℕ) (m : Option Counted) → Complemented ns ms n (4 * k) (4 * k) (get_or news a 0) w w' c slots m → Row ms w' (Not a) m
     unfolding task_stages task_says stages_of instruction_says led not_t
-    row_not l a Full g = one_short _ refl g
-    row_not l a (At j r v) g = (
+    row_not l a None g = one_short _ refl g
+    row_not l a (Some m) g = (
       one_reached _ refl g.0,
       g.1,
       record { refines = g.2; most = not_visits d (omega arith) (l.each a) g; fits = complement_fits d (4 * k) (get_or news a 0) (omega arith) (l.each a) g.2 },
     )
 
     -- a since
-    pub row_since : (a b l r o : ℕ) → l ≡ get_or news a 0 → r ≡ get_or news b 0 → o ≡ get_or olds i 0 → (m : Made)
+    pub row_since : (a b l r o : ℕ) → l ≡ get_or news a 0 → r ≡ get_or news b 0 → o ≡ get_or olds i 0 → (m : Option Made)
         → Added (λ xs j. Remembered w xs j (4 * k) w' c slots) ns ms n (since_t (4 * k) (at (trees_of ns n) l) (at (trees_of ns n) r) (at (trees_of ns n) o)) m → Row ms w' (Since a b) (plainly m)
     unfolding task_stages task_says stages_of instruction_says led since_t
-    row_since a b l r o el er eo made.Full g = one_short _ refl (rw (el, er, eo) at g)
-    row_since a b l r o el er eo (made.At j q) g = (one_reached _ refl (rw (el, er, eo) at g.0), g.1.desk, untouched g.1)
+    row_since a b l r o el er eo None g = one_short _ refl (rw (el, er, eo) at g)
+    row_since a b l r o el er eo (Some m) g = (one_reached _ refl (rw (el, er, eo) at g.0), g.1.desk, untouched g.1)
 
     -- a removal
-    pub row_drop : (v a : ℕ) (m : Made)
+    pub row_drop : (v a : ℕ) (m : Option Made)
         → Worked (4 * k) ns ms n (drop_stages (v * k) k (eval (at (trees_of ns n) (get_or news a 0)))) (drops (v * k) k (eval (at (trees_of ns n) (get_or news a 0)))) w w' c slots m → Row ms w' (Drop v a) (plainly m)
     unfolding task_stages task_says stages_of instruction_says led
-    row_drop v a made.Full g = g
-    row_drop v a (made.At j r) g = (g.0, g.1.desk, untouched g.1)
+    row_drop v a None g = g
+    row_drop v a (Some m) g = (g.0, g.1.desk, untouched g.1)
 
 -- the bits of a variable past the four are past all levels
 base_far : {k v base : ℕ} → Base k v base → 4 ≤ v → (4 * k ≤ base) × (4 * k ≤ v * k)

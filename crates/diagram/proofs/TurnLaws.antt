@@ -14,15 +14,14 @@ use Rattle.trees.proofs.FunctionLaws.{tree_one, tree_same}
 use Rattle.trees.proofs.TableLaws.{adds_goes, goes_length}
 use Rattle.nodes.specs.Nodes.{Grown, Stuck, Front, Rest}
 use Rattle.nodes.proofs.ReadLaws.{grown_ref, grown_count}
-use Rattle.making.specs.declared.Place.{Place}
+use Rattle.std.specs.Prelude.{Option, Some, None}
+use Rattle.making.specs.declared.Number.{Number}
 use Rattle.making.specs.Cubes.{Over, SameShape}
 use Rattle.making.proofs.CubeLaws.{into_says, over_into, over_off, over_shape}
 use Rattle.making.proofs.WalkLaws.{front_trans, rest_trans}
 use Rattle.walks.specs.Desks.{Desk, Remembered}
 use Rattle.walks.proofs.DeskLaws.{desk_stays}
-use Rattle.diagram.specs.declared.Turn.{Turn}
-use Rattle.diagram.specs.declared.Turn.TheVariants.{Miss, Hit}
-use Rattle.diagram.specs.Steps.{turn_says, turns_say, turn_stages}
+use Rattle.diagram.specs.Steps.{Turn, turn_says, turns_say, turn_stages}
 use Rattle.diagram.specs.Works.{TurnOver, Shaped, Reached, Short}
 use Rattle.diagram.proofs.RemovalLaws.{tree_eval}
 
@@ -41,32 +40,32 @@ turns_snoc k [] t s = or_no (turn_says k t s)
 turns_snoc k (u ∷ ts) t s = ap (λ (b : Bool). turn_says k u s || b) (turns_snoc k ts t s) ∙ or_assoc (turn_says k u s) (turns_say k ts s) (turn_says k t s)
 
 -- the same of places that are turned round
-shape_sym : {ps qs : List Place} → SameShape ps qs → SameShape qs ps
+shape_sym : {ps qs : List (Option Number)} → SameShape ps qs → SameShape qs ps
 shape_sym e = record { each = λ v h. sym (e.each v h) }
 
-module _ {k : ℕ} {ps : List Place} {d : Tree} (o : Over k ps d) where
+module _ {k : ℕ} {ps : List (Option Number)} {d : Tree} (o : Over k ps d) where
   -- a diagram over these variables can take a turn that gives numbers to them
   pub takes : (t : Turn) → Shaped ps t → TurnOver k t d
-  takes Miss s = o.fine
-  takes (Hit x y z u) s = over_shape s o
+  takes None s = o.fine
+  takes (Some places) s = over_shape s o
 
   -- what is said after it
   after_says : (t : Turn) → Shaped ps t → Same (eval (tree_of (4 * k) (λ s. eval d s || turn_says k t s))) (λ s. eval d s || turn_says k t s)
-  after_says Miss h s =
+  after_says None h s =
       ap (λ (t : Tree). eval t s) (tree_same (4 * k) _ (eval d) (λ x. or_no (eval d x)) ∙ tree_eval (4 * k) d o.fine) ∙ sym (or_no (eval d s))
-  after_says (Hit x y z u) h s = into_says k (x ∷ y ∷ z ∷ u ∷ []) (over_shape h o) s
+  after_says (Some places) h s = into_says k places (over_shape h o) s
 
   -- and it is over these variables again
   after_over : (t : Turn) → Shaped ps t → Over k ps (tree_of (4 * k) (λ s. eval d s || turn_says k t s))
-  after_over Miss h = rw (tree_same (4 * k) (λ s. eval d s || false) (eval d) (λ x. or_no (eval d x)), tree_eval (4 * k) d o.fine) o
-  after_over (Hit x y z u) h = over_shape (shape_sym h) (over_into k (x ∷ y ∷ z ∷ u ∷ []) (over_shape h o))
+  after_over None h = rw (tree_same (4 * k) (λ s. eval d s || false) (eval d) (λ x. or_no (eval d x)), tree_eval (4 * k) d o.fine) o
+  after_over (Some places) h = over_shape (shape_sym h) (over_into k places (over_shape h o))
 
 -- a turn that misses adds nothing
-pub miss_tree : (k : ℕ) {d : Tree} → Fine 0 (4 * k) d → tree_of (4 * k) (λ s. eval d s || turn_says k Miss s) ≡ d
+pub miss_tree : (k : ℕ) {d : Tree} → Fine 0 (4 * k) d → tree_of (4 * k) (λ s. eval d s || turn_says k None s) ≡ d
 miss_tree k {d} f = tree_same (4 * k) (λ s. eval d s || false) (eval d) (λ x. or_no (eval d x)) ∙ tree_eval (4 * k) d f
 
 -- The first n nodes of ns₀ are where an atom of these turns starts, which all give numbers to the variables of ps: after f turns r leads to its diagram.
-pub record Turning (k : ℕ) (all : List Turn) (ps : List Place) (ns₀ : List ℕ) (n : ℕ) (ns : List ℕ) (m r f : ℕ) (w₀ w : List ℕ) (c slots : ℕ) : Type 0 where
+pub record Turning (k : ℕ) (all : List Turn) (ps : List (Option Number)) (ns₀ : List ℕ) (n : ℕ) (ns : List ℕ) (m r f : ℕ) (w₀ w : List ℕ) (c slots : ℕ) : Type 0 where
   pub kept : Remembered w₀ ns m (4 * k) w c slots
   pub size : length ns ≡ length ns₀
   pub same : Front (3 * n) ns₀ ns
@@ -79,7 +78,7 @@ pub record Turning (k : ℕ) (all : List Turn) (ps : List Place) (ns₀ : List �
   pub adds : add_trees (trees_of ns m) (map (tree_of (4 * k)) (turn_stages k (take f all) (drop f all))) ≡ add_trees (trees_of ns₀ n) (map (tree_of (4 * k)) (turn_stages k [] all))
 
 -- no turn is taken yet
-pub turning_none : {k : ℕ} {ns : List ℕ} {n : ℕ} {w : List ℕ} {c slots : ℕ} (all : List Turn) (ps : List Place) → Desk ns n (4 * k) w c slots
+pub turning_none : {k : ℕ} {ns : List ℕ} {n : ℕ} {w : List ℕ} {c slots : ℕ} (all : List Turn) (ps : List (Option Number)) → Desk ns n (4 * k) w c slots
     → Turning k all ps ns n ns n 0 0 w w c slots
 unfolding turns_say at eval
 turning_none {k} {ns} {n} all ps d = record {
@@ -95,24 +94,24 @@ turning_none {k} {ns} {n} all ps d = record {
   adds = refl;
 }
 
-module _ {k : ℕ} {all : List Turn} {ps : List Place} {ns₀ : List ℕ} {n : ℕ} {ns : List ℕ} {m r f : ℕ} {w₀ w : List ℕ} {c slots : ℕ} (v : Turning k all ps ns₀ n ns m r f w₀ w c slots)
+module _ {k : ℕ} {all : List Turn} {ps : List (Option Number)} {ns₀ : List ℕ} {n : ℕ} {ns : List ℕ} {m r f : ℕ} {w₀ w : List ℕ} {c slots : ℕ} (v : Turning k all ps ns₀ n ns m r f w₀ w c slots)
     (inside : f < length all) where
   -- the turn, and the atom's function after it
   abbrev here : Turn
-  here = get_or all f Miss
+  here = get_or all f None
 
   abbrev next : Function
   next s = eval (at (trees_of ns m) r) s || turn_says k here s
 
   next_says : turns_say k (take (suc f) all) ≡ next
-  next_says = fun_ext (λ s. rw (take-suc all f Miss inside) (turns_snoc k (take f all) here s ∙ ap (λ (b : Bool). b || turn_says k here s) (sym (v.says s))))
+  next_says = fun_ext (λ s. rw (take-suc all f None inside) (turns_snoc k (take f all) here s ∙ ap (λ (b : Bool). b || turn_says k here s) (sym (v.says s))))
 
   -- its stages are those that are left
   left : add_trees (add_tree (trees_of ns m) (tree_of (4 * k) next)) (map (tree_of (4 * k)) (turn_stages k (take (suc f) all) (drop (suc f) all)))
       ≡ add_trees (trees_of ns₀ n) (map (tree_of (4 * k)) (turn_stages k [] all))
   unfolding turn_stages add_trees
   left =
-      let e : turn_stages k (take f all) (drop f all) ≡ turns_say k (take (suc f) all) ∷ turn_stages k (take (suc f) all) (drop (suc f) all) = rw (drop-cons all f Miss inside, take-suc all f Miss inside) in
+      let e : turn_stages k (take f all) (drop f all) ≡ turns_say k (take (suc f) all) ∷ turn_stages k (take (suc f) all) (drop (suc f) all) = rw (drop-cons all f None inside, take-suc all f None inside) in
       ap (λ (g : Function). add_trees (add_tree (trees_of ns m) (tree_of (4 * k) g)) (map (tree_of (4 * k)) (turn_stages k (take (suc f) all) (drop (suc f) all)))) (sym next_says)
       ∙ ap (λ (gs : List Function). add_trees (trees_of ns m) (map (tree_of (4 * k)) gs)) (sym e) ∙ v.adds
 
@@ -147,7 +146,7 @@ module _ {k : ℕ} {all : List Turn} {ps : List Place} {ns₀ : List ℕ} {n : �
       }
 
 -- all turns are taken
-pub turning_all : {k : ℕ} {all : List Turn} {ps : List Place} {ns₀ : List ℕ} {n : ℕ} {ns : List ℕ} {m r f : ℕ} {w₀ w : List ℕ} {c slots : ℕ} → f ≡ length all
+pub turning_all : {k : ℕ} {all : List Turn} {ps : List (Option Number)} {ns₀ : List ℕ} {n : ℕ} {ns : List ℕ} {m r f : ℕ} {w₀ w : List ℕ} {c slots : ℕ} → f ≡ length all
     → Turning k all ps ns₀ n ns m r f w₀ w c slots → Reached (4 * k) ns₀ ns n m r (turn_stages k [] all) (turns_say k all)
 unfolding turn_stages add_trees
 turning_all {k} {all} {ns = ns} {m = m} {f = f} e v = record {

@@ -1,6 +1,6 @@
 -- The visits of an event: of its complements, one row after the other, and of the sweep that ends it. Assumes nothing: these
 -- are definitions.
-use Rattle.std.specs.Prelude.{ℕ, zero, suc, ◌+◌, ◌*◌, ◌-◌, ◌/◌, ◌≤◌, ◌≡◌, List, [], ◌++◌, map, length, get_or, replicate}
+use Rattle.std.specs.Prelude.{ℕ, zero, suc, ◌+◌, ◌*◌, ◌-◌, ◌/◌, ◌≤◌, ◌≡◌, Ok, Err, List, [], ◌++◌, map, length, get_or, replicate}
 use Rattle.trees.specs.Bits.{Function}
 use Rattle.trees.specs.Tree.{Tree, off, tree_of}
 use Rattle.trees.specs.Table.{add_trees, ref_of, show, trees_of}
@@ -9,9 +9,8 @@ use Rattle.trees.specs.Sizes.{node_count}
 use Rattle.visits.specs.Visits.{complement, sweeps}
 use Rattle.diagram.specs.declared.Instruction.{Instruction}
 use Rattle.diagram.specs.declared.Instruction.TheVariants.{Yes, And, Not, Since, Old, Drop}
-use Rattle.diagram.specs.declared.Told.{Told}
-use Rattle.diagram.specs.declared.Told.TheVariants.{Unfit, Bad, Full, Done}
-use Rattle.diagram.specs.Steps.{Task, facts, does, says, stages_of, task_stages, new_trees, work_table}
+use Rattle.diagram.specs.declared.Refused.TheVariants.{Unfit, Bad, Full}
+use Rattle.diagram.specs.Steps.{Told, Task, facts, does, says, stages_of, task_stages, new_trees, work_table}
 
 -- the node slice of `size` numbers that holds a table, zeros behind it
 abbrev pub holding : ℕ → List Tree → List ℕ
@@ -87,7 +86,7 @@ pub record Visited (k count : ℕ) (plan : List Task) (refs : List ℕ) (kept : 
 
 -- the visits that a step tells: none where it is refused
 abbrev pub Visits : ℕ → ℕ → List Task → List ℕ → ℕ → List ℕ → Told → ℕ → ℕ → Type 0
-Visits k count plan refs kept ns Unfit complements swept = (complements ≡ 0) × (swept ≡ 0)
-Visits k count plan refs kept ns Bad complements swept = (complements ≡ 0) × (swept ≡ 0)
-Visits k count plan refs kept ns Full complements swept = (complements ≡ 0) × (swept ≡ 0)
-Visits k count plan refs kept ns (Done kept' room) complements swept = Visited k count plan refs kept ns kept' complements swept
+Visits k count plan refs kept ns (Err Unfit) complements swept = (complements ≡ 0) × (swept ≡ 0)
+Visits k count plan refs kept ns (Err Bad) complements swept = (complements ≡ 0) × (swept ≡ 0)
+Visits k count plan refs kept ns (Err Full) complements swept = (complements ≡ 0) × (swept ≡ 0)
+Visits k count plan refs kept ns (Ok done) complements swept = Visited k count plan refs kept ns done.kept complements swept

@@ -1,6 +1,6 @@
 -- One event's work on the diagrams, for every input whatsoever: what a plan makes of the rows, the room that it needs, and
 -- what is told and left in each slice. Assumes nothing: these are definitions.
-use Rattle.std.specs.Prelude.{ℕ, zero, suc, ◌+◌, ◌*◌, ◌-◌, ◌/◌, ◌≡◌, Bool, true, false, not, ◌&&◌, ◌||◌, List, [], ◌∷◌, ◌++◌, map, eqb, leb, length, get_or, replicate, drop as from}
+use Rattle.std.specs.Prelude.{ℕ, zero, suc, ◌+◌, ◌*◌, ◌-◌, ◌/◌, ◌≡◌, Bool, true, false, not, ◌&&◌, ◌||◌, Option, Some, None, Result, Ok, Err, List, [], ◌∷◌, ◌++◌, map, eqb, leb, length, get_or, replicate, drop as from}
 use Rattle.trees.specs.Bits.{Function, drop, drops}
 use Rattle.trees.specs.Tree.{Tree, off, eval, tree_of}
 use Rattle.trees.specs.Table.{add_trees, ref_of, show, trees_of}
@@ -8,18 +8,30 @@ use Rattle.trees.specs.Kept.{diagrams, well_kept}
 use Rattle.trees.specs.Sizes.{sizes_of, sizes_right}
 use Rattle.diagram.specs.declared.Instruction.{Instruction}
 use Rattle.diagram.specs.declared.Instruction.TheVariants.{Yes, And, Not, Since, Old, Drop}
-use Rattle.diagram.specs.declared.Turn.{Turn}
-use Rattle.diagram.specs.declared.Turn.TheVariants.{Miss, Hit}
-use Rattle.diagram.specs.declared.Told.{Told}
-use Rattle.diagram.specs.declared.Told.TheVariants.{Unfit, Bad, Full, Done}
-use Rattle.diagram.specs.declared.Formed.{Formed}
-use Rattle.diagram.specs.declared.Formed.TheVariants as formed
+use Rattle.diagram.specs.declared.Done.{Done}
+use Rattle.diagram.specs.declared.Refused.{Refused}
+use Rattle.diagram.specs.declared.Refused.TheVariants.{Unfit, Bad, Full}
+use Rattle.diagram.specs.declared.Unformed.{Unformed}
+use Rattle.diagram.specs.declared.Unformed.TheVariants as unformed
+use Rattle.making.specs.declared.Number.{Number}
 use Rattle.making.specs.Cubes.{cube_says}
 use Rattle.keeping.specs.Checks.{free_by}
 
 -- the function of row a of some diagrams: no where there is no row a
 unfoldable pub says : List Tree → ℕ → Function
 says ts a = eval (get_or ts a off)
+
+-- what one fact adds to an atom's diagram: nothing where it does not match, and else that the four variables show these numbers
+abbrev pub Turn : Type 0
+Turn = Option (List (Option Number))
+
+-- what a step tells: the count of kept nodes and the room, or why it is refused
+abbrev pub Told : Type 0
+Told = Result Done Refused
+
+-- what the check tells: nothing, or why it refuses
+abbrev pub Formed : Type 0
+Formed = Result (Unit {0}) Unformed
 
 -- what a row asks: an atom has a turn for each fact, in order; any other row an instruction
 pub data Task : Type 0 where
@@ -28,8 +40,8 @@ pub data Task : Type 0 where
 
 -- the points of one turn, and of some: "An atom holds for a binding if some fact matches."
 abbrev pub turn_says : ℕ → Turn → Function
-turn_says k Miss s = false
-turn_says k (Hit x y z u) s = cube_says k (x ∷ y ∷ z ∷ u ∷ []) s
+turn_says k None s = false
+turn_says k (Some places) s = cube_says k places s
 
 unfoldable pub turns_say : ℕ → List Turn → Function
 turns_say k [] s = false
@@ -120,7 +132,7 @@ cleared C w = replicate (16 * C + 1024) 0 ++ from (16 * C + 1024) w
 -- the layout of the rows' diagrams ds: the canonical table and the references into it, zeros behind both, and the diagrams' sizes
 unfoldable pub layout : List Tree → ℕ → List Tree → ℕ → List ℕ → List ℕ → Outcome
 layout ds count T room ns w = record {
-  told = Done (length T) room;
+  told = Ok (record { kept = length T; room = room });
   refs = map (ref_of T) ds ++ replicate (64 - count) 0;
   sizes = sizes_of ds;
   nodes = show T T ++ replicate (length ns - 3 * length T) 0;
@@ -129,7 +141,7 @@ layout ds count T room ns w = record {
 
 -- what is left of well kept diagrams: all as it was where the room is over C, and else the new diagrams' layout
 unfoldable pub work_outcome : Bool → ℕ → ℕ → List Task → List ℕ → List ℕ → ℕ → List ℕ → List ℕ → Outcome
-work_outcome false k count plan refs sizes kept ns w = record { told = Full; refs = refs; sizes = sizes; nodes = ns; work = cleared (length ns / 3) w }
+work_outcome false k count plan refs sizes kept ns w = record { told = Err Full; refs = refs; sizes = sizes; nodes = ns; work = cleared (length ns / 3) w }
 work_outcome true k count plan refs sizes kept ns w =
     let ds = new_trees k plan (diagrams ns kept refs count) count in
     layout ds count (add_trees [] ds) (length (work_table k count plan refs kept ns)) ns w
@@ -140,8 +152,8 @@ kept_right k count allowed refs sizes kept ns = well_kept (free_by k allowed) (l
 
 -- the cases in their order: are the numbers and lengths fit, are the diagrams well kept, their sizes right, and what follows then
 abbrev pub judge : Bool → Bool → List ℕ → List ℕ → List ℕ → List ℕ → Outcome → Outcome
-judge false good refs sizes ns w then = record { told = Unfit; refs = refs; sizes = sizes; nodes = ns; work = w }
-judge true false refs sizes ns w then = record { told = Bad; refs = refs; sizes = sizes; nodes = ns; work = cleared (length ns / 3) w }
+judge false good refs sizes ns w then = record { told = Err Unfit; refs = refs; sizes = sizes; nodes = ns; work = w }
+judge true false refs sizes ns w then = record { told = Err Bad; refs = refs; sizes = sizes; nodes = ns; work = cleared (length ns / 3) w }
 judge true true refs sizes ns w then = then
 
 -- what a step gives back and leaves
@@ -165,9 +177,9 @@ pub record Checked : Type 0 where
 
 -- the same cases without the work
 abbrev pub judge_formed : Bool → Bool → ℕ → List ℕ → Checked
-judge_formed false good C w = record { gives = formed.Unfit; work = w }
-judge_formed true false C w = record { gives = formed.Bad; work = cleared C w }
-judge_formed true true C w = record { gives = formed.Good; work = cleared C w }
+judge_formed false good C w = record { gives = Err unformed.Unfit; work = w }
+judge_formed true false C w = record { gives = Err unformed.Bad; work = cleared C w }
+judge_formed true true C w = record { gives = Ok tt; work = cleared C w }
 
 -- what a check gives back and leaves
 unfoldable pub formed_outcome : ℕ → ℕ → List ℕ → List ℕ → List ℕ → ℕ → List ℕ → List ℕ → Checked

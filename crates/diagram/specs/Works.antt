@@ -1,17 +1,13 @@
 -- How the rows of a plan are worked in the node slice and the work slice. Assumes nothing: these are definitions.
-use Rattle.std.specs.Prelude.{ℕ, ◌+◌, ◌*◌, ◌/◌, ◌≤◌, ◌<◌, ◌≡◌, Bool, true, false, List, [], ◌∷◌, map, length, get_or, replicate}
+use Rattle.std.specs.Prelude.{ℕ, ◌+◌, ◌*◌, ◌/◌, ◌≤◌, ◌<◌, ◌≡◌, Bool, true, false, Option, Some, None, List, map, length, get_or, replicate}
 use Rattle.trees.specs.Bits.{Function}
 use Rattle.trees.specs.Tree.{Tree, off, eval, Fine, tree_of}
 use Rattle.trees.specs.Table.{add_trees, at, trees_of}
-use Rattle.making.specs.declared.Place.{Place}
+use Rattle.making.specs.declared.Number.{Number}
 use Rattle.making.specs.declared.Made.{Made}
-use Rattle.making.specs.declared.Made.TheVariants as made
 use Rattle.walks.specs.declared.Counted.{Counted}
-use Rattle.walks.specs.declared.Counted.TheVariants.{Full, At}
 use Rattle.diagram.specs.declared.Instruction.{Instruction}
 use Rattle.diagram.specs.declared.Instruction.TheVariants.{Yes, And, Not, Since, Old, Drop}
-use Rattle.diagram.specs.declared.Turn.{Turn}
-use Rattle.diagram.specs.declared.Turn.TheVariants.{Miss, Hit}
 use Rattle.trees.specs.Sizes.{node_count}
 use Rattle.visits.specs.Visits.{complement, Refines}
 use Rattle.nodes.specs.Nodes.{Table, Front, Rest, To}
@@ -19,7 +15,7 @@ use Rattle.making.specs.Cubes.{Over, SameShape}
 use Rattle.walks.specs.Walks.{Within}
 use Rattle.walks.specs.Desks.{Desk, Remembered}
 use Rattle.walks.specs.Complements.{map_of}
-use Rattle.diagram.specs.Steps.{Task, facts, does, task_says, task_stages, new_trees, stages}
+use Rattle.diagram.specs.Steps.{Turn, Task, facts, does, task_says, task_stages, new_trees, stages}
 use Rattle.diagram.specs.Counts.{counting, ceiling}
 
 -- the numbers that a step can work with
@@ -57,13 +53,13 @@ pub record Base (k v base : ℕ) : Type 0 where
 
 -- the diagram can take the turn: it is one over the variables that the turn gives numbers to
 abbrev pub TurnOver : ℕ → Turn → Tree → Type 0
-TurnOver k Miss t = Fine 0 (4 * k) t
-TurnOver k (Hit x y z u) t = Over k (x ∷ y ∷ z ∷ u ∷ []) t
+TurnOver k None t = Fine 0 (4 * k) t
+TurnOver k (Some places) t = Over k places t
 
 -- the turn gives numbers to the same variables as these places
-abbrev pub Shaped : List Place → Turn → Type 0
-Shaped ps Miss = Unit {0}
-Shaped ps (Hit x y z u) = SameShape ps (x ∷ y ∷ z ∷ u ∷ [])
+abbrev pub Shaped : List (Option Number) → Turn → Type 0
+Shaped ps None = Unit {0}
+Shaped ps (Some places) = SameShape ps places
 
 -- the trees of the functions gs were added in order, and r leads to the tree of f
 pub record Reached (levels : ℕ) (ns ns' : List ℕ) (n n' r : ℕ) (gs : List Function) (f : Function) : Type 0 where
@@ -80,14 +76,14 @@ pub record Short (levels : ℕ) (ns ns' : List ℕ) (n : ℕ) (gs : List Functio
   pub same : Front (3 * n) ns ns'
 
 -- walks that meet the functions gs and end with f, and touch no map, left ns' and w' and said m
-abbrev pub Worked : ℕ → List ℕ → List ℕ → ℕ → List Function → Function → List ℕ → List ℕ → ℕ → ℕ → Made → Type 0
-Worked levels ns ns' n gs f w w' c slots made.Full = Short levels ns ns' n gs
-Worked levels ns ns' n gs f w w' c slots (made.At n' r) = Reached levels ns ns' n n' r gs f × Remembered w ns' n' levels w' c slots
+abbrev pub Worked : ℕ → List ℕ → List ℕ → ℕ → List Function → Function → List ℕ → List ℕ → ℕ → ℕ → Option Made → Type 0
+Worked levels ns ns' n gs f w w' c slots None = Short levels ns ns' n gs
+Worked levels ns ns' n gs f w w' c slots (Some m) = Reached levels ns ns' n m.count m.reference gs f × Remembered w ns' m.count levels w' c slots
 
 -- an answer without visits
-abbrev pub plainly : Made → Counted
-plainly made.Full = Full
-plainly (made.At n r) = At n r 0
+abbrev pub plainly : Option Made → Option Counted
+plainly None = None
+plainly (Some m) = Some (record { count = m.count; reference = m.reference; visits = 0 })
 
 -- no complement was walked
 pub record Plain (w w' : List ℕ) (c v : ℕ) : Type 0 where
@@ -115,12 +111,12 @@ TolledBy levels ns ns' n n' r news w w' c v (facts ts) = Plain w w' c v
 TolledBy levels ns ns' n n' r news w w' c v (does x) = Tolled levels ns ns' n n' r news w w' c v x
 
 -- the work on row i, whose task is x, left ns' and w' and said m
-abbrev pub RowDone : ℕ → List ℕ → List ℕ → ℕ → List ℕ → List ℕ → ℕ → Task → List ℕ → List ℕ → ℕ → ℕ → Counted → Type 0
-RowDone k ns ns' n olds news i x w w' c slots Full = Short (4 * k) ns ns' n (task_stages k (led ns n olds) (led ns n news) i x)
-RowDone k ns ns' n olds news i x w w' c slots (At n' r v) =
-    Reached (4 * k) ns ns' n n' r (task_stages k (led ns n olds) (led ns n news) i x) (task_says k (led ns n olds) (led ns n news) i x)
-    × Desk ns' n' (4 * k) w' c slots
-    × TolledBy (4 * k) ns ns' n n' r news w w' c v x
+abbrev pub RowDone : ℕ → List ℕ → List ℕ → ℕ → List ℕ → List ℕ → ℕ → Task → List ℕ → List ℕ → ℕ → ℕ → Option Counted → Type 0
+RowDone k ns ns' n olds news i x w w' c slots None = Short (4 * k) ns ns' n (task_stages k (led ns n olds) (led ns n news) i x)
+RowDone k ns ns' n olds news i x w w' c slots (Some m) =
+    Reached (4 * k) ns ns' n m.count m.reference (task_stages k (led ns n olds) (led ns n news) i x) (task_says k (led ns n olds) (led ns n news) i x)
+    × Desk ns' m.count (4 * k) w' c slots
+    × TolledBy (4 * k) ns ns' n m.count m.reference news w w' c m.visits x
 
 -- the references lead to these diagrams, and to no past them
 abbrev pub Are : List ℕ → ℕ → List ℕ → List Tree → Type 0

@@ -7,19 +7,10 @@
 pub mod row;
 pub mod turns;
 
-use making::Place;
-
-// What one fact adds to an atom's diagram: nothing where it does not match, and else that the four variables show these numbers.
-#[derive(Drop)]
-pub enum Turn {
-    Miss,
-    Hit(Place, Place, Place, Place),
-}
-
 // What the new diagram of a row that is no atom is: yes; of rows worked before it the and, the complement, the since with its own
 // old diagram; the old diagram of a row; or a row's diagram without the bits of a variable, which is named first. A row that is
 // not worked yet reads as no.
-#[derive(Drop)]
+#[derive(Clone, Copy)]
 pub enum Instruction {
     Yes,
     And(u32, u32),
@@ -29,20 +20,24 @@ pub enum Instruction {
     Drop(u32, u32),
 }
 
-// What a step tells: that the numbers or lengths are unfit, that the diagrams are not well kept, that the room is over the
-// slice's, or that it is done, with the count of kept nodes and the room.
-#[derive(Drop)]
-pub enum Told {
+// What a step that is done tells: the count of kept nodes and the room.
+#[derive(Clone, Copy)]
+pub struct Done {
+    pub kept: u32,
+    pub room: u32,
+}
+
+// Why a step is refused: the numbers or lengths are unfit, the diagrams are not well kept, or the room is over the slice's.
+#[derive(Clone, Copy, PartialEq, Eq)]
+pub enum Refused {
     Unfit,
     Bad,
     Full,
-    Done(u32, u32),
 }
 
-// What the check alone tells.
-#[derive(Drop)]
-pub enum Formed {
+// Why the check alone refuses.
+#[derive(Clone, Copy, PartialEq, Eq)]
+pub enum Unformed {
     Unfit,
     Bad,
-    Good,
 }

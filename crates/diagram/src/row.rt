@@ -11,6 +11,7 @@ ghost use Rattle.diagram.specs.Works.{Leads, Worked, Base, plainly, RowDone};
 
 use crate::Instruction;
 use making::Made;
+use walks::parting::Three;
 use walks::{Counted, drop_walk, not_walk, since_walk};
 
 // The reference of row a: no past the rows.
@@ -18,11 +19,7 @@ fn pick(refs: &[u32; 64], a: u32) -> u32
     requires { length refs.now ≡ 64 }
     ensures { result ≡ get_or refs.now a 0 }
 {
-    if 64 <= a {
-        return 0;
-    }
-    let i = a as usize;
-    refs[i]
+    refs.get(a as usize).copied().unwrap_or(0)
 }
 
 // The level of bit 0 of the variable v; past all levels for a v past the four variables.
@@ -30,10 +27,7 @@ fn first_level(k: u32, v: u32) -> u32
     requires { k ≤ 10 }
     ensures { Base k v result }
 {
-    if v < 4 {
-        return v * k;
-    }
-    4 * k
+    v.min(4) * k
 }
 
 // The bits of the variable v removed one at a time, from bit k - 1 down to bit 0.
@@ -46,34 +40,42 @@ fn drops_row(
     k: u32,
     v: u32,
     p: u32,
-) -> Made
+) -> Option<Made>
     requires k_bound { (k ≤ 10) × Desk nodes.old n (4 * k) work.old c slots }
     requires within { Within nodes.old n (4 * k) (4 * k) p }
     ensures { Worked (4 * k) nodes.old nodes.new n (drop_stages (v * k) k (eval (at (trees_of nodes.old n) p))) (drops (v * k) k (eval (at (trees_of nodes.old n) p))) work.old work.new c slots result }
 {
     let base = first_level(k, v);
-    let mut m = n;
-    let mut r = p;
-    let mut b = k;
-    while 0 < b {
-        b -= 1;
-        let Made::At(m1, r1) = drop_walk(nodes, work, c, slots, m, 4 * k, 4 * k, base + b, r) else {
-            return Made::Full;
-        };
-        m = m1;
-        r = r1;
+    let mut made = Made {
+        count: n,
+        reference: p,
+    };
+    for b in (0..k).rev() {
+        made = drop_walk(
+            nodes,
+            work,
+            c,
+            slots,
+            made.count,
+            4 * k,
+            4 * k,
+            base + b,
+            made.reference,
+        )?;
     }
-    Made::At(m, r)
+    Some(made)
 }
 
 // The answer of walks that count no visits.
-pub fn uncounted(m: Made) -> Counted
+pub fn uncounted(m: Option<Made>) -> Option<Counted>
     ensures { result ≡ plainly m }
 {
-    match m {
-        Made::Full => Counted::Full,
-        Made::At(n, r) => Counted::At(n, r, 0),
-    }
+    let made = m?;
+    Some(Counted {
+        count: made.count,
+        reference: made.reference,
+        visits: 0,
+    })
 }
 
 // The new diagram of row i, whose instruction is x, and the visits where it is a complement; `olds` are the references before
@@ -89,17 +91,21 @@ pub fn row(
     x: Instruction,
     olds: &[u32; 64],
     news: &[u32; 64],
-) -> Counted
+) -> Option<Counted>
     requires k_bound { (k ≤ 10) × Desk nodes.old n (4 * k) work.old c slots }
     requires leads { Leads nodes.old n (4 * k) olds.now × Leads nodes.old n (4 * k) news.now }
     ensures { RowDone k nodes.old nodes.new n olds.now news.now i (does x) work.old work.new c slots result }
 {
     match x {
-        Instruction::Yes => Counted::At(n, 1, 0),
+        Instruction::Yes => Some(Counted {
+            count: n,
+            reference: 1,
+            visits: 0,
+        }),
         Instruction::And(a, b) => {
             let l = pick(news, a);
             let o = pick(news, b);
-            uncounted(since_walk(nodes, work, c, slots, n, 4 * k, 4 * k, l, 0, o))
+            uncounted(since_walk(nodes, work, c, slots, n, 4 * k, 4 * k, Three { l, r: 0, o }))
         }
         Instruction::Not(a) => {
             let p = pick(news, a);
@@ -109,11 +115,15 @@ pub fn row(
             let l = pick(news, a);
             let r = pick(news, b);
             let o = pick(olds, i);
-            uncounted(since_walk(nodes, work, c, slots, n, 4 * k, 4 * k, l, r, o))
+            uncounted(since_walk(nodes, work, c, slots, n, 4 * k, 4 * k, Three { l, r, o }))
         }
         Instruction::Old(a) => {
             let p = pick(olds, a);
-            Counted::At(n, p, 0)
+            Some(Counted {
+                count: n,
+                reference: p,
+                visits: 0,
+            })
         }
         Instruction::Drop(v, a) => {
             let p = pick(news, a);

@@ -6,29 +6,29 @@ ghost use Rattle.making.specs.Tables.{Added, Shelf, Shelved};
 ghost use Rattle.diagram.specs.Steps.{turn_says};
 ghost use Rattle.diagram.specs.Works.{TurnOver};
 
-use crate::Turn;
-use making::Made;
 use making::into::into;
+use making::{Made, Number};
 
-// The diagram that says what p says, or what the turn says.
+// The diagram that says what p says, or what the turn says: nothing where its fact does not match, and else that the four variables show
+// these numbers.
 pub fn take_turn(
     nodes: &mut [u32],
     work: &mut [u32],
     c: usize,
     n: u32,
     k: u32,
-    turn: Turn,
+    turn: Option<[Option<Number>; 4]>,
     p: u32,
-) -> Made
+) -> Option<Made>
     requires shelf { Shelf nodes.old n work.old c }
     requires k_bound { (4 * k ≤ 64) × (p < n + 2) × TurnOver k turn (at (trees_of nodes.old n) p) }
     ensures { Added (λ ns j. Shelved work.old ns j work.new c) nodes.old nodes.new n (tree_of (4 * k) (λ s. eval (at (trees_of nodes.old n) p) s || turn_says k turn s)) result }
 {
     match turn {
-        Turn::Miss => Made::At(n, p),
-        Turn::Hit(x, y, z, u) => {
-            let places = [x, y, z, u];
-            into(nodes, work, c, n, k, places, p)
-        }
+        None => Some(Made {
+            count: n,
+            reference: p,
+        }),
+        Some(places) => into(nodes, work, c, n, k, places, p),
     }
 }

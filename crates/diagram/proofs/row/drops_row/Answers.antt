@@ -26,25 +26,22 @@ drop_walk-requires c =
     let v = c.loop-b.invariant.2 in
     record { desk = v.kept.desk; left_le_levels = (omega arith, v.within) }
 
-pub shape_of-nodes-in_default : goal.shape_of-nodes-in_default
-shape_of-nodes-in_default c = c.drop_walk.auto.nodes ∙ c.loop-b.invariant.2.size
+pub shape_of-nodes-in_err-made : goal.shape_of-nodes-in_err-made
+shape_of-nodes-in_err-made c = c.drop_walk.auto.nodes ∙ c.loop-b.invariant.2.size
 
-pub shape_of-work-in_default : goal.shape_of-work-in_default
-shape_of-work-in_default c = c.drop_walk.auto.work ∙ c.loop-b.invariant.1
+pub shape_of-work-in_err-made : goal.shape_of-work-in_err-made
+shape_of-work-in_err-made c = c.drop_walk.auto.work ∙ c.loop-b.invariant.1
 
-pub returns-in_default : goal.returns-in_default
-returns-in_default c =
-    let test = c in
-    let loop = test in
-    removal_short loop.first_level-base.ensures loop.requires.within
-    (removing_short test.loop-b-test.true loop.loop-b.invariant.2 c.in_default.ensures)
+pub returns-in_err-made : goal.returns-in_err-made
+returns-in_err-made c =
+    rw c.from_residual.ensures (removal_short c.first_level-base.ensures c.requires.within (removing_short c.loop-b-test.true c.loop-b.invariant.2 c.in_err-made.ensures))
 
 pub loop-b-preserved : goal.loop-b-preserved
 loop-b-preserved c =
     let done = c in
     let test = done in
     let v = test.loop-b.invariant in
-    let g = c.in-At.ensures in
+    let g = c.in_ok-made.ensures in
     (omega (arith, v.0), done.drop_walk.auto.work ∙ v.1, removing_more test.loop-b-test.true v.2 g.0 g.1)
 
 pub shape_of-nodes : goal.shape_of-nodes

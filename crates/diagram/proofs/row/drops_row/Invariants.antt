@@ -8,7 +8,4 @@ use Rattle.diagram.proofs.row.drops_row.Given as goal
 
 abbrev pub invariant-loop-b : goal.invariant-loop-b
 invariant-loop-b l =
-    (l.b ≤ l.k) × (length l.work ≡ length l.initial.work) × Removing (4 * l.k) l.base l.k l.initial.nodes l.n l.p l.nodes l.m l.r l.b l.initial.work l.work l.c l.slots
-
-abbrev pub decreases-loop-b : goal.decreases-loop-b
-decreases-loop-b l = l.b
+    (l.b ≤ l.k) × (length l.work ≡ length l.initial.work) × Removing (4 * l.k) l.base l.k l.initial.nodes l.n l.p l.nodes l.made.count l.made.reference l.b l.initial.work l.work l.c l.slots

@@ -7,13 +7,13 @@ use Rattle.diagram.proofs.turns.take_turn.Goals as goal
 pub into-requires : goal.into-requires
 into-requires c =
     let s = c in
-    record { shelf = s.requires.shelf; k_bound = (s.requires.k_bound.0, s.requires.k_bound.1, rw c.in-Hit.is at s.requires.k_bound.2) }
+    record { shelf = s.requires.shelf; k_bound = (s.requires.k_bound.0, s.requires.k_bound.1, rw c.in-Some.is at s.requires.k_bound.2) }
 
-pub returns-in-Miss : goal.returns-in-Miss
-returns-in-Miss c =
+pub returns-in-None : goal.returns-in-None
+returns-in-None c =
     let s = c in
-    let fine = rw c.in-Miss.is at s.requires.k_bound.2 in
-    rw c.in-Miss.is (stays _ _ _ _ s.requires.shelf.table s.requires.k_bound.1 (miss_tree s.args.k fine), shelved_same s.requires.shelf)
+    let fine = rw c.in-None.is at s.requires.k_bound.2 in
+    rw c.in-None.is (stays _ _ _ _ s.requires.shelf.table s.requires.k_bound.1 (miss_tree s.args.k fine), shelved_same s.requires.shelf)
 
-pub returns-in-Hit : goal.returns-in-Hit
-returns-in-Hit c = rw c.in-Hit.is c.into.ensures
+pub returns-in-Some : goal.returns-in-Some
+returns-in-Some c = rw c.in-Some.is c.into.ensures
