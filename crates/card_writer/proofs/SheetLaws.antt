@@ -1,11 +1,10 @@
 -- A block that is being written, store by store. Assumes nothing.
 use Prim.Native.Nat.{ℕ, zero, suc, ◌+◌, ◌*◌, ◌%◌, ◌≤◌, ◌<◌}
 use native.Mathlib.Omega.{arith}
-use native.Mathlib.Numerals.{add-one}
 use mathlib.Core.Path.{◌≡◌, refl, sym, ap, ◌∙◌}
 use mathlib.Core.List.{List, [], ◌∷◌, ◌++◌, map, append-nil, append_assoc}
-use lib.ListN.{length, take, drop, set, length-append, length-set, take-append-drop}
-use lib.Seq.{sets, length-sets, take-set-lt, take-set-le, take-suc-set, take_all, get_or-set_same, get_or-set_other}
+use lib.ListN.{length, take, drop, set, replicate, length-append, length-set, take-append-drop}
+use lib.Seq.{sets, length-sets, take-set-lt, take-set-le, get_or-set_same, get_or-set_other}
 use Rattle.cards.specs.Bytes.{bytes_of, filled, joined, sums, check}
 use Rattle.cards.specs.Moments.{Record}
 use Rattle.cards.specs.Blocks.{record_bytes, body, block_bytes}
@@ -13,38 +12,14 @@ use Rattle.cards.proofs.BytesLaws.{length_filled, length_bytes}
 use Rattle.cards.proofs.BlockLaws.{length_record}
 use Rattle.card_block.proofs.ShapeLaws.{body_first}
 use Rattle.card_block.proofs.TestLaws.{two_bytes}
+use Rattle.card_writer.specs.declared.Sheet.{Sheet}
 use Rattle.card_writer.specs.Sheets.{block_with, Holding}
 
--- clearing, byte by byte
-pub record Cleared (before out : List ℕ) (i : ℕ) : Type 0 where
-  pub within : i ≤ length before
-  pub size : length out ≡ length before
-  pub shown : take i out ≡ filled i []
-
-filled_snoc : (i : ℕ) → filled i [] ++ (0 ∷ []) ≡ filled (suc i) []
+-- 512 bytes that are all 0
+zeros_filled : (n : ℕ) → replicate n 0 ≡ filled n []
 unfolding filled
-filled_snoc zero = refl
-filled_snoc (suc i) = ap (λ (l : List ℕ). 0 ∷ l) (filled_snoc i)
-
-pub cleared_none : (before : List ℕ) → Cleared before before 0
-unfolding filled
-cleared_none before = record { within = omega arith; size = refl; shown = refl }
-
-pub cleared_more : {before out : List ℕ} {i : ℕ} → Cleared before out i → i < length out → Cleared before (set out i 0) (i + 1)
-cleared_more {before} {out} {i} c h =
-    record {
-      within = omega (arith, c.size);
-      size = length-set out i 0 ∙ c.size;
-      shown = rw add-one (take-suc-set out i 0 h ∙ ap (λ (l : List ℕ). l ++ (0 ∷ [])) c.shown ∙ filled_snoc i);
-    }
-
-pub cleared_all : {before out : List ℕ} {i : ℕ} → Cleared before out i → length out ≤ i → out ≡ filled (length before) []
-cleared_all {before} {out} {i} c h =
-    let all : i ≡ length before = omega (arith, c.within, c.size) in
-    sym (take_all i out h) ∙ c.shown ∙ ap (λ (n : ℕ). filled n []) all
-
-pub cleared_long : (out : List ℕ) → out ≡ filled 512 [] → length out ≡ 512
-cleared_long out e = ap length e ∙ length_filled 512 []
+zeros_filled zero = refl
+zeros_filled (suc n) = ap (λ (l : List ℕ). 0 ∷ l) (zeros_filled n)
 
 -- stores past the front
 sets_cons : (x : ℕ) (l : List ℕ) (k : ℕ) (zs : List ℕ) → sets (x ∷ l) (suc k) zs ≡ x ∷ sets l k zs
@@ -108,23 +83,26 @@ unfolding front
 set_front k v n l = refl
 
 -- one record more
-pub holding_more : (out out₁ : List ℕ) (n i : ℕ) (rs : List Record) (r : Record) → Holding out n rs → length rs ≡ i → i < 21
-    → out₁ ≡ set (sets out (6 + 24 * i) (record_bytes r)) 1 (i + 1) → Holding out₁ n (rs ++ (r ∷ []))
-holding_more out out₁ n i rs r h e few f =
+pub holding_more : (s : Sheet) (out : List ℕ) (n : ℕ) (rs : List Record) (r : Record) → Holding s n rs → s.records < 21
+    → out ≡ set (sets s.bytes (6 + 24 * s.records) (record_bytes r)) 1 (s.records + 1)
+    → Holding (record { bytes = out; records = s.records + 1 }) n (rs ++ (r ∷ []))
+holding_more s out n rs r h few f =
+    let i : ℕ = s.records in
     record {
-      size = ap length f ∙ length-set (sets out (6 + 24 * i) (record_bytes r)) 1 (i + 1) ∙ length-sets out (6 + 24 * i) (record_bytes r) ∙ h.size;
+      size = ap length f ∙ length-set (sets s.bytes (6 + 24 * i) (record_bytes r)) 1 (i + 1) ∙ length-sets s.bytes (6 + 24 * i) (record_bytes r) ∙ h.size;
+      count = length_snoc rs r ∙ ap (λ (k : ℕ). k + 1) h.count;
       shown =
           ap (take 510) f
-          ∙ take-set-lt 510 (sets out (6 + 24 * i) (record_bytes r)) 1 (i + 1) (omega arith)
+          ∙ take-set-lt 510 (sets s.bytes (6 + 24 * i) (record_bytes r)) 1 (i + 1) (omega arith)
           ∙ ap (λ (l : List ℕ). set l 1 (i + 1))
-          (take_sets 510 out (6 + 24 * i) (record_bytes r) (omega (arith, length_record r))
+          (take_sets 510 s.bytes (6 + 24 * i) (record_bytes r) (omega (arith, length_record r))
           ∙ ap (λ (l : List ℕ). sets l (6 + 24 * i) (record_bytes r)) (h.shown ∙ body_front n rs)
-          ∙ ap (λ (k : ℕ). sets (front (length rs) n ++ filled 504 (joined (map record_bytes rs))) k (record_bytes r)) (omega (arith, length_front (length rs) n, length_records rs))
+          ∙ ap (λ (k : ℕ). sets (front (length rs) n ++ filled 504 (joined (map record_bytes rs))) k (record_bytes r)) (omega (arith, h.count, length_front (length rs) n, length_records rs))
           ∙ sets_skip (front (length rs) n) (filled 504 (joined (map record_bytes rs))) (length (joined (map record_bytes rs))) (record_bytes r)
           ∙ ap (λ (l : List ℕ). front (length rs) n ++ l)
-          (filled_sets 504 (joined (map record_bytes rs)) (record_bytes r) (omega (arith, length_records rs, length_record r)) ∙ ap (filled 504) (sym (joined_snoc rs r))))
+          (filled_sets 504 (joined (map record_bytes rs)) (record_bytes r) (omega (arith, h.count, length_records rs, length_record r)) ∙ ap (filled 504) (sym (joined_snoc rs r))))
           ∙ set_front (length rs) (i + 1) n (filled 504 (joined (map record_bytes (rs ++ (r ∷ [])))))
-          ∙ ap (λ (k : ℕ). front k n ++ filled 504 (joined (map record_bytes (rs ++ (r ∷ []))))) (omega (arith, length_snoc rs r))
+          ∙ ap (λ (k : ℕ). front k n ++ filled 504 (joined (map record_bytes (rs ++ (r ∷ []))))) (omega (arith, h.count, length_snoc rs r))
           ∙ sym (body_front n (rs ++ (r ∷ [])));
     }
 
@@ -134,12 +112,15 @@ unfolding filled
 zeros_take zero m = refl
 zeros_take (suc n) m = let z : suc n + m ≡ suc (n + m) = omega arith in rw z (ap (λ (l : List ℕ). 0 ∷ l) (zeros_take n m))
 
-pub holding_none : (out out₁ : List ℕ) (n : ℕ) → out ≡ filled 512 [] → out₁ ≡ sets (set out 0 75) 2 (bytes_of 4 n) → Holding out₁ n []
-holding_none out out₁ n e f =
+pub holding_none : (out : List ℕ) (n : ℕ) → out ≡ sets (set (replicate 512 0) 0 75) 2 (bytes_of 4 n) → Holding (record { bytes = out; records = 0 }) n []
+holding_none out n f =
     record {
-      size = ap length f ∙ length-sets (set out 0 75) 2 (bytes_of 4 n) ∙ length-set out 0 75 ∙ ap length e ∙ length_filled 512 [];
+      size =
+          ap (λ (l : List ℕ). length l) (f ∙ ap (λ (l : List ℕ). sets (set l 0 75) 2 (bytes_of 4 n)) (zeros_filled 512))
+          ∙ length-sets (set (filled 512 []) 0 75) 2 (bytes_of 4 n) ∙ length-set (filled 512 []) 0 75 ∙ length_filled 512 [];
+      count = refl;
       shown =
-          ap (take 510) (f ∙ ap (λ (l : List ℕ). sets (set l 0 75) 2 (bytes_of 4 n)) e)
+          ap (take 510) (f ∙ ap (λ (l : List ℕ). sets (set l 0 75) 2 (bytes_of 4 n)) (zeros_filled 512))
           ∙ take_sets 510 (set (filled 512 []) 0 75) 2 (bytes_of 4 n) (omega (arith, length_bytes 4 n))
           ∙ ap (λ (l : List ℕ). sets l 2 (bytes_of 4 n)) (take-set-lt 510 (filled 512 []) 0 75 (omega arith) ∙ ap (λ (l : List ℕ). set l 0 75) (zeros_take 510 2))
           ∙ begun
@@ -160,21 +141,21 @@ unfolding check
 check_small x y bs e = sums_small 0 0 x y bs (omega arith) (omega arith) e
 
 -- the check at the end
-pub holding_end : (out out₁ : List ℕ) (n a b : ℕ) (rs : List Record) → Holding out n rs → check (take 510 out) ≡ a ∷ b ∷ []
-    → out₁ ≡ set (set out 510 a) 511 b → out₁ ≡ block_bytes (block_with n rs)
+pub holding_end : (s : Sheet) (out₁ : List ℕ) (n a b : ℕ) (rs : List Record) → Holding s n rs → check (take 510 s.bytes) ≡ a ∷ b ∷ []
+    → out₁ ≡ set (set s.bytes 510 a) 511 b → out₁ ≡ block_bytes (block_with n rs)
 unfolding block_bytes
-holding_end out out₁ n a b rs h e f =
+holding_end s out₁ n a b rs h e f =
     sym (take-append-drop 510 out₁) ∙ ap (λ (l : List ℕ). l ++ drop 510 out₁) first ∙ ap (λ (l : List ℕ). body (block_with n rs) ++ l) second
   where
     long : length out₁ ≡ 512
-    long = ap length f ∙ length-set (set out 510 a) 511 b ∙ length-set out 510 a ∙ h.size
+    long = ap length f ∙ length-set (set s.bytes 510 a) 511 b ∙ length-set s.bytes 510 a ∙ h.size
 
     first : take 510 out₁ ≡ body (block_with n rs)
-    first = ap (take 510) f ∙ take-set-le 510 (set out 510 a) 511 b (omega arith) ∙ take-set-le 510 out 510 a (omega arith) ∙ h.shown
+    first = ap (take 510) f ∙ take-set-le 510 (set s.bytes 510 a) 511 b (omega arith) ∙ take-set-le 510 s.bytes 510 a (omega arith) ∙ h.shown
 
     second : drop 510 out₁ ≡ check (body (block_with n rs))
     second =
         two_bytes out₁ long
-        ∙ rw (f, get_or-set_same (set out 510 a) 511 b 0 (omega (arith, length-set out 510 a, h.size)))
-        (ap (λ (k : ℕ). k ∷ b ∷ []) (get_or-set_other (set out 510 a) 511 510 b 0 (λ z. omega arith) ∙ get_or-set_same out 510 a 0 (omega (arith, h.size))))
+        ∙ rw (f, get_or-set_same (set s.bytes 510 a) 511 b 0 (omega (arith, length-set s.bytes 510 a, h.size)))
+        (ap (λ (k : ℕ). k ∷ b ∷ []) (get_or-set_other (set s.bytes 510 a) 511 510 b 0 (λ z. omega arith) ∙ get_or-set_same s.bytes 510 a 0 (omega (arith, h.size))))
         ∙ sym e ∙ ap check h.shown
