@@ -16,7 +16,7 @@ use Rattle.trees.specs.Table.{NodeIs}
 use Rattle.trees.specs.Kept.{above, node_right, equal_nodes}
 use Rattle.trees.proofs.Tests.{EqCase, equal, other, eq_case, lt_or_ge, false_true, not_true, and_true_l, and_true_r}
 use Rattle.nodes.specs.Nodes.{Decides}
-use Rattle.keeping.specs.Checks.{ZeroFrom, Right, Apart}
+use Rattle.keeping.specs.Checks.{ZeroFrom, Apart}
 
 -- two equal nodes are told by the test
 pub equal_true : (ns : List ℕ) (i j : ℕ)
@@ -107,13 +107,6 @@ module _ (ns : List ℕ) (j : ℕ) where
         pub right_high_level : get_or ns (3 * j + 2) 0 < j + 2 → above ns (get_or ns (3 * j) 0) (get_or ns (3 * j + 2) 0) ≡ node_right ns j
         unfolding node_right
         right_high_level h = rw (ne_eqb _ _ differ, lt-ltb _ _ back, up, lt-ltb _ _ h)
-
--- one node more
-pub right_more : {ns : List ℕ} {n levels : ℕ} → Right ns n levels → node_right ns n ≡ true → get_or ns (3 * n) 0 < levels → Right ns (n + 1) levels
-right_more {ns} {n} {levels} r e h = record {
-  node = more (λ j. node_right ns j ≡ true) n r.node e;
-  level = more (λ j. get_or ns (3 * j) 0 < levels) n r.level h;
-}
 
 -- two nodes that are told equal have the same numbers
 equal_node : (ns : List ℕ) (i j : ℕ) → equal_nodes ns i j ≡ true → NodeIs ns j (get_or ns (3 * i) 0) (get_or ns (3 * i + 1) 0) (get_or ns (3 * i + 2) 0)

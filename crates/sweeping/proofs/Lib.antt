@@ -2,6 +2,5 @@
 pub mod NoteLaws
 pub mod SweepLaws
 pub mod RowsLaws
-pub mod CopyLaws
 pub mod Visited
 pub mod OneOutcome

@@ -1,8 +1,8 @@
 -- Laws of the sweep of all rows: their diagrams added in order, the numbers that show the canonical table, and all visits.
 -- Assumes nothing.
-use Prim.Native.Nat.{ℕ, zero, suc, ◌+◌, ◌*◌, ◌-◌, ◌/◌, ◌≤◌, ◌<◌}
+use Prim.Native.Nat.{ℕ, zero, suc, ◌+◌, ◌*◌, ◌≤◌, ◌<◌}
 use mathlib.Core.Path.{◌≡◌, refl, sym, ap, ◌∙◌}
-use mathlib.Core.List.{List, [], ◌++◌}
+use mathlib.Core.List.{List, []}
 use native.Mathlib.Omega.{arith}
 use native.Mathlib.Decide.{ℕ_discrete}
 use native.Mathlib.Numerals.{add-one}
@@ -14,11 +14,11 @@ use Rattle.trees.specs.Kept.{diagrams}
 use Rattle.trees.proofs.TableLaws.{goes_ref}
 use Rattle.trees.proofs.CanonicalLaws.{zeros_at}
 use Rattle.trees.proofs.ReadLaws.{length_trees, ref_is, numbers_show}
-use Rattle.nodes.specs.Nodes.{Rest, Table, Zeroed, Rows, canonical}
+use Rattle.nodes.specs.Nodes.{Rest, Table, Rows, canonical}
 use Rattle.nodes.proofs.ReadLaws.{grown_goes, canonical_suc}
 use Rattle.visits.specs.Visits.{sweeps, RefinesAll}
 use Rattle.visits.proofs.VisitSteps.{sweeps_more}
-use Rattle.sweeping.specs.Sweeps.{Ordered, Noted, notes_of, Emitted, sweep_of, Awaits, Copied, Renewal}
+use Rattle.sweeping.specs.Sweeps.{Ordered, Noted, notes_of, Emitted, sweep_of, Awaits, Copied}
 use Rattle.sweeping.proofs.NoteLaws.{few_visits}
 
 -- each row's diagram is reduced and ordered
@@ -124,16 +124,3 @@ going_all {ns} {m} {refs = refs} {w = w} {c} {n} {i} {out} g =
       answers = g.counted.answers;
       visits = g.counted.visits;
     }
-
--- the canonical table copied back, over notes that were zeroed before the sweep
-pub renewed : {ns : List ℕ} {m levels : ℕ} {refs : List ℕ} {count : ℕ} {w w₁ w₂ ns' : List ℕ} {kept : ℕ} {refs' : List ℕ} {v : ℕ} → m ≤ length ns / 3
-    → Zeroed (3 * (length ns / 3)) (3 * (length ns / 3) + m) w w₁ → Copied ns m levels refs count w₁ w₂ (length ns / 3) kept refs' v
-    → ns' ≡ take (3 * kept) w₂ ++ replicate (length ns - 3 * kept) 0 → Renewal ns m levels refs count w ns' w₂ kept refs' v
-renewed {ns} few z c e = record {
-  size = c.size;
-  numbers = rw (← c.size, ← c.numbers) e;
-  references = c.references;
-  rest = record { eq = λ i h. c.rest.eq i h ∙ z.rest.eq i (omega arith) };
-  answers = c.answers;
-  visits = c.visits;
-}

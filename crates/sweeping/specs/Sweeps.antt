@@ -1,9 +1,10 @@
 -- What the canonical sweep keeps, leaves and counts. Assumes nothing: these are definitions.
-use Rattle.std.specs.Prelude.{ℕ, ◌+◌, ◌*◌, ◌-◌, ◌/◌, ◌≤◌, ◌<◌, ◌≡◌, List, [], ◌++◌, length, get_or, take, drop, replicate}
+use Rattle.std.specs.Prelude.{ℕ, ◌+◌, ◌*◌, ◌-◌, ◌/◌, ◌≤◌, ◌<◌, ◌≡◌, Option, Some, None, List, [], ◌++◌, length, get_or, take, drop, replicate}
 use Rattle.trees.specs.Tree.{Fine}
 use Rattle.trees.specs.Table.{at, ref_of, show, trees_of, Ref}
 use Rattle.nodes.specs.Nodes.{Table, Rest, Grown, canonical}
 use Rattle.visits.specs.Visits.{Swept, sweep, sweeps, Refines}
+use Rattle.sweeping.specs.declared.Swept.{Swept as Found}
 
 -- r leads to a reduced ordered diagram of the first m nodes, over the last `left` levels, or fewer
 pub record Ordered (ns : List ℕ) (m left r : ℕ) : Type 0 where
@@ -36,10 +37,10 @@ pub record Emitted (ns : List ℕ) (m p : ℕ) (w w' : List ℕ) (c n n' r v : �
   pub counted : (lo hi left : ℕ) → Fine lo hi (at (trees_of ns m) p) → hi ≤ lo + left
       → Refines (sweep ns left (trees_of (take (3 * c) w) n) (notes_of m c w) p) (trees_of (take (3 * c) w') n') (notes_of m c w') r v
 
--- a visit of r that goes no further added nothing; where no visit is counted, r is a node without a note
-pub record Known (ns : List ℕ) (m : ℕ) (w : List ℕ) (c n r : ℕ) (n' r' v : ℕ) : Type 0 where
-  pub seen : (v ≡ 0 → ⊥) → Emitted ns m r w w c n n' r' v
-  pub new : v ≡ 0 → (2 ≤ r) × (get_or w (3 * c + (r - 2)) 0 ≡ 0)
+-- a visit of r that goes no further added nothing; where there is none, r is a node without a note
+abbrev pub Known : List ℕ → ℕ → List ℕ → ℕ → ℕ → ℕ → Option Found → Type 0
+Known ns m w c n r (Some s) = Emitted ns m r w w c n s.count s.reference s.visits
+Known ns m w c n r None = (2 ≤ r) × (get_or w (3 * c + (r - 2)) 0 ≡ 0)
 
 -- 64 numbers that wait for the references of the first `count` rows: 0 past them
 pub record Awaits (count : ℕ) (out : List ℕ) : Type 0 where

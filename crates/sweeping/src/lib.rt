@@ -7,11 +7,11 @@ ghost use Rattle.std.specs.Prelude.{◌≡◌, ℕ, ◌+◌, ◌*◌, ◌-◌, �
 ghost use Rattle.nodes.specs.Nodes.{Table, Rows};
 ghost use Rattle.sweeping.specs.Sweeps.{Noted, Ordered, Known, Emitted, Awaits, Copied, Renewal};
 
-use nodes::{Node, read, zero};
+use nodes::{Node, read};
 
 // What the sweep of a diagram answers: the count of nodes of the new table, the diagram's reference there, and how many
 // visits the sweep took: one for each reference that it followed.
-#[derive(Drop)]
+#[derive(Clone, Copy)]
 struct Swept {
     count: u32,
     reference: u32,
@@ -30,31 +30,27 @@ fn emit(work: &mut [u32], n: u32, j: usize, x: Node)
     work[j] = n + 3;
 }
 
-// A visit of r that goes no further: r is a leaf, or has a note. No visit is counted where r is to be taken apart.
-fn known(nodes: &[u32], m: u32, work: &[u32], n: u32, r: u32) -> Swept
+// A visit of r that goes no further: r is a leaf, or has a note. None where r is to be taken apart.
+fn known(nodes: &[u32], m: u32, work: &[u32], n: u32, r: u32) -> Option<Swept>
     requires { Noted nodes.now m work.now (length nodes.now / 3) n × (r < m + 2) }
-    ensures { Known nodes.now m work.now (length nodes.now / 3) n r result.count result.reference result.visits }
+    ensures { Known nodes.now m work.now (length nodes.now / 3) n r result }
 {
     if r < 2 {
-        return Swept {
+        return Some(Swept {
             count: n,
             reference: r,
             visits: 1,
-        };
+        });
     }
     let note = work[nodes.len() + (r as usize - 2)];
     if note == 0 {
-        return Swept {
-            count: n,
-            reference: 0,
-            visits: 0,
-        };
+        return None;
     }
-    Swept {
+    Some(Swept {
         count: n,
         reference: note - 1,
         visits: 1,
-    }
+    })
 }
 
 // Adds the node r, which has no note, and its sides: low side first, then high, then the node itself. It is in the new table
@@ -67,18 +63,18 @@ fn apart(nodes: &[u32], m: u32, work: &mut [u32], n: u32, left: u32, r: u32) -> 
 {
     let j = nodes.len() + (r as usize - 2);
     let x = read(nodes, m, r);
-    let mut a = known(nodes, m, work, n, x.low);
-    if a.visits == 0 {
-        a = apart(nodes, m, work, n, left - 1, x.low);
-    }
-    let mut b = known(nodes, m, work, a.count, x.high);
-    if b.visits == 0 {
-        b = apart(nodes, m, work, a.count, left - 1, x.high);
-    }
+    let a = match known(nodes, m, work, n, x.low) {
+        Some(seen) => seen,
+        None => apart(nodes, m, work, n, left - 1, x.low),
+    };
+    let b = match known(nodes, m, work, a.count, x.high) {
+        Some(seen) => seen,
+        None => apart(nodes, m, work, a.count, left - 1, x.high),
+    };
     let y = Node {
-        level: x.level,
         low: a.reference,
         high: b.reference,
+        ..x
     };
     emit(work, b.count, j, y);
     Swept {
@@ -89,7 +85,7 @@ fn apart(nodes: &[u32], m: u32, work: &mut [u32], n: u32, left: u32, r: u32) -> 
 }
 
 // What the sweep of all rows answers: the count of nodes of the canonical table, and all visits.
-#[derive(Drop)]
+#[derive(Clone, Copy)]
 pub struct Renewed {
     pub kept: u32,
     pub visits: u32,
@@ -113,21 +109,18 @@ fn sweep_all(
     requires rows { Rows nodes.now m levels refs.now count }
     ensures { Copied nodes.now m levels refs.now count work.old work.new (length nodes.now / 3) result.kept out.new result.visits }
 {
-    let mut n = 0;
+    let mut kept = 0;
     let mut visits = 0;
-    let mut i = 0;
-    while i < count {
-        let j = i as usize;
-        let mut s = known(nodes, m, work, n, refs[j]);
-        if s.visits == 0 {
-            s = apart(nodes, m, work, n, levels, refs[j]);
-        }
-        out[j] = s.reference;
-        n = s.count;
+    for i in 0..count as usize {
+        let s = match known(nodes, m, work, kept, refs[i]) {
+            Some(seen) => seen,
+            None => apart(nodes, m, work, kept, levels, refs[i]),
+        };
+        out[i] = s.reference;
+        kept = s.count;
         visits += s.visits;
-        i += 1;
     }
-    Renewed { kept: n, visits }
+    Renewed { kept, visits }
 }
 
 // Copies the first n nodes of `work` to `nodes`, and sets the rest of `nodes` to 0.
@@ -136,13 +129,8 @@ fn copy_back(work: &[u32], nodes: &mut [u32], n: u32)
     ensures { nodes.new ≡ take (3 * n) work.now ++ replicate (length nodes.old - 3 * n) 0 }
 {
     let k = 3 * (n as usize);
-    let mut i = 0;
-    while i < k {
-        nodes[i] = work[i];
-        i += 1;
-    }
-    let end = nodes.len();
-    zero(nodes, k, end);
+    nodes[..k].copy_from_slice(&work[..k]);
+    nodes[k..].fill(0);
 }
 
 // Makes the nodes the canonical table of the diagrams of the first `count` references: the rows in order, each diagram
@@ -163,8 +151,8 @@ pub fn renew(
     requires rows { Rows nodes.old m levels refs.now count }
     ensures { Renewal nodes.old m levels refs.now count work.old nodes.new work.new result.kept out.new result.visits }
 {
-    let c = nodes.len() / 3;
-    zero(work, 3 * c, 3 * c + m as usize);
+    let notes = nodes.len();
+    work[notes..notes + m as usize].fill(0);
     let x = sweep_all(nodes, m, work, levels, refs, count, out);
     copy_back(work, nodes, x.kept);
     x
