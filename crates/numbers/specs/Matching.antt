@@ -1,6 +1,7 @@
 -- When a row is an atom that matches a fact, and the parts of that. Assumes nothing: these are definitions.
-use Rattle.std.specs.Prelude.{ℕ, ◌/◌, ◌≤◌, ◌<◌, ◌≡◌, Bool, true, false, not, ◌&&◌, ◌||◌, List, [], ◌∷◌, eqb, length, take}
+use Rattle.std.specs.Prelude.{ℕ, ◌/◌, ◌≤◌, ◌<◌, ◌≡◌, Bool, true, false, not, ◌&&◌, ◌||◌, List, [], ◌∷◌, map, eqb, length, take}
 use Rattle.meaning.specs.declared.Fact.{Fact as Handed}
+use Rattle.meaning.specs.declared.Value.{Value}
 use Rattle.meaning.specs.Qtl.{Argument, variable, constant, Fact}
 use Rattle.meaning.specs.Rows.{Row, truth, atom, both, neg, since, previous, exists, argument_at}
 use Rattle.meaning.specs.Numbering.{repeats, fits}
@@ -28,6 +29,10 @@ arguments_in (exists x r) = []
 -- the first n arguments of the row at place i
 unfoldable pub arguments_of : List ℕ → ℕ → ℕ → List Argument
 arguments_of raw i n = take n (argument_at raw i 0 ∷ argument_at raw i 1 ∷ argument_at raw i 2 ∷ [])
+
+-- values as plain numbers
+abbrev pub plain_values : List Value → List ℕ
+plain_values ys = map (λ (y : Value). y.0) ys
 
 -- where the argument is the variable v, the value z is y
 unfoldable pub same_at : ℕ → ℕ → Argument → ℕ → Bool

@@ -16,9 +16,6 @@ use making::Number;
 pub use matching::matches;
 use meaning::{Fact, Value};
 
-// 2^k − 1 for each k from 0 to 10.
-const MOST: [u32; 11] = [0, 1, 3, 7, 15, 31, 63, 127, 255, 511, 1023];
-
 // What an event asks: how many values of each variable have numbers after it; the new values of variable v, in order, from
 // 24 * v on, and 0 past them; and at 12 * f + 3 * v + j the number that variable v has for value j of fact f, where an atom that
 // matches the fact has v at place j, and 4294967295 elsewhere.
@@ -31,7 +28,7 @@ pub struct Asked {
 
 // What looking a value up tells: it has this number; it has none, and one is left; it has none, and none is left; or there is nothing
 // to look in, because k, the variable, the count or the length of the value slice is none that a state has.
-#[derive(Drop)]
+#[derive(Clone, Copy)]
 pub enum Lookup {
     Has(Number),
     OneLeft,
@@ -44,8 +41,7 @@ pub fn most(k: u32) -> u32
     requires { k ≤ 10 }
     ensures { result ≡ Tables.most k }
 {
-    let i = k as usize;
-    MOST[i]
+    (1 << k) - 1
 }
 
 // The number that variable v has for value j of fact f: the table `given` is read as numbers here and nowhere else.
@@ -61,6 +57,5 @@ fn value_at(fact: Fact, j: usize) -> Value
     requires { (j < fact.count) × (fact.count ≤ 3) }
     ensures { result.0 ≡ get_or (fact_of fact).values j 0 }
 {
-    let vs = fact.values;
-    vs[j]
+    fact.values[j]
 }

@@ -14,17 +14,11 @@ pub fn look_in(list: &[u32], m: usize, y: Value) -> Lookup
     requires { length list.now ≤ 1023 }
     ensures { result ≡ looked_up m list.now y.0 }
 {
-    let mut i = 0;
-    while i < list.len() {
-        if list[i] == y.0 {
-            return Lookup::Has(Number(i as u32));
-        }
-        i += 1;
+    match list.iter().position(|x| *x == y.0) {
+        Some(i) => Lookup::Has(Number(i as u32)),
+        None if list.len() < m => Lookup::OneLeft,
+        None => Lookup::NoneLeft,
     }
-    if list.len() < m {
-        return Lookup::OneLeft;
-    }
-    Lookup::NoneLeft
 }
 
 // Looks y up among the values of variable v, of which m may have numbers.
@@ -41,21 +35,11 @@ pub fn look_part(m: usize, counts: [u32; 4], values: &[u32], v: usize, y: Value)
 fn readable(k: u32, counts: [u32; 4], values: &[u32], variable: u32) -> bool
     ensures { result ≡ Looking.readable k counts values.now variable }
 {
-    if k == 0 {
-        return false;
-    }
-    if 10 < k {
+    if k == 0 || 10 < k || 3 < variable {
         return false;
     }
     let m = most(k);
-    if values.len() != (4 * m) as usize {
-        return false;
-    }
-    if 3 < variable {
-        return false;
-    }
-    let v = variable as usize;
-    counts[v] <= m
+    values.len() == (4 * m) as usize && counts[variable as usize] <= m
 }
 
 // "Is this lot new to the rule?" Whether the variable has a number for y, and whether one is left where it has none. The value slice
@@ -67,6 +51,5 @@ pub fn look_up(k: u32, counts: [u32; 4], values: &[u32], variable: u32, y: Value
         return Lookup::Misfit;
     }
     let m = most(k) as usize;
-    let v = variable as usize;
-    look_part(m, counts, values, v, y)
+    look_part(m, counts, values, variable as usize, y)
 }

@@ -1,27 +1,18 @@
-use native.Mathlib.Omega.{arith}
-use mathlib.Core.Path.{sym}
-use borrow.Author.Count.{below_more}
-use Rattle.numbers.proofs.LookLaws.{looked_first, looked_left, looked_none}
-use borrow.Author.Rules.{rules}
+-- `look_in` meets its contract: the position is the value's place. Assumes nothing.
+use Rattle.std.proofs.Common.{rules, tests, eqb}
+use Rattle.std.proofs.lemmas.Iterator.{YieldsList-from_slice}
+use Rattle.std.proofs.lemmas.Iterator.Search.{position_from_yields_List}
+use Rattle.numbers.proofs.LookLaws.{looked_some, looked_left, looked_none}
 use Rattle.numbers.proofs.looking.look_in.Goals as goal
 
-pub returns-then-list-i : goal.returns-then-list-i
-returns-then-list-i c =
-    let s = c.args in
-    let l = c.loop-i in
-    sym (looked_first s.m s.list.now s.y.0 l.i (search rules) c.if-list-i.true l.invariant.1)
+pub returns-in-Some : goal.returns-in-Some
+returns-in-Some c =
+    looked_some c.args.m c.args.list.now c.args.y.0 c.in-Some.i (position_from_yields_List (λ x. eqb x c.args.y.0) _ _ c.position.result c.position.ensures.ran (YieldsList-from_slice c.args.list.now cc) (λ x b q k. search (rules, tests))) c.in-Some.is
 
-pub loop-i-preserved : goal.loop-i-preserved
-loop-i-preserved c = (search rules, below_more _ _ c.loop-i.invariant.1 c.if-list-i.false)
+pub returns-in-None : goal.returns-in-None
+returns-in-None c =
+    looked_left c.args.m c.args.list.now c.args.y.0 (position_from_yields_List (λ x. eqb x c.args.y.0) _ _ c.position.result c.position.ensures.ran (YieldsList-from_slice c.args.list.now cc) (λ x b q k. search (rules, tests))) c.in-None.is c.if-list-m.true
 
-pub returns-then-list-m : goal.returns-then-list-m
-returns-then-list-m c =
-    let s = c.args in
-    let l = c.loop-i in
-    sym (looked_left s.m s.list.now s.y.0 (λ k h. l.invariant.1 k (omega arith)) c.if-list-m.true)
-
-pub returns : goal.returns
-returns c =
-    let s = c.args in
-    let l = c.loop-i in
-    sym (looked_none s.m s.list.now s.y.0 (λ k h. l.invariant.1 k (omega arith)) c.if-list-m.false)
+pub returns-in-None-2 : goal.returns-in-None-2
+returns-in-None-2 c =
+    looked_none c.args.m c.args.list.now c.args.y.0 (position_from_yields_List (λ x. eqb x c.args.y.0) _ _ c.position.result c.position.ensures.ran (YieldsList-from_slice c.args.list.now cc) (λ x b q k. search (rules, tests))) c.in-None.is c.if-list-m.false

@@ -1,12 +1,17 @@
--- `again` meets its contract. Assumes nothing.
-use Rattle.numbers.proofs.FitLaws.{again_other, again_same, again_constant}
+-- `again` meets its contract: each return by the tests that led there. Assumes nothing.
+use Rattle.std.proofs.Common.{rules}
+use Rattle.rule.specs.Decoded.{argument_of}
+use Rattle.numbers.specs.Matching.{same_at}
 use Rattle.numbers.proofs.matching.again.Goals as goal
 
 pub returns-then-v-w : goal.returns-then-v-w
-returns-then-v-w c = let a = c.args in again_other a.v a.y.0 a.argument a.z.0 _ c.in-Variable.is c.if-v-w.true
+unfolding same_at argument_of
+returns-then-v-w c = rw c.in-Variable.is (search rules)
 
 pub returns-else-v-w : goal.returns-else-v-w
-returns-else-v-w c = let a = c.args in again_same a.v a.y.0 a.argument a.z.0 _ c.in-Variable.is c.if-v-w.false
+unfolding same_at argument_of
+returns-else-v-w c = rw c.in-Variable.is (search rules)
 
 pub returns-in-Constant : goal.returns-in-Constant
-returns-in-Constant c = let a = c.args in again_constant a.v a.y.0 a.argument a.z.0 _ c.in-Constant.is
+unfolding same_at argument_of
+returns-in-Constant c = rw c.in-Constant.is

@@ -1,24 +1,18 @@
--- `repeats` meets its contract: one law for each way out. Assumes nothing.
-use mathlib.Core.Path.{sym, ◌∙◌}
+-- `repeats` meets its contract: every later place is asked. Assumes nothing.
+use Rattle.std.proofs.Common.{◌≡◌, rules, tests, ◌∙◌}
+use Rattle.std.specs.List.{zip, list_all}
+use Rattle.std.proofs.lemmas.Iterator.{YieldsList-from_slice, YieldsList-from_zip}
+use Rattle.std.proofs.lemmas.Iterator.Search.{all_from_yields_List}
+use Rattle.meaning.specs.declared.Value.{Value}
+use Rattle.rule.specs.declared.Argument.{Argument}
 use Rattle.rule.specs.Decoded.{argument_of}
-use Rattle.numbers.proofs.FitLaws.{repeats_none, repeats_off, repeats_one, repeats_two}
-use borrow.Author.Tests.{not-true, not-false}
+use Rattle.numbers.specs.Matching.{same_at}
+use Rattle.numbers.proofs.FitLaws.{repeats_are}
 use Rattle.numbers.proofs.matching.repeats.Goals as goal
 
-pub returns-then-n-eq0 : goal.returns-then-n-eq0
-returns-then-n-eq0 c = let a = c.args in repeats_none a.v a.y.0 (argument_of a.b) (argument_of a.c) a.z.0 a.w.0 a.n c.if-n-eq0.true
-
-pub again-requires : goal.again-requires
-again-requires c = tt
-
-pub returns-then-not-again : goal.returns-then-not-again
-returns-then-not-again c = let a = c.args in repeats_off a.v a.y.0 (argument_of a.b) (argument_of a.c) a.z.0 a.w.0 a.n c.if-n-eq0.false (sym c.again.ensures ∙ not-true _ c.if-not-again.true-raw)
-
-pub returns-then-n-eq1 : goal.returns-then-n-eq1
-returns-then-n-eq1 c = let a = c.args in repeats_one a.v a.y.0 (argument_of a.b) (argument_of a.c) a.z.0 a.w.0 a.n c.if-n-eq1.true (sym c.again.ensures ∙ not-false _ c.if-not-again.false-raw)
-
-pub again-requires-2 : goal.again-requires-2
-again-requires-2 c = tt
-
 pub returns : goal.returns
-returns c = let a = c.args in c.again-2.ensures ∙ repeats_two a.v a.y.0 (argument_of a.b) (argument_of a.c) a.z.0 a.w.0 a.n c.if-n-eq0.false c.if-n-eq1.false (sym c.again.ensures ∙ not-false _ c.if-not-again.false-raw)
+returns c =
+    let all : c.all.result ≡ list_all (λ (p : Argument × Value). same_at c.args.v c.args.y.0 (argument_of p.0) p.1.0) (zip c.args.arguments.now c.args.values.now) =
+    all_from_yields_List (λ (p : Argument × Value). same_at c.args.v c.args.y.0 (argument_of p.0) p.1.0) c.all.new.self _ c.all.result c.all.ensures.ran
+    (YieldsList-from_zip {s = c.zip.result} (YieldsList-from_slice c.args.arguments.now cc) (YieldsList-from_slice c.args.values.now cc)) (λ x b q k. search (rules, tests)) in
+    all ∙ repeats_are c.args.v c.args.y.0 c.args.arguments.now c.args.values.now
