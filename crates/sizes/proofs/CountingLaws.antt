@@ -1,7 +1,7 @@
 -- Laws of the loop that counts a word's rows: its lowest row is counted, and then it is the word without it. Assumes nothing.
-use Prim.Native.Nat.{ℕ, zero, suc, ◌+◌, ◌-◌, ◌^◌, ◌≤◌, ◌<◌}
+use Prim.Native.Nat.{ℕ, zero, suc, ◌+◌, ◌-◌, ◌^◌, ◌<◌}
 use mathlib.Core.Path.{◌≡◌, refl, ap, ◌∙◌}
-use mathlib.Core.Bool.{Bool, true, false}
+use mathlib.Core.Bool.{true, false}
 use mathlib.Core.List.{List}
 use mathlib.Core.Logic.{◌≢◌}
 use native.Mathlib.Decide.{ℕ_discrete}
@@ -32,9 +32,6 @@ pub record Left (base word w : ℕ) (xs ys : List ℕ) : Type 0 where
   pub size : length ys ≡ length xs
   pub each : (i : ℕ) → i < length xs → get_or ys i 0 + bit (has_row base w i) ≡ get_or xs i 0 + bit (has_row base word i)
 
-pub left_all : (base word : ℕ) (xs : List ℕ) → Left base word word xs xs
-left_all base word xs = record { size = refl; each = λ i h. refl }
-
 pub left_none : {base word : ℕ} {xs ys : List ℕ} (w : ℕ) → w ≡ 0 → Left base word w xs ys → Counts (has_row base word) xs ys
 left_none {base} {word} {xs} {ys} w z f = record {
   size = f.size;
@@ -43,10 +40,6 @@ left_none {base} {word} {xs} {ys} w z f = record {
   where
     none : (i : ℕ) → has_row base w i ≡ false → get_or ys i 0 + bit (has_row base w i) ≡ get_or xs i 0 + bit (has_row base word i) → get_or ys i 0 ≡ get_or xs i 0 + bit (has_row base word i)
     none i e k = let q = rw e at k in omega (arith, q)
-
-most : (b : Bool) → bit b ≤ 1
-most true = omega arith
-most false = omega arith
 
 module _ (base word w : ℕ) (xs ys : List ℕ) (some : 0 < w) (fits : w < 2 ^ 32) (f : Left base word w xs ys) where
   abbrev place : ℕ
@@ -63,9 +56,6 @@ module _ (base word w : ℕ) (xs ys : List ℕ) (some : 0 < w) (fits : w < 2 ^ 3
 
   gone : has_row base (bit_and w (w - 1)) place ≡ false
   gone = row_is base (bit_and w (w - 1)) (count_trailing_zeros 32 w) ∙ (lowest 32 w some fits).clear
-
-  pub left_small : place < length xs → get_or xs place 0 ≤ 8192 → get_or ys place 0 ≤ 8192
-  left_small h k = let q = rw there at (f.each place h) in omega (arith, q, most (has_row base word place))
 
   pub left_next : place < length xs → Left base word (bit_and w (w - 1)) xs (set ys place (get_or ys place 0 + 1))
   left_next h = record { size = length-set ys place (get_or ys place 0 + 1) ∙ f.size; each = λ i l. go i l (ℕ_discrete i place) }

@@ -3,10 +3,8 @@ pub mod WordLaws
 pub mod LowestLaws
 pub mod GiveLaws
 pub mod Sized
-pub mod ListLaws
 pub mod CountingLaws
 pub mod PassLaws
-pub mod LentLaws
 pub mod SizesLaws
 pub mod AskedLaws
 pub mod OneOutcome

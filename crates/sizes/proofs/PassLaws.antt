@@ -6,10 +6,11 @@ use mathlib.Core.List.{List, map}
 use mathlib.Core.Logic.{◌⊎◌, inl, inr, ⊎_elim}
 use native.Mathlib.Omega.{arith}
 use lib.Pow.{pow-lt}
-use lib.ListN.{length, get_or, length-map, get_or-eq_default}
+use lib.ListN.{length, get_or, replicate, length-map, length-replicate, get_or-eq_default}
 use Rattle.trees.specs.Bits.{bit}
 use Rattle.trees.proofs.Tests.{lt_or_ge}
-use Rattle.nodes.specs.Nodes.{Table, Zeroed}
+use Rattle.trees.proofs.CanonicalLaws.{zeros_at}
+use Rattle.nodes.specs.Nodes.{Table}
 use Rattle.visits.proofs.CountLaws.{count_below, count_most}
 use Rattle.sizes.specs.Words.{Word, none, has_row, give, given, sides, down, marked, Counts, Pushed, Sized}
 use Rattle.sizes.proofs.WordLaws.{rows_none, rows_only, words_at}
@@ -47,9 +48,6 @@ pub record Pushing (ns : List ℕ) (kept base : ℕ) (vs xs : List ℕ) (n : ℕ
   pub long : length ws ≡ kept
   pub size : length ys ≡ length xs
   pub each : (i : ℕ) → i < length xs → get_or ys i 0 + marked ns n (map (has_row base) ws) i ≡ get_or xs i 0 + marked ns kept (map (has_row base) vs) i
-
-pub pushing_all : {ns : List ℕ} {kept base : ℕ} {vs xs : List ℕ} → length vs ≡ kept → Pushing ns kept base vs xs kept vs xs
-pushing_all e = record { few = omega arith; long = e; size = refl; each = λ i h. refl }
 
 pub pushing_none : {ns : List ℕ} {kept base : ℕ} {vs xs ws ys : List ℕ} {n : ℕ} → n ≤ 0 → Pushing ns kept base vs xs n ws ys → Pushed ns kept (map (has_row base) vs) xs ys
 unfolding marked count_below
@@ -100,10 +98,10 @@ pushing_more {ns} {kept} {base} {vs} {xs} {ws} {ys} n m z t p us₁ us₂ {zs} l
         rw given_down (omega (arith, a, b, k, q))
 
 -- the whole pass, from words that are 0
-pub pass_sized : {ns : List ℕ} {kept : ℕ} {refs : List ℕ} {base n : ℕ} {us xs ys : List ℕ} (vs ws : List ℕ) → Table ns kept → ((t : ℕ) → t < n → get_or refs (base + t) 0 < kept + 2)
-    → base + n ≤ length xs → Zeroed 0 (length us) us vs → length us ≡ kept → map (has_row base) ws ≡ given (map (has_row base) vs) refs base n → Pushed ns kept (map (has_row base) ws) xs ys
+pub pass_sized : {ns : List ℕ} {kept : ℕ} {refs : List ℕ} {base n : ℕ} {xs ys : List ℕ} (vs ws : List ℕ) → Table ns kept → ((t : ℕ) → t < n → get_or refs (base + t) 0 < kept + 2)
+    → base + n ≤ length xs → vs ≡ replicate kept 0 → map (has_row base) ws ≡ given (map (has_row base) vs) refs base n → Pushed ns kept (map (has_row base) ws) xs ys
     → Sized ns kept refs base n xs ys
-pass_sized {ns} {kept} {refs} {base} {n} {us} {xs} {ys} vs ws t inside wide z len g p = record {
+pass_sized {ns} {kept} {refs} {base} {n} {xs} {ys} vs ws t inside wide z g p = record {
   size = p.size;
   each = λ u h. p.each (base + u) (omega arith) ∙ ap (λ (x : ℕ). get_or xs (base + u) 0 + x) (ap (λ (x : List Word). marked ns kept x (base + u)) g ∙ sized ns kept t.back t.one refs base n u h (inside u h) (map (has_row base) vs) long empty);
   before = λ i h. p.each i (omega arith) ∙ more i (inl h);
@@ -114,10 +112,10 @@ pass_sized {ns} {kept} {refs} {base} {n} {us} {xs} {ys} vs ws t inside wide z le
 }
   where
     long : kept ≤ length (map (has_row base) vs)
-    long = rw length-map (omega (arith, z.size))
+    long = rw (length-map, z, length-replicate) (omega arith)
 
     zero_at : (j : ℕ) → get_or vs j 0 ≡ 0
-    zero_at j = ⊎_elim (λ h. z.zero j (omega arith) h) (λ h. get_or-eq_default vs 0 (omega (arith, z.size))) (lt_or_ge j (length us))
+    zero_at j = rw z (zeros_at kept j)
 
     empty : (j k : ℕ) → get_or (map (has_row base) vs) j none k ≡ false
     empty j k = ap (λ (x : Word). x k) (words_at base vs j) ∙ ap (λ (x : ℕ). has_row base x k) (zero_at j) ∙ rows_none base k

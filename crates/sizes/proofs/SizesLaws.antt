@@ -115,10 +115,6 @@ module _ (ns : List ℕ) (kept : ℕ) (refs : List ℕ) (count : ℕ) (l : Leadi
       start : get_or xs i 0 ≡ 0
       start = rw z (zeros_at 64 i)
 
--- sizes that are 0
-pub zero_small : (xs : List ℕ) → xs ≡ replicate 64 0 → (i : ℕ) → get_or xs i 0 ≤ 4096
-zero_small xs z i = let e : get_or xs i 0 ≡ 0 = rw z (zeros_at 64 i) in omega arith
-
 -- where no node is kept every size is 0, as after start
 pub sizes_none : (ns refs : List ℕ) (count : ℕ) → Leading refs count 0 → sizes_of (diagrams ns 0 refs count) ≡ replicate 64 0
 sizes_none ns refs count l =

@@ -11,18 +11,14 @@ ghost use Rattle.nodes.specs.Nodes.{Table, Rest, Decides};
 ghost use Rattle.sizes.specs.Leading.{Leading};
 ghost use Rattle.sizes.specs.Words.{has_row, give, given, Counts, Pushed, Sized};
 
-use nodes::zero;
-
 // Joins the rows of w to the word of the node that r leads to.
 fn join(words: &mut [u32], r: u32, w: u32)
     requires { r < length words.old + 2 }
     ensures { (base : ℕ) → map (has_row base) words.new ≡ give (map (has_row base) words.old) r (has_row base w) }
 {
-    if r < 2 {
-        return;
+    if 2 <= r {
+        words[r as usize - 2] |= w;
     }
-    let i = r as usize - 2;
-    words[i] = words[i] | w;
 }
 
 // Marks the roots of the n rows from `base` on.
@@ -31,11 +27,8 @@ fn mark_roots(refs: &[u32; 64], base: u32, n: u32, words: &mut [u32])
     requires by_index { (t : ℕ) → t < n → get_or refs.now (base + t) 0 < length words.old + 2 }
     ensures { map (has_row base) words.new ≡ given (map (has_row base) words.old) refs.now base n }
 {
-    let mut t = 0;
-    while t < n {
-        let i = base as usize + t as usize;
-        join(words, refs[i], 1 << t);
-        t += 1;
+    for t in 0..n {
+        join(words, refs[(base + t) as usize], 1 << t);
     }
 }
 
@@ -46,9 +39,8 @@ fn count_rows(word: u32, base: u32, sizes: &mut [u32; 64])
 {
     let mut w = word;
     while w != 0 {
-        let i = base as usize + u32::trailing_zeros(w) as usize;
-        sizes[i] = sizes[i] + 1;
-        w = w & (w - 1);
+        sizes[(base + w.trailing_zeros()) as usize] += 1;
+        w &= w - 1;
     }
 }
 
@@ -58,10 +50,7 @@ fn push_down(nodes: &[u32], kept: u32, base: u32, words: &mut [u32], sizes: &mut
     requires base_bound { (base ≤ 32) × (length sizes.old ≡ 64) × ((i : ℕ) → get_or sizes.old i 0 ≤ 4096) }
     ensures { Pushed nodes.now kept (map (has_row base) words.old) sizes.old sizes.new }
 {
-    let mut n = kept;
-    while 0 < n {
-        n -= 1;
-        let j = n as usize;
+    for j in (0..kept as usize).rev() {
         let w = words[j];
         join(words, nodes[3 * j + 1], w);
         join(words, nodes[3 * j + 2], w);
@@ -84,22 +73,9 @@ fn pass(
     requires sizes_len { (length sizes.old ≡ 64) × ((i : ℕ) → get_or sizes.old i 0 ≤ 4096) }
     ensures { Sized nodes.now kept refs.now base n sizes.old sizes.new }
 {
-    let end = words.len();
-    zero(words, 0, end);
+    words.fill(0);
     mark_roots(refs, base, n, words);
     push_down(nodes, kept, base, words, sizes);
-}
-
-// Sets all sizes to 0.
-fn clear(sizes: &mut [u32; 64])
-    requires { length sizes.old ≡ 64 }
-    ensures { sizes.new ≡ replicate 64 0 }
-{
-    let mut i: usize = 0;
-    while i < 64 {
-        sizes[i] = 0;
-        i += 1;
-    }
 }
 
 // Leaves in `sizes`, for each of the first `count` rows, the number of different nodes of its diagram, and 0 past the rows. The
@@ -117,29 +93,12 @@ pub fn sizes(
     ensures sizes_after { sizes.new ≡ sizes_of (diagrams nodes.now kept refs.now count) }
     ensures rest { Rest kept work.old work.new }
 {
-    clear(sizes);
-    let end = kept as usize;
-    if count <= 32 {
-        pass(nodes, kept, refs, 0, count, &mut work[0..end], sizes);
-        return;
+    sizes.fill(0);
+    let words = &mut work[..kept as usize];
+    pass(nodes, kept, refs, 0, count.min(32), words, sizes);
+    if 32 < count {
+        pass(nodes, kept, refs, 32, count - 32, words, sizes);
     }
-    pass(nodes, kept, refs, 0, 32, &mut work[0..end], sizes);
-    pass(nodes, kept, refs, 32, count - 32, &mut work[0..end], sizes);
-}
-
-// Whether two arrays hold the same numbers.
-fn alike(xs: &[u32; 64], ys: &[u32; 64]) -> bool
-    requires { (length xs.now ≡ 64) × (length ys.now ≡ 64) }
-    ensures { Decides (xs.now ≡ ys.now) result }
-{
-    let mut i: usize = 0;
-    while i < 64 {
-        if xs[i] != ys[i] {
-            return false;
-        }
-        i += 1;
-    }
-    true
 }
 
 // Whether the sizes told are those of the rows' diagrams. It uses the work slice as `sizes` does.
@@ -158,5 +117,5 @@ pub fn sizes_right(
 {
     let mut own = [0; 64];
     sizes(nodes, kept, refs, count, work, &mut own);
-    alike(told, &own)
+    *told == own
 }
