@@ -1,12 +1,12 @@
 -- A card cut into pieces by the code: the piece at a place, and those past it. Assumes nothing.
 use Prim.Native.Nat.{ℕ, ◌+◌, ◌-◌, ◌≤◌, ◌<◌, min}
 use native.Mathlib.Omega.{arith}
-use mathlib.Core.Path.{◌≡◌, refl, sym, ◌∙◌}
+use mathlib.Core.Path.{◌≡◌, refl, sym, ap, ◌∙◌}
 use mathlib.Core.Bool.{Bool, true, false}
-use mathlib.Core.List.{List, ◌∷◌}
+use mathlib.Core.List.{List, [], ◌∷◌, ◌++◌, append-nil}
 use lib.Dec.{ltb}
-use lib.ListN.{length, take, drop, length-drop, drop_of_length-le}
-use lib.Seq.{drop-drop, take_all}
+use lib.ListN.{length, take, drop, length-drop, length-append, drop_of_length-le}
+use lib.Seq.{drop-drop, take_all, take_at, drop_at}
 use borrow.Author.Tests.{ltb-true, ltb-false}
 use Rattle.cards.specs.Blocks.{piece_of, pieces}
 use Rattle.cards.proofs.PieceLaws.{pieces_some}
@@ -31,3 +31,27 @@ piece_end card at end h e =
         let here : end ≡ at + 512 = omega arith in
         let size : end - at ≡ 512 = omega arith in
         rw (size, here)
+
+length-zero : (bs : List ℕ) → length bs ≡ 0 → bs ≡ []
+length-zero [] e = refl
+length-zero (b ∷ bs) e = absurd (omega arith)
+
+-- bytes cut after the first piece: 512 bytes, or all where fewer are left
+pub record Cut (bytes here rest : List ℕ) : Type 0 where
+  pub parts : bytes ≡ here ++ rest
+  pub size : length here ≡ min 512 (length bytes)
+  pub some : 0 < length bytes
+
+pub pieces_cut : (bytes here rest : List ℕ) → Cut bytes here rest → pieces bytes ≡ piece_of here ∷ pieces rest
+pieces_cut bytes here rest c = pieces_some bytes c.some ∙ go (ltb (length bytes) 512) refl
+  where
+    go : (q : Bool) → ltb (length bytes) 512 ≡ q → (piece_of (take 512 bytes) ∷ pieces (drop 512 bytes)) ≡ (piece_of here ∷ pieces rest)
+    go true f =
+        let short : length bytes < 512 = ltb-true (length bytes) 512 f in
+        let none : rest ≡ [] = length-zero rest (omega (arith, ap length c.parts, length-append here rest, c.size)) in
+        let all : bytes ≡ here = c.parts ∙ rw none (append-nil here) in
+        rw (take_all 512 bytes (omega arith), drop_of_length-le bytes {i = 512} (omega arith), none, sym all)
+    go false f =
+        let long : 512 ≤ length bytes = ltb-false (length bytes) 512 f in
+        let size : length here ≡ 512 = omega (arith, c.size) in
+        rw (c.parts, take_at here rest 512 size, drop_at here rest 512 size)

@@ -1,38 +1,48 @@
-use native.Mathlib.Omega.{arith}
-use Rattle.card_reader.proofs.StepLaws.{reached_start, reached_bad, reached_open, reached_some, reached_none, reached_end_open, reached_end_fine, finds_fine, finds_bad, finds_open}
+use mathlib.Core.Path.{refl, sym, ◌∙◌}
+use Rattle.card_reader.proofs.StepLaws.{cut_of, reached_start, reached_bad, reached_open, reached_some, reached_none, reached_end_open, reached_end_fine, finds_fine, finds_bad, finds_open}
 use Rattle.card_reader.proofs.read.Goals as goal
-use Rattle.card_reader.proofs.read.Goals.{then-onward-ne0, else-onward-ne0}
 
-pub loop-at-init : goal.loop-at-init
-loop-at-init c = rw c.begun-carried.ensures (reached_start _)
+pub loop-place-init : goal.loop-place-init
+loop-place-init c =
+    rw (c.into_iter-place-iterator.ensures.into_iter_gives, c.enumerate-place-items.ensures.source, c.enumerate-place-items.ensures.count, c.begun-carried.ensures, c.chunks.ensures.rest, c.chunks.ensures.size)
+    (record { size = refl; reached = reached_start c.args.card.now })
 
-pub end_of-end-requires : goal.end_of-end-requires
-end_of-end-requires c = c.loop-at.invariant.within
+pub returns-in-Err-Goes : goal.returns-in-Err-Goes
+returns-in-Err-Goes c =
+    let s = c.in-Some.ensures.steps in
+    rw (c.in-Err-Goes.why-is, s.1)
+    (finds_bad _ _ _
+    (reached_bad c.loop-place.invariant.reached _ _ (cut_of _ _ _ _ c.loop-place.invariant.size s.0.1.0 s.0.1.1 s.0.1.2) _ c.read_piece.ensures _ (c.in-Err-Goes.is ∙ rw c.in-Err-Goes.field-0-is)))
 
-pub slice_bounds-read_piece-count : goal.slice_bounds-read_piece-count
-slice_bounds-read_piece-count c = omega (arith, c.end_of-end.ensures, c.loop-at.invariant.within)
+pub returns-in-Err-Open : goal.returns-in-Err-Open
+returns-in-Err-Open c =
+    let s = c.in-Some.ensures.steps in
+    finds_open _ _
+    (reached_open c.loop-place.invariant.reached _ _ (cut_of _ _ _ _ c.loop-place.invariant.size s.0.1.0 s.0.1.1 s.0.1.2) _ c.read_piece.ensures (c.in-Err-Open.is ∙ rw c.in-Err-Open.field-0-is))
 
-pub returns-in-Bad : goal.returns-in-Bad
-returns-in-Bad c = finds_bad _ _ _ (reached_bad c.loop-at.invariant _ (omega arith) c.end_of-end.ensures _ c.read_piece.ensures _ c.in-Bad.is)
+pub loop-place-preserved-then-onward-ne0 : goal.loop-place-preserved-then-onward-ne0
+loop-place-preserved-then-onward-ne0 c =
+    let s = c.in-Some.ensures.steps in
+    record {
+      size = s.0.0 ∙ c.loop-place.invariant.size;
+      reached =
+          rw (s.2, s.1)
+          (reached_some c.loop-place.invariant.reached _ _ (cut_of _ _ _ _ c.loop-place.invariant.size s.0.1.0 s.0.1.1 s.0.1.2) _ c.read_piece.ensures _ c.in-Ok.is c.if-onward-ne0.true);
+    }
 
-pub returns-in-Open : goal.returns-in-Open
-returns-in-Open c = finds_open _ _ (reached_open c.loop-at.invariant _ (omega arith) c.end_of-end.ensures _ c.read_piece.ensures c.in-Open.is)
+pub loop-place-preserved : goal.loop-place-preserved
+loop-place-preserved c =
+    let s = c.in-Some.ensures.steps in
+    record {
+      size = s.0.0 ∙ c.loop-place.invariant.size;
+      reached =
+          rw s.2
+          (reached_none c.loop-place.invariant.reached _ _ (cut_of _ _ _ _ c.loop-place.invariant.size s.0.1.0 s.0.1.1 s.0.1.2) _ c.read_piece.ensures _ c.in-Ok.is c.if-onward-ne0.false);
+    }
 
-pub overflow_add-place : goal.overflow_add-place
-overflow_add-place c = omega (arith, c.loop-at.invariant.counted)
-
-pub loop-at-smaller : goal.loop-at-smaller
-loop-at-smaller c = omega (arith, c.end_of-end.ensures)
-
-pub loop-at-preserved : goal.loop-at-preserved
-loop-at-preserved c =
-    elim c.if-onward-ne0.branch [
-      | then-onward-ne0 w ↦ rw w.held-is (reached_some c.loop-at.invariant _ (omega arith) c.end_of-end.ensures _ c.read_piece.ensures _ c.in-On.is w.if-onward-ne0.true)
-      | else-onward-ne0 w ↦ rw w.held-is (reached_none c.loop-at.invariant _ (omega arith) c.end_of-end.ensures _ c.read_piece.ensures _ c.in-On.is w.if-onward-ne0.false)
-    ]
-
-pub returns-then-carried-ne0 : goal.returns-then-carried-ne0
-returns-then-carried-ne0 c = finds_open _ _ (reached_end_open c.loop-at.invariant (omega arith) c.if-carried-ne0.true)
+pub returns-then-is_some : goal.returns-then-is_some
+returns-then-is_some c =
+    finds_open _ _ (reached_end_open c.loop-place.invariant.reached c.in-None.ensures.steps.0.1.0 (sym c.is_some.ensures ∙ c.if-is_some.true))
 
 pub returns : goal.returns
-returns c = finds_fine _ (reached_end_fine c.loop-at.invariant (omega arith) c.if-carried-ne0.false)
+returns c = finds_fine _ _ (reached_end_fine c.loop-place.invariant.reached c.in-None.ensures.steps.0.1.0 (sym c.is_some.ensures ∙ c.if-is_some.false))
