@@ -16,6 +16,7 @@ use Rattle.trees.proofs.Tests.{EqCase, equal, other, eq_case}
 use Rattle.trees.proofs.TreeLaws.{mk_differ}
 use Rattle.nodes.specs.Nodes.{Table, Splits, Grown, Stuck}
 use Rattle.nodes.proofs.ReadLaws.{stays}
+use Rattle.std.specs.Prelude.{Option, Some, None}
 use Rattle.making.specs.declared.Made.{Made}
 use Rattle.making.specs.Tables.{Added}
 use Rattle.making.proofs.WalkLaws.{stuck_low, stuck_high, joined}
@@ -57,7 +58,7 @@ module _ {ns : List ℕ} {n : ℕ} (t : Table ns n) (base count m : ℕ) (some :
       go true (equal e) = rw (chain_even base m count some e) (stuck_low base _ _ t w)
       go false (other e) = rw (chain_odd base m count some e) (stuck_high base _ _ t (none_there t) w)
 
-  module _ {ns₁ : List ℕ} {n₁ q : ℕ} (g : Grown ns ns₁ n n₁ q (chain (base + 1) (count - 1) (m / 2))) (I : List ℕ → ℕ → Type 0) (ms : List ℕ) (x : Made) where
+  module _ {ns₁ : List ℕ} {n₁ q : ℕ} (g : Grown ns ns₁ n n₁ q (chain (base + 1) (count - 1) (m / 2))) (I : List ℕ → ℕ → Type 0) (ms : List ℕ) (x : Option Made) where
     -- the node of a bit that is 0, and of one that is 1
     pub bits_even : m % 2 ≡ 0 → Added I ns₁ ms n₁ (mk base (at (trees_of ns₁ n₁) q) (at (trees_of ns₁ n₁) 0)) x → Added I ns ms n (chain base count m) x
     bits_even e w = rw (chain_even base m count some e) (joined base _ _ t g (none_there g.table) I ms x w)
@@ -66,14 +67,13 @@ module _ {ns : List ℕ} {n : ℕ} (t : Table ns n) (base count m : ℕ) (some :
     bits_odd e w = rw (chain_odd base m count some e) (joined base _ _ t (none_there t) g I ms x w)
 
 -- the diagram of an age is its nodes; none is no
-pub shown_none : {ns : List ℕ} {n : ℕ} → Table ns n → (k x : ℕ) → x ≡ 0 → Grown ns ns n n 0 (shown_t k (age_of x))
+pub shown_none : {ns : List ℕ} {n : ℕ} → Table ns n → (k : ℕ) → Grown ns ns n n 0 (shown_t k (age_of None))
 unfolding shown_t age_of
-shown_none t k x e = rw e (none_there t)
+shown_none t k = none_there t
 
-pub shown_chain : (k x : ℕ) → 1 ≤ x → x ≤ 2048 → shown_t k (age_of x) ≡ chain (4 * k) 11 (x - 1)
+pub shown_chain : (k x : ℕ) → x < 2048 → shown_t k (age_of (Some x)) ≡ chain (4 * k) 11 x
 unfolding shown_t age_of
-shown_chain k zero h q = absurd (omega arith)
-shown_chain k (suc x) h q = let e : suc x - 1 ≡ x = omega arith in rw e (chain_is (4 * k) x (omega arith))
+shown_chain k x q = chain_is (4 * k) x (omega arith)
 
 -- the two sides of a node of an age
 data Half (base m n l : ℕ) (x y : Tree) : Type 0 where
@@ -178,15 +178,14 @@ read_small {count = count} h w = go count h w.small
     go {r} count h q = ⊎_elim (λ e. omega (arith, rw e at q)) (λ l. let k = pow-lt l in omega arith) (eq-or-lt_of_le h)
 
 -- the age that was read, and no age
-pub read_none : (ts : List Tree) (k p : ℕ) → p ≡ 0 → ReadAge k (at ts p) 0
+pub read_none : (ts : List Tree) (k p : ℕ) → p ≡ 0 → ReadAge k (at ts p) None
 unfolding at shown_t age_of
-read_none ts k p e = record { small = omega arith; is = rw e }
+read_none ts k p e = record { small = tt; is = rw e }
 
-pub read_some : {k r : ℕ} {d : Tree} → ReadBits (4 * k) 11 d r → ReadAge k d (r + 1)
+pub read_some : {k r : ℕ} {d : Tree} → ReadBits (4 * k) 11 d r → ReadAge k d (Some r)
 read_some {k} {r} w =
-    let e : r + 1 - 1 ≡ r = omega arith in
-    let q : r + 1 ≤ 2048 = let b = w.small in omega arith in
-    record { small = omega arith; is = w.is ∙ sym (shown_chain k (r + 1) (omega arith) q ∙ rw e) }
+    let q : r < 2048 = let b = w.small in omega arith in
+    record { small = w.small; is = w.is ∙ sym (shown_chain k r q) }
 
 -- a reference other than 0 leads to an age
 pub under_chain : {ns : List ℕ} {n p : ℕ} (k : ℕ) → Table ns n → p < n + 2 → p ≢ 0 → Under k (at (trees_of ns n) p) → Chain (4 * k) 11 (at (trees_of ns n) p)

@@ -1,5 +1,5 @@
 -- Laws of the memory of one operation's results, and of the table beside it. Assumes nothing.
-use Prim.Native.Nat.{ℕ, ◌+◌, ◌*◌, ◌-◌, ◌/◌, ◌≤◌, ◌<◌}
+use Prim.Native.Nat.{ℕ, ◌+◌, ◌*◌, ◌/◌, ◌≤◌, ◌<◌}
 use mathlib.Core.Path.{◌≡◌, refl, sym, ◌∙◌}
 use mathlib.Core.List.{List}
 use native.Mathlib.Decide.{ℕ_discrete}
@@ -14,8 +14,8 @@ use Rattle.nodes.specs.Nodes.{Front, Table, Grown}
 use Rattle.nodes.proofs.ChainLaws.{chained_same}
 use Rattle.nodes.proofs.ReadLaws.{grown_goes, grown_count, grown_ref, stays}
 use Rattle.making.specs.declared.Made.{Made}
-use Rattle.making.specs.declared.Made.TheVariants.{Full, At}
-use Rattle.making.specs.Tables.{Added, Shelf, Shelved, Spot, SlotIs, noted, Looked}
+use Rattle.std.specs.Prelude.{Option, Some, None}
+use Rattle.making.specs.Tables.{Added, Shelf, Shelved, Spot, SlotIs, noted, Looked, Kept}
 use Rattle.making.proofs.WalkLaws.{kept, front_less, front_trans}
 use Rattle.walks.proofs.MemoryLaws.{noted_other}
 use Rattle.aging.specs.Slates.{Trio, applied, Results, Slate, Slated}
@@ -104,12 +104,11 @@ results_note {op} {ns} {w} {n} {c} {slots} o i a b d r at_i room k v = record { 
         apart h = let u = p.is in let v = at_i.is in omega arith
 
 -- what the memory has for three references is the result
-pub results_hit : {op : Tree → Tree → Tree → Tree} {ns w : List ℕ} {n c slots : ℕ} → Table ns n → Results op ns n w c slots → {i : ℕ} → Spot c slots i → (a b d h : ℕ) → Looked w i a b d h → 0 < h
-    → Grown ns ns n n (h - 1) (applied op (trees_of ns n) a b d)
-results_hit {ns = ns} {n = n} t o {i} p a b d h f k =
-    let e : h ≡ h - 1 + 1 = omega arith in
-    let v = (o.hit i a b d (h - 1) p (rw e at (f.found k))).1 in
-    stays ns n (h - 1) _ t (omega (arith, v.below, length_trees ns n)) (sym v.is)
+pub results_hit : {op : Tree → Tree → Tree → Tree} {ns w : List ℕ} {n c slots : ℕ} → Table ns n → Results op ns n w c slots → {i : ℕ} → Spot c slots i → (a b d r : ℕ) → Looked w i a b d (Some r)
+    → Grown ns ns n n r (applied op (trees_of ns n) a b d)
+results_hit {ns = ns} {n = n} t o {i} p a b d r f =
+    let v = (o.hit i a b d r p f).1 in
+    stays ns n r _ t (omega (arith, v.below, length_trees ns n)) (sym v.is)
 
 -- a slice that differs only before the chains
 pub shelf_same : {ns : List ℕ} {n : ℕ} {w w' : List ℕ} {c : ℕ} → Shelf ns n w c → length w' ≡ length w → ((x : ℕ) → 13 * c ≤ x → get_or w' x 0 ≡ get_or w x 0) → Shelf ns n w' c
@@ -132,16 +131,16 @@ module _ {op : Tree → Tree → Tree → Tree} {ns : List ℕ} {n : ℕ} {w : L
   }
 
   -- the same of a call that only makes nodes
-  pub slate_added : (w' ms : List ℕ) (t : Tree) (m : Made) → Added (λ xs j. Shelved w xs j w' c) ns ms n t m → Added (λ xs j. Slated w op xs j w' c slots) ns ms n t m
-  slate_added w' ms t Full g = g
-  slate_added w' ms t (At m r) g = (g.0, record { slate = slate_shelved g.0 g.1; same = front_less g.1.same (omega arith) })
+  pub slate_added : (w' ms : List ℕ) (t : Tree) (m : Option Made) → Added (λ xs j. Shelved w xs j w' c) ns ms n t m → Added (λ xs j. Slated w op xs j w' c slots) ns ms n t m
+  slate_added w' ms t None g = g
+  slate_added w' ms t (Some m) g = (g.0, record { slate = slate_shelved g.0 g.1; same = front_less g.1.same (omega arith) })
 
   -- nothing is made
   pub slate_stays : Slated w op ns n w c slots
   slate_stays = record { slate = k; same = record { eq = λ i h. refl } }
 
   -- the diagram that was made is the operation's result, and is noted
-  pub slate_keep : (i a b d : ℕ) → Spot c slots i → Trio n a b d → {ms : List ℕ} {m r : ℕ} {t : Tree} {w' : List ℕ} → applied op (trees_of ns n) a b d ≡ t
+  slate_keep : (i a b d : ℕ) → Spot c slots i → Trio n a b d → {ms : List ℕ} {m r : ℕ} {t : Tree} {w' : List ℕ} → applied op (trees_of ns n) a b d ≡ t
       → Grown ns ms n m r t → Shelved w ms m w' c → Slated w op ms m (noted w' i a b d r) c slots
   slate_keep i a b d p q {r = r} {w' = w'} e g s =
       let k' = slate_shelved g s in
@@ -160,8 +159,14 @@ module _ {op : Tree → Tree → Tree → Tree} {ns : List ℕ} {n : ℕ} {w : L
         same = record { eq = λ x h. other x (λ z. absurd (omega arith)) ∙ s.same.eq x (omega arith) };
       }
 
+  -- so the walk remembers it
+  pub slate_kept : (i a b d : ℕ) → Spot c slots i → Trio n a b d → (ms w' : List ℕ) (t : Tree) → applied op (trees_of ns n) a b d ≡ t
+      → (m : Option Made) → Kept ns ms n t w w' c i a b d m → Added (λ xs j. Slated w op xs j w' c slots) ns ms n t m
+  slate_kept i a b d p q ms w' t e None g = g
+  slate_kept i a b d p q ms w' t e (Some m) g = (g.0, rw g.1.is (slate_keep i a b d p q e g.0 g.1.shelved))
+
 -- one walk after another, each of which only makes and remembers
-pub slate_then : (c : ℕ) {w₀ w₁ : List ℕ} → Front (5 * c) w₀ w₁ → (op : Tree → Tree → Tree → Tree) (slots : ℕ) (w₂ ns ms : List ℕ) (n : ℕ) (t : Tree) (m : Made)
+pub slate_then : (c : ℕ) {w₀ w₁ : List ℕ} → Front (5 * c) w₀ w₁ → (op : Tree → Tree → Tree → Tree) (slots : ℕ) (w₂ ns ms : List ℕ) (n : ℕ) (t : Tree) (m : Option Made)
     → Added (λ xs j. Slated w₁ op xs j w₂ c slots) ns ms n t m → Added (λ xs j. Slated w₀ op xs j w₂ c slots) ns ms n t m
-slate_then c e op slots w₂ ns ms n t Full g = g
-slate_then c e op slots w₂ ns ms n t (At m r) g = (g.0, record { slate = g.1.slate; same = front_trans e g.1.same (omega arith) })
+slate_then c e op slots w₂ ns ms n t None g = g
+slate_then c e op slots w₂ ns ms n t (Some m) g = (g.0, record { slate = g.1.slate; same = front_trans e g.1.same (omega arith) })

@@ -39,11 +39,11 @@ unfolding age_t ages_say ages_now next_age or_else eval
 right_on k d t l o = tree_same (4 * k + 11) _ _ (λ s. refl)
 
 -- so the eased references have the same result
-pub eased_same : (k : ℕ) (task : Task) (ts : List Tree) (l r o l' o' : ℕ) → Eased task l r o l' o' → applied (does k task) ts l r o ≡ applied (does k task) ts l' r o'
+pub eased_same : (k : ℕ) (task : Task) (ts : List Tree) (l r o l' r' o' : ℕ) → Eased task l r o l' r' o' → applied (does k task) ts l r o ≡ applied (does k task) ts l' r' o'
 unfolding does at
-eased_same k task ts l r o l' o' as_is = refl
-eased_same k task ts l r o l' o' (no_left b t e z) = rw (e, z) (left_off k (limit_of b) t (at ts r) (at ts o))
-eased_same k task ts l r o l' o' (right_now d t e z) = rw (e, z) (right_on k d t (at ts l) (at ts o))
+eased_same k task ts l r o l' r' o' as_is = refl
+eased_same k task ts l r o l' r' o' (no_left b t e z) = rw (e, z) (left_off k (limit_of b) t (at ts r) (at ts o))
+eased_same k task ts l r o l' r' o' (right_now d t e z) = rw (e, z) (right_on k d t (at ts l) (at ts o))
 
 -- no is a diagram, and an age diagram
 within_no : (ns : List ℕ) (n hi left : ℕ) → Within ns n hi left 0
@@ -54,12 +54,17 @@ dated_no : (ns : List ℕ) (n k left top : ℕ) → Dated ns n k left top 0
 unfolding at ages_right
 dated_no ns n k left top = record { below = omega arith; fine = fine_off (4 * k - left) (4 * k + 11); right = refl }
 
-pub eased_within : {task : Task} {ns : List ℕ} {n hi left l r o l' o' : ℕ} → Eased task l r o l' o' → Within ns n hi left l → Within ns n hi left l'
+pub eased_within : {task : Task} {ns : List ℕ} {n hi left l r o l' r' o' : ℕ} → Eased task l r o l' r' o' → Within ns n hi left l → Within ns n hi left l'
 eased_within as_is w = w
 eased_within {ns = ns} {n} {hi} {left} (no_left b t e z) w = within_no ns n hi left
 eased_within {ns = ns} {n} {hi} {left} (right_now d t e z) w = within_no ns n hi left
 
-pub eased_dated : {task : Task} {ns : List ℕ} {n k left top l r o l' o' : ℕ} → Eased task l r o l' o' → Dated ns n k left top o → Dated ns n k left top o'
+pub eased_right : {task : Task} {ns : List ℕ} {n hi left l r o l' r' o' : ℕ} → Eased task l r o l' r' o' → Within ns n hi left r → Within ns n hi left r'
+eased_right as_is w = w
+eased_right (no_left b t e z) w = w
+eased_right (right_now d t e z) w = w
+
+pub eased_dated : {task : Task} {ns : List ℕ} {n k left top l r o l' r' o' : ℕ} → Eased task l r o l' r' o' → Dated ns n k left top o → Dated ns n k left top o'
 eased_dated as_is w = w
 eased_dated {ns = ns} {n} {k} {left} {top} (no_left b t e z) w = dated_no ns n k left top
 eased_dated {ns = ns} {n} {k} {left} {top} (right_now d t e z) w = dated_no ns n k left top

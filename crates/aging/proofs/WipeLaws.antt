@@ -6,7 +6,7 @@ use native.Mathlib.Omega.{arith}
 use Rattle.trees.specs.Tree.{Tree}
 use Rattle.nodes.specs.Nodes.{Zeroed, Grown}
 use Rattle.making.specs.declared.Made.{Made}
-use Rattle.making.specs.declared.Made.TheVariants.{Full, At}
+use Rattle.std.specs.Prelude.{Option, Some, None}
 use Rattle.making.specs.Tables.{Added}
 use Rattle.making.proofs.WalkLaws.{front_trans}
 use Rattle.walks.specs.Walks.{Within}
@@ -63,6 +63,6 @@ unwiped {c = c} op k z g s y =
     }
 
 pub walked : (levels : ℕ) (op : Tree → Tree → Tree → Tree) {ns : List ℕ} (ms : List ℕ) {n : ℕ} (t : Tree) {w w₁ w₂ w₃ : List ℕ} {c slots : ℕ} → Desk ns n levels w c slots → Zeroed (5 * c) (5 * c + 4 * slots) w w₁
-    → Zeroed (5 * c) (5 * c + 4 * slots) w₂ w₃ → (x : Made) → Added (λ xs j. Slated w₁ op xs j w₂ c slots) ns ms n t x → Added (λ xs j. Remembered w xs j levels w₃ c slots) ns ms n t x
-walked levels op ms t k z y Full g = g
-walked levels op ms t k z y (At m r) g = (g.0, unwiped op k z g.0 g.1 y)
+    → Zeroed (5 * c) (5 * c + 4 * slots) w₂ w₃ → (x : Option Made) → Added (λ xs j. Slated w₁ op xs j w₂ c slots) ns ms n t x → Added (λ xs j. Remembered w xs j levels w₃ c slots) ns ms n t x
+walked levels op ms t k z y None g = g
+walked levels op ms t k z y (Some m) g = (g.0, unwiped op k z g.0 g.1 y)

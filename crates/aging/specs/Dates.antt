@@ -1,5 +1,5 @@
 -- Limits and ages as the code has them, and references to age diagrams. Assumes nothing: these are definitions.
-use Rattle.std.specs.Prelude.{ℕ, zero, suc, ◌+◌, ◌*◌, ◌-◌, ◌^◌, ◌≤◌, ◌<◌, ◌≡◌, Bool, true, List, ◌⊎◌, eqb}
+use Rattle.std.specs.Prelude.{ℕ, ◌+◌, ◌*◌, ◌-◌, ◌^◌, ◌≤◌, ◌<◌, ◌≡◌, true, Option, Some, None, IfSome, List, ◌⊎◌}
 use Rattle.trees.specs.Tree.{Tree, off, Fine}
 use Rattle.trees.specs.Table.{at, trees_of}
 use Rattle.ages.specs.Ages.{Limit, within, longer, Age, none, aged, top_age, ages_right}
@@ -16,14 +16,10 @@ limit_of (Longer d) = longer d
 abbrev pub Short : Bound → Type 0
 Short b = top_age (limit_of b) ≤ 1024
 
--- an age as a number: 0 for none, else one more than the age
-unfoldable pub age_of : ℕ → Age
-age_of zero = none
-age_of (suc n) = aged n
-
--- what a leaf says
-abbrev pub says : ℕ → Bool
-says p = eqb p 1
+-- an age as the code has it
+unfoldable pub age_of : Option ℕ → Age
+age_of None = none
+age_of (Some n) = aged n
 
 -- the diagram shows m bits of an age, from the level l on
 pub record Chain (l m : ℕ) (d : Tree) : Type 0 where
@@ -40,9 +36,9 @@ pub record ReadBits (l m : ℕ) (d : Tree) (n : ℕ) : Type 0 where
   pub small : n < 2 ^ m
   pub is : d ≡ chain l m n
 
--- what the diagram shows under the bindings' levels is an age, or none, and x is that age as a number
-pub record ReadAge (k : ℕ) (d : Tree) (x : ℕ) : Type 0 where
-  pub small : x ≤ 2 ^ 11
+-- what the diagram shows under the bindings' levels is an age, or none, and x is that age
+pub record ReadAge (k : ℕ) (d : Tree) (x : Option ℕ) : Type 0 where
+  pub small : IfSome x (λ n. n < 2 ^ 11)
   pub is : d ≡ shown_t k (age_of x)
 
 -- p leads to an age diagram that passes the test of refusal 4 for a row with ages up to top, and asks only the last `left` of the

@@ -18,8 +18,8 @@ unfoldable pub does : ℕ → Task → Tree → Tree → Tree → Tree
 does k (Ages b t) l r o = age_t k (limit_of b) t l r o
 does k (Ripe b) l r o = ripe_t k (limit_of b) o
 
--- the left side and the old ages as they are, or no for both, where they do not matter to the new ages
-pub data Eased (task : Task) (l r o : ℕ) : ℕ → ℕ → Type 0 where
-  as_is : Eased task l r o l o
-  no_left : (b : Bound) (t : ℕ) → task ≡ Ages b t → l ≡ 0 → Eased task l r o 0 0
-  right_now : (d t : ℕ) → task ≡ Ages (Within d) t → r ≡ 1 → Eased task l r o 0 0
+-- the three references as they are, or no for the left side and the old ages, where they do not matter to the new ages
+pub data Eased (task : Task) (l r o : ℕ) : ℕ → ℕ → ℕ → Type 0 where
+  as_is : Eased task l r o l r o
+  no_left : (b : Bound) (t : ℕ) → task ≡ Ages b t → l ≡ 0 → Eased task l r o 0 r 0
+  right_now : (d t : ℕ) → task ≡ Ages (Within d) t → r ≡ 1 → Eased task l r o 0 r 0

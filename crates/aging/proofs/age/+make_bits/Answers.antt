@@ -12,27 +12,27 @@ pub make_bits-requires : goal.make_bits-requires
 make_bits-requires t c =
     (omega (arith, c.decreases, c.if-count-eq0.false), (c.requires.shelf, omega (arith, c.requires.count_bound, c.if-count-eq0.false)))
 
-pub returns-in_default : goal.returns-in_default
-returns-in_default t c = bits_stuck c.requires.shelf.table _ _ _ c.if-count-eq0.false c.in_default.ensures
+pub returns-in_err-d : goal.returns-in_err-d
+returns-in_err-d t c = rw c.from_residual.ensures (bits_stuck c.requires.shelf.table _ _ _ c.if-count-eq0.false c.in_err-d.ensures)
 
 pub make-requires : goal.make-requires
 make-requires t c =
-    let g = c.in-At.ensures in
+    let g = c.in_ok-d.ensures in
     record { shelf = g.1.shelf; low_bound = (omega (arith, grown_ref g.0), omega (arith, grown_ref g.0)) }
 
 pub returns-then-m-eq0 : goal.returns-then-m-eq0
 returns-then-m-eq0 t c =
-    let g = c.in-At.ensures in
+    let g = c.in_ok-d.ensures in
     shelved_then _ g.1.same c.make.new.work _ c.make.new.nodes _ _ c.make.result
     (bits_even c.requires.shelf.table _ _ _ c.if-count-eq0.false g.0 (λ xs j. Shelved c.make_bits.new.work xs j c.make.new.work c.args.c) c.make.new.nodes c.make.result c.if-m-eq0.true c.make.ensures)
 
 pub make-requires-2 : goal.make-requires-2
 make-requires-2 t c =
-    let g = c.in-At.ensures in
+    let g = c.in_ok-d.ensures in
     record { shelf = g.1.shelf; low_bound = (omega (arith, grown_ref g.0), omega (arith, grown_ref g.0)) }
 
 pub returns : goal.returns
 returns t c =
-    let g = c.in-At.ensures in
+    let g = c.in_ok-d.ensures in
     shelved_then _ g.1.same c.make-2.new.work _ c.make-2.new.nodes _ _ c.make-2.result
     (bits_odd c.requires.shelf.table _ _ _ c.if-count-eq0.false g.0 (λ xs j. Shelved c.make_bits.new.work xs j c.make-2.new.work c.args.c) c.make-2.new.nodes c.make-2.result c.if-m-eq0.false c.make-2.ensures)

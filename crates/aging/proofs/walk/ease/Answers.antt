@@ -5,18 +5,17 @@ use Rattle.aging.specs.declared.Task.TheVariants.{Ages}
 use Rattle.aging.specs.Tasks.{as_is, no_left, right_now}
 use Rattle.aging.proofs.walk.ease.Goals as goal
 
-pub returns-then-l-eq0 : goal.returns-then-l-eq0
-returns-then-l-eq0 c = no_left _ _ c.in-Ages.is c.if-l-eq0.true
+pub returns-in-Ages : goal.returns-in-Ages
+returns-in-Ages c = no_left _ _ c.in-Ages.is c.if-x-eq0.true
 
-pub returns-in-Within : goal.returns-in-Within
-returns-in-Within c =
-    right_now _ _ (c.in-Ages.is ∙ ap (λ (b : Bound). Ages b c.in-Ages.field-1) c.in-Within.is) c.if-r-eq1.true
+pub returns-in-Ages-Within-default : goal.returns-in-Ages-Within-default
+returns-in-Ages-Within-default c = let w = c.in-Ages-Within-default in right_now _ _ (w.is ∙ ap (λ (b : Bound). Ages b w.field-1) (rw w.is at w.field-0-is)) c.if-x-eq1.true
 
 pub returns-in_default : goal.returns-in_default
 returns-in_default c = as_is
 
-pub returns-else-r-eq1 : goal.returns-else-r-eq1
-returns-else-r-eq1 c = as_is
+pub returns-in_default-2 : goal.returns-in_default-2
+returns-in_default-2 c = as_is
 
-pub returns-in-Ripe : goal.returns-in-Ripe
-returns-in-Ripe c = as_is
+pub returns-in_default-3 : goal.returns-in_default-3
+returns-in_default-3 c = as_is

@@ -2,7 +2,7 @@
 use native.Mathlib.Omega.{arith}
 use Rattle.nodes.proofs.ReadLaws.{stays}
 use Rattle.making.proofs.NodesLaws.{shelved_same}
-use Rattle.aging.proofs.EndLaws.{ages_end, ripe_ends}
+use Rattle.aging.proofs.EndLaws.{ages_end, ripe_ends, bool_small}
 use Rattle.aging.proofs.walk.ended.Goals as goal
 
 pub read_age-old-requires : goal.read_age-old-requires
@@ -11,14 +11,14 @@ read_age-old-requires c = record { table = c.requires.shelf.table; p_bound = (c.
 pub next_age-age-requires : goal.next_age-age-requires
 next_age-age-requires c =
     let q = c.requires.k_bound in
-    (rw c.in-Ages.is at q.1, q.2, q.3, omega (arith, c.read_age-old.ensures.small))
+    (rw c.in-Ages.is at q.1, c.read_age-old.ensures.small)
 
 pub make_age-requires : goal.make_age-requires
 make_age-requires c =
     record { shelf = c.requires.shelf; k_bound = (c.requires.k_bound.0, c.next_age-age.ensures.1) }
 
-pub ripe_leaf-requires : goal.ripe_leaf-requires
-ripe_leaf-requires c = rw c.in-Ripe.is at c.requires.k_bound.1
+pub is_ripe-requires : goal.is_ripe-requires
+is_ripe-requires c = rw c.in-Ripe.is at c.requires.k_bound.1
 
 pub returns-in-Ages : goal.returns-in-Ages
 returns-in-Ages c =
@@ -27,5 +27,4 @@ returns-in-Ages c =
 
 pub returns-in-Ripe : goal.returns-in-Ripe
 returns-in-Ripe c =
-    let y = c.ripe_leaf.ensures in
-    (rw c.in-Ripe.is (stays _ _ _ _ c.requires.shelf.table (omega (arith, y.0)) (ripe_ends _ _ _ _ _ _ _ c.read_age-old.ensures _ y.0 y.1)), shelved_same c.requires.shelf)
+    (rw c.in-Ripe.is (stays _ _ _ _ c.requires.shelf.table (omega (arith, bool_small _ _ c.from.ensures)) (ripe_ends _ _ _ _ _ _ _ c.read_age-old.ensures _ _ c.from.ensures c.is_ripe.ensures)), shelved_same c.requires.shelf)
