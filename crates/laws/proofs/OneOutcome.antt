@@ -15,10 +15,9 @@ use Rattle.trees.proofs.Tests.{lt_or_ge}
 use Rattle.trees.proofs.ReadLaws.{length_trees, numbers_show}
 use Rattle.nodes.specs.Nodes.{Rest, Table, Sides, Holds, Grown, Stuck}
 use Rattle.making.specs.declared.Made.{Made}
-use Rattle.making.specs.declared.Made.TheVariants.{Full, At}
+use Rattle.std.specs.Prelude.{Option, Some, None}
 use Rattle.making.specs.Tables.{Added}
 use Rattle.walks.specs.declared.Counted.{Counted}
-use Rattle.walks.specs.declared.Counted.TheVariants as counted
 use Rattle.walks.specs.Complements.{Complemented}
 use Rattle.diagram.specs.declared.Instruction.TheVariants as instruction
 use Rattle.diagram.specs.Steps.{Task, facts, does}
@@ -77,25 +76,35 @@ never_both {ns} {xs} {ys} {n} {b} {s} {d} g h =
     let z = h.size in
     omega arith
 
+-- two answers with the same numbers
+abbrev made : ℕ → ℕ → Made
+made count reference = record { count = count; reference = reference }
+
+abbrev counted : ℕ → ℕ → ℕ → Counted
+counted count reference visits = record { count = count; reference = reference; visits = visits }
+
+same_made : (l m : Made) → l.count ≡ m.count → l.reference ≡ m.reference → Some l ≡ Some m
+same_made l m e f = ap Some (ap₂ made e f)
+
+same_counted : (l m : Counted) → l.count ≡ m.count → l.reference ≡ m.reference → l.visits ≡ m.visits → Some l ≡ Some m
+same_counted l m e f g = ap Some (ap₂ (λ (c r : ℕ). counted c r l.visits) e f ∙ ap (counted m.count m.reference) g)
+
 -- `make`, `into`, `since_walk` and `drop_walk`: the answer and the node slice
-pub one_added : (I J : List ℕ → ℕ → Type 0) (ns xs ys : List ℕ) (n : ℕ) (d : Tree) (x y : Made) → Added I ns xs n d x → Added J ns ys n d y → (x ≡ y) × (xs ≡ ys)
-one_added I J ns xs ys n d Full Full p q = (refl, one_stuck p q)
-one_added I J ns xs ys n d Full (At b s) p q = absurd (never_both p q.0)
-one_added I J ns xs ys n d (At a r) Full p q = absurd (never_both q p.0)
-one_added I J ns xs ys n d (At a r) (At b s) p q = let z = one_grown p.0 q.0 in (ap₂ At z.0 z.1, z.2)
+pub one_added : (I J : List ℕ → ℕ → Type 0) (ns xs ys : List ℕ) (n : ℕ) (d : Tree) (x y : Option Made) → Added I ns xs n d x → Added J ns ys n d y → (x ≡ y) × (xs ≡ ys)
+one_added I J ns xs ys n d None None p q = (refl, one_stuck p q)
+one_added I J ns xs ys n d None (Some m) p q = absurd (never_both p q.0)
+one_added I J ns xs ys n d (Some l) None p q = absurd (never_both q p.0)
+one_added I J ns xs ys n d (Some l) (Some m) p q =
+    let z = one_grown p.0 q.0 in (same_made l m z.0 z.1, z.2)
 
 -- `not_walk`: the same, and the visits
-pub one_complemented : (ns xs ys : List ℕ) (n levels left p : ℕ) (w v u : List ℕ) (c slots : ℕ) (x y : Counted)
+pub one_complemented : (ns xs ys : List ℕ) (n levels left p : ℕ) (w v u : List ℕ) (c slots : ℕ) (x y : Option Counted)
     → Complemented ns xs n levels left p w v c slots x → Complemented ns ys n levels left p w u c slots y → (x ≡ y) × (xs ≡ ys)
-one_complemented ns xs ys n levels left p w v u c slots counted.Full counted.Full f g = (refl, one_stuck f g)
-one_complemented ns xs ys n levels left p w v u c slots counted.Full (counted.At b s j) f g = absurd (never_both f g.0)
-one_complemented ns xs ys n levels left p w v u c slots (counted.At a r i) counted.Full f g = absurd (never_both g f.0)
-one_complemented ns xs ys n levels left p w v u c slots (counted.At a r i) (counted.At b s j) f g =
-    let z = one_grown f.0 g.0 in
-    let n : a ≡ b = z.0 in
-    let m : r ≡ s = z.1 in
-    let k : i ≡ j = sym f.2.visits ∙ g.2.visits in
-    (cc, z.2)
+one_complemented ns xs ys n levels left p w v u c slots None None f g = (refl, one_stuck f g)
+one_complemented ns xs ys n levels left p w v u c slots None (Some m) f g = absurd (never_both f g.0)
+one_complemented ns xs ys n levels left p w v u c slots (Some l) None f g = absurd (never_both g f.0)
+one_complemented ns xs ys n levels left p w v u c slots (Some l) (Some m) f g =
+    let z = one_grown f.0 g.0 in (same_counted l m z.0 z.1 (sym f.2.visits ∙ g.2.visits), z.2)
 
 -- `row`: a diagram that was reached
 one_reached : {levels : ℕ} {ns xs ys : List ℕ} {n a b r s : ℕ} {gs : List Function} {f : Function} → Table xs a → Table ys b → Reached levels ns xs n a r gs f → Reached levels ns ys n b s gs f
@@ -127,19 +136,16 @@ one_toll levels ns xs ys n a b r s news w v u c i j (does (instruction.Old _)) p
 one_toll levels ns xs ys n a b r s news w v u c i j (does (instruction.Drop _ _)) p q = p.none ∙ sym q.none
 
 -- the nodes are one where there was room
-abbrev pub SameNodes : Counted → List ℕ → List ℕ → Type 0
-SameNodes counted.Full xs ys = Unit {0}
-SameNodes (counted.At a r v) xs ys = xs ≡ ys
+abbrev pub SameNodes : Option Counted → List ℕ → List ℕ → Type 0
+SameNodes None xs ys = Unit {0}
+SameNodes (Some m) xs ys = xs ≡ ys
 
 -- `row`, and an atom's turns: the answer with its visits, and the node slice where there was room
-pub one_row : (k : ℕ) (ns xs ys : List ℕ) (n : ℕ) (olds news : List ℕ) (i : ℕ) (x : Task) (w v u : List ℕ) (c slots : ℕ) (p q : Counted)
+pub one_row : (k : ℕ) (ns xs ys : List ℕ) (n : ℕ) (olds news : List ℕ) (i : ℕ) (x : Task) (w v u : List ℕ) (c slots : ℕ) (p q : Option Counted)
     → RowDone k ns xs n olds news i x w v c slots p → RowDone k ns ys n olds news i x w u c slots q → (p ≡ q) × SameNodes p xs ys
-one_row k ns xs ys n olds news i x w v u c slots counted.Full counted.Full f g = (refl, tt)
-one_row k ns xs ys n olds news i x w v u c slots counted.Full (counted.At b s j) f g = absurd (never_reached g.1.shelf.table f g.0)
-one_row k ns xs ys n olds news i x w v u c slots (counted.At a r l) counted.Full f g = absurd (never_reached f.1.shelf.table g f.0)
-one_row k ns xs ys n olds news i x w v u c slots (counted.At a r l) (counted.At b s j) f g =
+one_row k ns xs ys n olds news i x w v u c slots None None f g = (refl, tt)
+one_row k ns xs ys n olds news i x w v u c slots None (Some m) f g = absurd (never_reached g.1.shelf.table f g.0)
+one_row k ns xs ys n olds news i x w v u c slots (Some l) None f g = absurd (never_reached f.1.shelf.table g f.0)
+one_row k ns xs ys n olds news i x w v u c slots (Some l) (Some m) f g =
     let z = one_reached f.1.shelf.table g.1.shelf.table f.0 g.0 in
-    let m : a ≡ b = z.0 in
-    let o : r ≡ s = z.1 in
-    let t : l ≡ j = one_toll (4 * k) ns xs ys n a b r s news w v u c l j x f.2 g.2 in
-    (cc, z.2)
+    (same_counted l m z.0 z.1 (one_toll (4 * k) ns xs ys n l.count m.count l.reference m.reference news w v u c l.visits m.visits x f.2 g.2), z.2)

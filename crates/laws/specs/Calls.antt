@@ -1,11 +1,10 @@
 -- Calls of the walks that had room enough, one after the other on one table: what the contracts of since_walk, not_walk and
 -- drop_walk (crates/walks) ask and promise, in their words. Assumes nothing: these are definitions.
-use Rattle.std.specs.Prelude.{ℕ, zero, suc, ◌+◌, ◌*◌, ◌≤◌, List}
+use Rattle.std.specs.Prelude.{ℕ, zero, suc, ◌+◌, ◌*◌, ◌≤◌, Some, List}
 use Rattle.trees.specs.Tree.{Tree, not_t, since_t, drop_t}
 use Rattle.trees.specs.Table.{at, trees_of}
 use Rattle.nodes.specs.Nodes.{Table}
 use Rattle.making.specs.Tables.{Added}
-use Rattle.making.specs.declared.Made.TheVariants.{At}
 use Rattle.walks.specs.Walks.{Within}
 use Rattle.walks.specs.Desks.{Desk}
 
@@ -30,7 +29,7 @@ pub record Call (levels : ℕ) (x : Held) (d : Tree) (y : Held) (r : ℕ) : Type
   pub work : List ℕ
   pub c : ℕ
   pub slots : ℕ
-  pub added : Added (λ ns j. Desk ns j levels work c slots) x.nodes y.nodes x.count d (At y.count r)
+  pub added : Added (λ ns j. Desk ns j levels work c slots) x.nodes y.nodes x.count d (Some (record { count = y.count; reference = r }))
 
 -- and of p and q: since_walk with no on the right
 abbrev pub AndCall : ℕ → Held → ℕ → ℕ → Held → ℕ → Type 0
