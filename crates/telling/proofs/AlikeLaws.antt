@@ -4,10 +4,10 @@ use mathlib.Core.Path.{◌≡◌, sym, ap, ◌∙◌}
 use mathlib.Core.Bool.{true, false}
 use mathlib.Core.List.{List}
 use mathlib.Core.Logic.{◌≢◌}
-use native.Mathlib.Decide.{ℕ_discrete}
 use native.Mathlib.Omega.{arith}
-use lib.ListN.{get_or}
-use lib.Pow.{pow-lt, pow_pos}
+use lib.ListN.{length, get_or, take, drop, length-drop}
+use lib.Seq.{length-take-le, get_or-take, get_or-drop}
+use lib.Pow.{pow-lt}
 use Rattle.trees.specs.Table.{at, trees_of}
 use Rattle.trees.proofs.Tests.{not_true}
 use Rattle.trees.proofs.TreeLaws.{same_true, same_eq}
@@ -20,9 +20,6 @@ shift_is : (k : ℕ) → k < 32 → 1 * 2 ^ k % 4294967296 ≡ 2 ^ k
 shift_is k h = let g : 2 ^ k < 2 ^ 32 = pow-lt h in omega arith
 
 -- the reserved number, all ones
-pub ones_some : (k : ℕ) → k < 32 → 1 ≤ 1 * 2 ^ k % 4294967296
-ones_some k h = let e = shift_is k h in let g = pow_pos k in omega arith
-
 pub ones_is : (k : ℕ) → k < 32 → 1 * 2 ^ k % 4294967296 - 1 ≡ 2 ^ k - 1
 ones_is k h = rw (shift_is k h)
 
@@ -48,10 +45,9 @@ module _ (ns : List ℕ) (kept p base : ℕ) (work : List ℕ) (from : ℕ) (e :
   pub one_parts : (i : ℕ) → from ≤ i → i < p + 1 → (Meet ns kept base k n m (get_or work i 0) → ⊥) → false ≡ untold base k n m (at (trees_of ns kept) p)
   one_parts i h g d = sym (not_true (untold base k n m (at (trees_of ns kept) p)) (λ z. d ((e.exact k n m).0 z i h g)))
 
--- one entry more
-pub meet_more : (ns : List ℕ) (kept base k n m : ℕ) (work : List ℕ) (from i : ℕ) → ((j : ℕ) → from ≤ j → j < i → Meet ns kept base k n m (get_or work j 0)) → Meet ns kept base k n m (get_or work i 0)
-    → (j : ℕ) → from ≤ j → j < i + 1 → Meet ns kept base k n m (get_or work j 0)
-meet_more ns kept base k n m work from i h e j p q = elim (ℕ_discrete j i) [
-  | yes z ↦ rw z e
-  | no z ↦ h j p (omega arith)
-]
+-- the entries stand from place `from` on up to place p
+pub entry_at : (from p j : ℕ) (work : List ℕ) → j < p + 1 - from → get_or (take (p + 1 - from) (drop from work)) j 0 ≡ get_or work (from + j) 0
+entry_at from p j work h = get_or-take (p + 1 - from) (drop from work) j 0 h ∙ get_or-drop from work j 0
+
+pub entries_length : (from p : ℕ) (work : List ℕ) → from ≤ p + 1 → p < length work → length (take (p + 1 - from) (drop from work)) ≡ p + 1 - from
+entries_length from p work up room = length-take-le (p + 1 - from) (drop from work) (rw length-drop (omega arith))

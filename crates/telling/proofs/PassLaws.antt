@@ -6,7 +6,7 @@ use mathlib.Core.List.{List}
 use mathlib.Core.Logic.{◌≢◌, inl, inr, ⊎_elim}
 use native.Mathlib.Decide.{ℕ_discrete}
 use native.Mathlib.Omega.{arith}
-use lib.ListN.{length, get_or, set, length-set}
+use lib.ListN.{get_or, set, length-set}
 use lib.Seq.{get_or-set_same, get_or-set_other}
 use Rattle.trees.specs.Tree.{node}
 use Rattle.trees.specs.Table.{at, trees_of}
@@ -267,9 +267,3 @@ passing_rest ns kept p base work left from work' to t v h (opened on l a b s lt 
     let back = read_below t s (omega arith) (omega (arith, v.down, v.up, v.ref)) in
     rw e (get_or-set_other (set work a 1) b i 1 0 (omega (arith, back.1, v.down, v.up)) ∙ get_or-set_other work a i 1 0 (omega (arith, back.0, v.down, v.up)))
 passing_rest ns kept p base work left from work' to t v h (entered on l a b s le e f) i g = rw e (get_or-set_other work (from - 1) i (left - 1) 0 (omega (arith, v.down, v.up)))
-
--- and the slice is as long as it was
-pub passed_length : {ns : List ℕ} {kept base r : ℕ} {work : List ℕ} {from : ℕ} {work' : List ℕ} {to : ℕ} → Passed ns kept base r work from work' to → length work' ≡ length work
-passed_length (skipped none e f) = rw e
-passed_length (opened on l a b s lt e f) = rw e (simp length-set)
-passed_length (entered on l a b s le e f) = rw e (simp length-set)

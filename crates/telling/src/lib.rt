@@ -9,7 +9,7 @@ ghost use Rattle.nodes.specs.Nodes.{Table, Rest, To};
 ghost use Rattle.telling.specs.Follow.{bit_of, follow, untold};
 ghost use Rattle.telling.specs.Entries.{Ordered, Passed, Entries};
 
-use nodes::{read, zero};
+use nodes::read;
 
 // The pass at the reference r: where it is marked, it is an entry, or both its sides are marked. The entries found so far stand from
 // `from` on. Gives their first place.
@@ -23,10 +23,8 @@ fn pass(nodes: &[u32], kept: u32, base: u32, r: u32, work: &mut [u32], from: usi
     }
     let x = read(nodes, kept, r);
     if x.level < base {
-        let low = x.low as usize;
-        let high = x.high as usize;
-        work[low] = 1;
-        work[high] = 1;
+        work[x.low as usize] = 1;
+        work[x.high as usize] = 1;
         return from;
     }
     let to = from - 1;
@@ -45,13 +43,11 @@ pub fn enter(nodes: &[u32], kept: u32, p: u32, base: u32, work: &mut [u32]) -> u
     ensures rest { Rest (p + 1) work.old work.new }
 {
     let i = p as usize;
-    zero(work, 0, i);
+    work[..i].fill(0);
     work[i] = 1;
     let mut from = i + 1;
-    let mut left = p + 1;
-    while 2 < left {
-        from = pass(nodes, kept, base, left - 1, work, from);
-        left -= 1;
+    for r in (2..p + 1).rev() {
+        from = pass(nodes, kept, base, r, work, from);
     }
     from
 }
@@ -61,10 +57,7 @@ fn chosen(n: u32, j: u32, low: u32, high: u32) -> u32
     requires { j < 32 }
     ensures { result ≡ cond (bit_of n j) high low }
 {
-    if (n >> j) % 2 == 0 {
-        return low;
-    }
-    high
+    if (n >> j) % 2 == 0 { low } else { high }
 }
 
 // The reference that n's bits lead to from r on, past the variable's levels.
@@ -103,13 +96,10 @@ pub fn alike(
 {
     let ones = (1 << k) - 1;
     let end = p as usize + 1;
-    let mut i = from;
-    while i < end {
-        let r = work[i];
-        if along(nodes, kept, base, k, n, r) != along(nodes, kept, base, k, ones, r) {
+    for r in &work[from..end] {
+        if along(nodes, kept, base, k, n, *r) != along(nodes, kept, base, k, ones, *r) {
             return false;
         }
-        i += 1;
     }
     true
 }

@@ -1,17 +1,8 @@
-use mathlib.Core.Path.{refl, sym, ◌∙◌}
+use mathlib.Core.Path.{sym, ◌∙◌}
 use native.Mathlib.Omega.{arith}
 use Rattle.telling.specs.Follow.{bit_of}
 use Rattle.telling.proofs.WayLaws.{way_leaf, way_past, way_level, way_below, way_again}
 use Rattle.telling.proofs.along.Goals as goal
-
-pub loop-q-init : goal.loop-q-init
-loop-q-init c = (c.requires.table.1, c.requires.ordered, refl)
-
-pub read-x-requires : goal.read-x-requires
-read-x-requires c = record { table = c.requires.table.0; le_r = (c.loop-q-test.true, c.loop-q.invariant.0) }
-
-pub overflow_add-base : goal.overflow_add-base
-overflow_add-base c = omega (arith, c.requires.table.3)
 
 pub returns-then-base-k : goal.returns-then-base-k
 returns-then-base-k c =
@@ -25,9 +16,6 @@ overflow_sub-x c =
     let x = c.read-x in
     let e = way_level c.args.nodes.now c.args.kept c.args.base c.args.k c.args.n l.q _ _ _ x.ensures l.invariant.1 in
     omega arith
-
-pub chosen-q-requires : goal.chosen-q-requires
-chosen-q-requires c = omega (arith, c.if-base-k.false, c.requires.table.2)
 
 pub loop-q-smaller : goal.loop-q-smaller
 loop-q-smaller c =
