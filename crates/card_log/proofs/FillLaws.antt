@@ -1,5 +1,5 @@
 -- The card block by block: what is put, with the blocks to come, is the whole. Assumes nothing.
-use Prim.Native.Nat.{ℕ, zero, suc, ◌+◌, ◌-◌, ◌*◌, ◌/◌, ◌≤◌, ◌<◌}
+use Prim.Native.Nat.{ℕ, zero, suc, ◌+◌, ◌-◌, ◌*◌, ◌/◌, ◌%◌, ◌≤◌, ◌<◌, min}
 use native.Mathlib.Omega.{arith}
 use mathlib.Core.Path.{◌≡◌, refl, sym, ap, ◌∙◌}
 use mathlib.Core.List.{List, [], ◌∷◌, ◌++◌, append-nil, append_assoc}
@@ -15,15 +15,24 @@ use Rattle.card_writer.specs.Sheets.{block_with}
 use Rattle.card_writer.proofs.StoreLaws.{sets_take, sets_drop}
 use Rattle.card_log.specs.Rows.{rows_from, rows_in}
 use Rattle.card_log.specs.Logging.{blocks_in, card_of, Right, Writes}
-use Rattle.card_log.proofs.RowLaws.{length_rows}
+use Rattle.card_log.proofs.RowLaws.{length_rows, rows_part}
 
-pub blocks_are : (n : ℕ) → (n + 20) / 21 ≡ blocks_in n
+pub blocks_are : (n b : ℕ) → b ≡ n / 21 + min 1 (n % 21) → b ≡ blocks_in n
 unfolding blocks_in
-blocks_are n = refl
+blocks_are n b e = omega arith
 
 pub block_inside : (n b : ℕ) → b < blocks_in n → 21 * b < n
 unfolding blocks_in
 block_inside n b h = omega arith
+
+-- a block is to come where rows are left
+pub block_left : (rows : List ℕ) (b : ℕ) → length rows % 7 ≡ 0 → 0 < length (drop (147 * b) rows) → b < blocks_in (length rows / 7)
+unfolding blocks_in
+block_left rows b whole some = omega (arith, length-drop (147 * b) rows)
+
+pub none_left : (rows : List ℕ) (b : ℕ) → length (drop (147 * b) rows) ≡ 0 → blocks_in (length rows / 7) ≤ b
+unfolding blocks_in
+none_left rows b none = omega (arith, length-drop (147 * b) rows)
 
 -- blocks to come
 fill_some : (t b : ℕ) (rs : List Record) → 0 < length rs → card_bytes (fill (suc t) b rs) ≡ block_bytes (block_with b (take 21 rs)) ++ card_bytes (fill t (suc b) (drop 21 rs))
@@ -79,6 +88,15 @@ filling_more {rows} {out₀} {n} {b} {out} out₁ f h room e =
           ∙ drop-drop (length block) (512 * b) out₀
           ∙ ap (λ (k : ℕ). drop k out₀) (sym far);
     }
+
+-- the next block, with the rows of a part
+pub filling_part : {rows out₀ out : List ℕ} {count : ℕ} (out₁ part left block : List ℕ) (b : ℕ) → Filling rows out₀ (length rows / 7) count out → length rows % 7 ≡ 0
+    → drop (147 * count) rows ≡ part ++ left → length part ≡ min 147 (length (drop (147 * count) rows)) → 0 < length (drop (147 * count) rows)
+    → 512 * count + 512 ≤ length out → b ≡ count → block ≡ block_bytes (block_with b (rows_in part)) → out₁ ≡ sets out (512 * b) block
+    → Filling rows out₀ (length rows / 7) (count + 1) out₁
+filling_part {rows} {out₀} {out} {count} out₁ part left block b f whole parts size some room e g h =
+    filling_more out₁ f (block_left rows count whole some) room
+    (h ∙ rw (g, e, rows_part rows part left count whole parts size some))
 
 pub filling_end : {rows out₀ : List ℕ} {b : ℕ} {out : List ℕ} → Filling rows out₀ (length rows / 7) b out → blocks_in (length rows / 7) ≤ b → Right rows
     → 512 * blocks_in (length rows / 7) ≤ length out₀ → Writes rows out₀ (512 * blocks_in (length rows / 7)) out

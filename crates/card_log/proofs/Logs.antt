@@ -11,8 +11,9 @@ use Rattle.cards.specs.Reading.{taken, read}
 use Rattle.cards.specs.Writing.{Every, RightMoment, records_of, written}
 use Rattle.cards.specs.Writing as Writing
 use Rattle.cards.proofs.RoundTrip.{round_trip}
-use Rattle.card_log.specs.declared.Written.{Written}
-use Rattle.card_log.specs.declared.Written.TheVariants.{Done, Wrong, NoRoom}
+use Rattle.std.proofs.Common.{Result, Ok, Err}
+use Rattle.card_log.specs.declared.WriteError.{WriteError}
+use Rattle.card_log.specs.declared.WriteError.TheVariants.{Wrong, NoRoom}
 use Rattle.card_log.specs.Rows.{rows_in}
 use Rattle.card_log.specs.Logging.{card_of, Writes, WritesTo}
 
@@ -29,15 +30,15 @@ log_back rows out out₁ n ms right few e w =
     (ap (take n) w.put ∙ take_at (card_of (rows_in rows)) (drop n out) n (sym w.count) ∙ log_card rows ms e)
     ∙ round_trip ms right few
 
-pub written_once : (rows out : List ℕ) (r s : Written) (out₁ out₂ : List ℕ) → WritesTo rows out r out₁ → WritesTo rows out s out₂ → (r ≡ s) × (out₁ ≡ out₂)
-written_once rows out (Done n) (Done m) out₁ out₂ p q =
+pub written_once : (rows out : List ℕ) (r s : Result ℕ WriteError) (out₁ out₂ : List ℕ) → WritesTo rows out r out₁ → WritesTo rows out s out₂ → (r ≡ s) × (out₁ ≡ out₂)
+written_once rows out (Ok n) (Ok m) out₁ out₂ p q =
     let same : n ≡ m = p.count ∙ sym q.count in
-    (ap Done same, p.put ∙ ap (λ (k : ℕ). card_of (rows_in rows) ++ drop k out) same ∙ sym q.put)
-written_once rows out (Done n) Wrong out₁ out₂ p q = absurd (q.wrong p.right)
-written_once rows out (Done n) NoRoom out₁ out₂ p q = absurd (q.small p.room)
-written_once rows out Wrong (Done m) out₁ out₂ p q = absurd (p.wrong q.right)
-written_once rows out Wrong Wrong out₁ out₂ p q = (refl, p.same_out ∙ sym q.same_out)
-written_once rows out Wrong NoRoom out₁ out₂ p q = absurd (p.wrong q.right)
-written_once rows out NoRoom (Done m) out₁ out₂ p q = absurd (p.small q.room)
-written_once rows out NoRoom Wrong out₁ out₂ p q = absurd (q.wrong p.right)
-written_once rows out NoRoom NoRoom out₁ out₂ p q = (refl, p.same_out ∙ sym q.same_out)
+    (ap Ok same, p.put ∙ ap (λ (k : ℕ). card_of (rows_in rows) ++ drop k out) same ∙ sym q.put)
+written_once rows out (Ok n) (Err Wrong) out₁ out₂ p q = absurd (q.wrong p.right)
+written_once rows out (Ok n) (Err NoRoom) out₁ out₂ p q = absurd (q.small p.room)
+written_once rows out (Err Wrong) (Ok m) out₁ out₂ p q = absurd (p.wrong q.right)
+written_once rows out (Err Wrong) (Err Wrong) out₁ out₂ p q = (refl, p.same_out ∙ sym q.same_out)
+written_once rows out (Err Wrong) (Err NoRoom) out₁ out₂ p q = absurd (p.wrong q.right)
+written_once rows out (Err NoRoom) (Ok m) out₁ out₂ p q = absurd (p.small q.room)
+written_once rows out (Err NoRoom) (Err Wrong) out₁ out₂ p q = absurd (q.wrong p.right)
+written_once rows out (Err NoRoom) (Err NoRoom) out₁ out₂ p q = (refl, p.same_out ∙ sym q.same_out)

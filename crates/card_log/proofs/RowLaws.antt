@@ -1,60 +1,28 @@
 -- Rows one after the other: read, checked, and put in a block. Assumes nothing.
-use Prim.Native.Nat.{ℕ, zero, suc, ◌+◌, ◌-◌, ◌*◌, ◌≤◌, ◌<◌, min}
+use Prim.Native.Nat.{ℕ, zero, suc, ◌+◌, ◌-◌, ◌*◌, ◌/◌, ◌%◌, ◌≤◌, ◌<◌, min}
 use native.Mathlib.Omega.{arith}
 use native.Mathlib.Nat.{mul-suc}
 use mathlib.Core.Path.{◌≡◌, refl, sym, ap, ◌∙◌}
-use mathlib.Core.Bool.{Bool, true, false, ◌&&◌}
-use mathlib.Core.List.{List, [], ◌∷◌, ◌++◌}
-use lib.Dec.{eqb, leb}
-use lib.ListN.{length, take, drop, get_or}
-use lib.Seq.{drop-drop, get_or-take, get_or-drop}
-use borrow.Author.Tests.{le-leb, lt-leb}
+use mathlib.Core.Bool.{Bool, true, false, not, ◌&&◌}
+use mathlib.Core.List.{List, [], ◌∷◌, ◌++◌, append-nil, append_assoc}
+use lib.Dec.{eqb, leb, ltb}
+use lib.ListN.{length, take, drop, get_or, length-append, length-drop, drop_of_length-le}
+use lib.Seq.{drop-drop, get_or-take, take_at, drop_at}
+use borrow.Author.Tests.{le-leb, lt-leb, ne_eqb, ltb-true, ltb-false}
+use Rattle.std.proofs.Common.{Option, Some, None, Ok, Err, is_some}
+use Rattle.std.proofs.lemmas.List.{take-append-le, drop-append-le}
 use Rattle.cards.specs.Moments.{Record}
-use Rattle.cards.specs.Blocks.{flag_byte, block_bytes}
+use Rattle.cards.specs.Blocks.{block_bytes}
 use Rattle.cards.specs.Counting.{Open, closed, belongs, next}
-use Rattle.card_block.specs.Judging.{open_at, may_belong, onward}
-use Rattle.card_block.proofs.WalkLaws.{belongs_may, next_onward}
+use Rattle.card_block.specs.declared.Reason.{Reason}
+use Rattle.card_block.specs.declared.moments.Moment.{Moment}
+use Rattle.card_block.specs.Judging.{open_at, may_belong, went_on}
+use Rattle.card_block.proofs.WalkLaws.{belongs_may, next_onward, went_ok, went_err}
 use Rattle.card_records.specs.declared.Fact.{Fact}
 use Rattle.card_records.specs.Facts.{record_from}
+use Rattle.card_writer.specs.declared.Sheet.{Sheet}
 use Rattle.card_writer.specs.Sheets.{Holding, block_with}
-use Rattle.card_log.specs.Rows.{row_record, rows_from, right_from}
-
--- the record of a row
-pub fact_row : (rows : List ℕ) (at : ℕ) (f : Fact) → f.stamp ≡ get_or rows at 0 → f.predicate ≡ get_or rows (at + 1) 0 → f.count ≡ get_or rows (at + 2) 0
-    → f.first ≡ get_or rows (at + 3) 0 → f.second ≡ get_or rows (at + 4) 0 → f.third ≡ get_or rows (at + 5) 0 → f.last ≡ eqb (get_or rows (at + 6) 0) 1
-    → record_from f ≡ row_record (take 7 (drop at rows))
-unfolding record_from row_record
-fact_row rows at f a b c d e g h =
-    let z : at + 0 ≡ at = omega arith in
-    rw (
-      a,
-      b,
-      c,
-      d,
-      e,
-      g,
-      h,
-      get_or-take 7 (drop at rows) 0 0 (omega arith),
-      get_or-take 7 (drop at rows) 1 0 (omega arith),
-      get_or-take 7 (drop at rows) 2 0 (omega arith),
-      get_or-take 7 (drop at rows) 3 0 (omega arith),
-      get_or-take 7 (drop at rows) 4 0 (omega arith),
-      get_or-take 7 (drop at rows) 5 0 (omega arith),
-      get_or-take 7 (drop at rows) 6 0 (omega arith),
-      get_or-drop at rows 0 0,
-      get_or-drop at rows 1 0,
-      get_or-drop at rows 2 0,
-      get_or-drop at rows 3 0,
-      get_or-drop at rows 4 0,
-      get_or-drop at rows 5 0,
-      get_or-drop at rows 6 0,
-      z,
-    )
-
-flag_back : (q : Bool) → q ≡ eqb (flag_byte q) 1
-unfolding flag_byte
-flag_back true = refl
-flag_back false = refl
+use Rattle.card_log.specs.Rows.{row_record, rows_from, rows_in, right_from}
 
 from_stamp : (f : Fact) → (record_from f).stamp ≡ f.stamp
 unfolding record_from
@@ -64,62 +32,90 @@ from_last : (f : Fact) → (record_from f).last ≡ f.last
 unfolding record_from
 from_last f = refl
 
--- rows checked so far
-pub record Checking (rows : List ℕ) (n c s i : ℕ) : Type 0 where
-  pub within : i ≤ n
-  pub leads : right_from (open_at c s) (n - i) (drop (7 * i) rows) ≡ right_from closed n rows
+-- rows cut after the first
+pub record Cut (rows row left : List ℕ) : Type 0 where
+  pub parts : rows ≡ row ++ left
+  pub size : length row ≡ 7
 
-pub checking_start : (rows : List ℕ) (n : ℕ) → Checking rows n 0 0 0
-unfolding open_at closed
-checking_start rows n = let z : n - 0 ≡ n = omega arith in record { within = omega arith; leads = rw z }
+pub cut_of : (n : ℕ) (rows row left : List ℕ) → n ≡ 7 → rows ≡ row ++ left → length row ≡ n → Cut rows row left
+cut_of n rows row left e f g = record { parts = f; size = g ∙ e }
 
-step : (rows : List ℕ) (o : Open) (n i : ℕ) → i < n → right_from o (n - i) (drop (7 * i) rows)
-    ≡ (leb (get_or rows (7 * i + 2) 0) 3 && (belongs o (row_record (take 7 (drop (7 * i) rows))) && right_from (next o (row_record (take 7 (drop (7 * i) rows)))) (n - (i + 1)) (drop (7 * (i + 1)) rows)))
-unfolding right_from
-step rows o n i h =
-    let one : n - i ≡ suc (n - (i + 1)) = omega arith in
-    let far : 7 * (i + 1) ≡ 7 * i + 7 = omega arith in
-    rw (one, far, drop-drop 7 (7 * i) rows, get_or-drop (7 * i) rows 2 0)
+module _ {rows row left : List ℕ} (c : Cut rows row left) where
+  pub cut_count : length rows / 7 ≡ suc (length left / 7)
+  cut_count = omega (arith, ap length c.parts, length-append row left, c.size)
 
-module _ {rows : List ℕ} {n c s i : ℕ} (w : Checking rows n c s i) (h : i < n) (f : Fact) (e : record_from f ≡ row_record (take 7 (drop (7 * i) rows))) (k : f.count ≡ get_or rows (7 * i + 2) 0) where
-  stamped : (row_record (take 7 (drop (7 * i) rows))).stamp ≡ f.stamp
+  first : take 7 rows ≡ row
+  first = ap (take 7) c.parts ∙ take_at row left 7 c.size
+
+  rest : drop 7 rows ≡ left
+  rest = ap (drop 7) c.parts ∙ drop_at row left 7 c.size
+
+  third : get_or rows 2 0 ≡ get_or row 2 0
+  third = sym (get_or-take 7 rows 2 0 (omega arith)) ∙ ap (λ (l : List ℕ). get_or l 2 0) first
+
+  pub cut_rows : rows_in rows ≡ row_record row ∷ rows_in left
+  unfolding rows_in rows_from
+  cut_rows = rw (cut_count, first, rest)
+
+  cut_right : (o : Open) → right_from o (length rows / 7) rows
+      ≡ (leb (get_or row 2 0) 3 && (belongs o (row_record row) && right_from (next o (row_record row)) (length left / 7) left))
+  unfolding right_from
+  cut_right o = rw (cut_count, first, rest, third)
+
+-- no row is left
+pub no_rows : (rows : List ℕ) → length rows < 7 → rows_in rows ≡ []
+unfolding rows_in rows_from
+no_rows rows h = let z : length rows / 7 ≡ 0 = omega arith in rw z
+
+-- rows checked so far: the rest decides
+pub record Checking (rows : List ℕ) (held : Option Moment) (rest : List ℕ) : Type 0 where
+  pub leads : right_from (open_at held) (length rest / 7) rest ≡ right_from closed (length rows / 7) rows
+
+pub checking_start : (rows : List ℕ) → Checking rows None rows
+unfolding open_at
+checking_start rows = record { leads = refl }
+
+module _ {rows rest : List ℕ} {held : Option Moment} (w : Checking rows held rest) (row left : List ℕ) (c : Cut rest row left) (f : Fact) (e : record_from f ≡ row_record row) (k : f.count ≡ get_or row 2 0) where
+  stamped : (row_record row).stamp ≡ f.stamp
   stamped = sym (ap (λ (r : Record). r.stamp) e) ∙ from_stamp f
 
-  pub checking_many : 3 < f.count → false ≡ right_from closed n rows
-  checking_many m = sym (step rows (open_at c s) n i h ∙ rw (sym k, lt-leb f.count 3 m)) ∙ w.leads
+  lasts : (row_record row).last ≡ f.last
+  lasts = sym (ap (λ (r : Record). r.last) e) ∙ from_last f
 
-  belongs_is : belongs (open_at c s) (row_record (take 7 (drop (7 * i) rows))) ≡ may_belong c s f.stamp
-  belongs_is = belongs_may c s (row_record (take 7 (drop (7 * i) rows))) ∙ ap (may_belong c s) stamped
+  belongs_is : belongs (open_at held) (row_record row) ≡ may_belong (open_at held).count (open_at held).stamp f.stamp
+  belongs_is = belongs_may (open_at held) (row_record row) ∙ ap (may_belong (open_at held).count (open_at held).stamp) stamped
 
-  pub checking_broken : f.count ≤ 3 → may_belong c s f.stamp ≡ false → false ≡ right_from closed n rows
-  checking_broken m b = sym (step rows (open_at c s) n i h ∙ rw (sym k, le-leb f.count 3 m, belongs_is, b)) ∙ w.leads
+  pub checking_many : 3 < f.count → false ≡ right_from closed (length rows / 7) rows
+  checking_many m = sym (cut_right c (open_at held) ∙ rw (sym k, lt-leb f.count 3 m)) ∙ w.leads
 
-  pub checking_on : (c₁ s₁ : ℕ) → f.count ≤ 3 → may_belong c s f.stamp ≡ true → open_at c₁ s₁ ≡ onward c s f.stamp (flag_byte f.last) → Checking rows n c₁ s₁ (i + 1)
-  checking_on c₁ s₁ m b g =
-      let lasts : (row_record (take 7 (drop (7 * i) rows))).last ≡ eqb (flag_byte f.last) 1 = sym (ap (λ (r : Record). r.last) e) ∙ from_last f ∙ flag_back f.last in
-      let after : next (open_at c s) (row_record (take 7 (drop (7 * i) rows))) ≡ open_at c₁ s₁ =
-      next_onward c s (flag_byte f.last) (row_record (take 7 (drop (7 * i) rows))) lasts ∙ ap (λ (m : ℕ). onward c s m (flag_byte f.last)) stamped ∙ sym g in
+  pub checking_broken : f.count ≤ 3 → (why : Reason) → Err why ≡ went_on (open_at held) f.stamp f.last → false ≡ right_from closed (length rows / 7) rows
+  checking_broken m why b =
+      sym (cut_right c (open_at held) ∙ rw (sym k, le-leb f.count 3 m, belongs_is, (went_err (open_at held) f.stamp f.last why b).0)) ∙ w.leads
+
+  pub checking_on : f.count ≤ 3 → (after : Option Moment) → Ok after ≡ went_on (open_at held) f.stamp f.last → Checking rows after left
+  checking_on m after b =
+      let told = went_ok (open_at held) f.stamp f.last after b in
+      let then : next (open_at held) (row_record row) ≡ open_at after = next_onward (open_at held) (row_record row) ∙ rw (lasts, stamped) (sym told.1) in
       record {
-        within = omega arith;
         leads =
-            ap (λ (o : Open). right_from o (n - (i + 1)) (drop (7 * (i + 1)) rows)) (sym after)
-            ∙ sym (step rows (open_at c s) n i h ∙ rw (sym k, le-leb f.count 3 m, belongs_is, b))
+            ap (λ (o : Open). right_from o (length left / 7) left) (sym then)
+            ∙ sym (cut_right c (open_at held) ∙ rw (sym k, le-leb f.count 3 m, belongs_is, told.0))
             ∙ w.leads;
       }
 
-pub checking_end : {rows : List ℕ} {n c s i : ℕ} → Checking rows n c s i → n ≤ i → eqb c 0 ≡ right_from closed n rows
-unfolding right_from open_at
-checking_end {rows} {n} {c} {s} {i} w h = let z : n - i ≡ 0 = omega arith in rw z at w.leads
+none_count : (held : Option Moment) (none : Bool) → is_some held ≡ not none → none ≡ eqb (open_at held).count 0
+unfolding open_at closed
+none_count None true e = refl
+none_count None false e = absurd (cc)
+none_count (Some m) true e = absurd (cc)
+none_count (Some m) false e = sym (ne_eqb (suc m.more) 0 (λ z. omega arith))
+
+pub checking_end : {rows rest : List ℕ} {held : Option Moment} → Checking rows held rest → length rest < 7 → (none : Bool) → is_some held ≡ not none
+    → none ≡ right_from closed (length rows / 7) rows
+unfolding right_from
+checking_end {rows} {rest} {held} w h none e = let z : length rest / 7 ≡ 0 = omega arith in none_count held none e ∙ rw z at w.leads
 
 -- rows in a list
-pub rows_snoc : (n : ℕ) (xs : List ℕ) → rows_from (suc n) xs ≡ rows_from n xs ++ (row_record (take 7 (drop (7 * n) xs)) ∷ [])
-unfolding rows_from
-rows_snoc zero xs = refl
-rows_snoc (suc n) xs =
-    let far : 7 + 7 * n ≡ 7 * suc n = omega (arith, mul-suc 7 n) in
-    ap (λ (l : List Record). row_record (take 7 xs) ∷ l)
-    (rows_snoc n (drop 7 xs) ∙ ap (λ (l : List ℕ). rows_from n (drop 7 xs) ++ (row_record (take 7 l) ∷ [])) (drop-drop (7 * n) 7 xs ∙ ap (λ (m : ℕ). drop m xs) far))
-
 pub length_rows : (n : ℕ) (xs : List ℕ) → length (rows_from n xs) ≡ n
 unfolding rows_from
 length_rows zero xs = refl
@@ -140,45 +136,75 @@ rows_take k zero xs = let z : min 0 k ≡ 0 = omega arith in rw z
 rows_take zero (suc n) xs = let z : min (suc n) 0 ≡ 0 = omega arith in rw z
 rows_take (suc k) (suc n) xs = let z : min (suc n) (suc k) ≡ suc (min n k) = omega arith in rw z (ap (λ (l : List Record). row_record (take 7 xs) ∷ l) (rows_take k n (drop 7 xs)))
 
-pub rows_part : (rows : List ℕ) (n b from to : ℕ) → from ≡ 21 * b → to ≡ min (from + 21) n → from ≤ n
-    → take 21 (drop (21 * b) (rows_from n rows)) ≡ rows_from (to - from) (drop (7 * from) rows)
-rows_part rows n b from to e f h =
-    let z : min 21 (n - from) ≡ to - from = omega arith in
-    ap (λ (m : ℕ). take 21 (drop m (rows_from n rows))) (sym e)
-    ∙ ap (take 21) (rows_drop n from rows h)
-    ∙ rows_take (n - from) 21 (drop (7 * from) rows)
-    ∙ ap (λ (m : ℕ). rows_from m (drop (7 * from) rows)) z
-
--- a block that is put with some rows
-pub record Rowing (rows : List ℕ) (n from to : ℕ) (out : List ℕ) (i : ℕ) : Type 0 where
-  pub after : from ≤ i
-  pub within : i ≤ to
-  pub holds : Holding out n (rows_from (i - from) (drop (7 * from) rows))
-
-pub rowing_start : (rows : List ℕ) (n from to : ℕ) (out : List ℕ) → from ≤ to → Holding out n [] → Rowing rows n from to out from
+-- rows ahead of others
+rows_front : (k : ℕ) (xs ys : List ℕ) → 7 * k ≤ length xs → rows_from k (xs ++ ys) ≡ rows_from k xs
 unfolding rows_from
-rowing_start rows n from to out h k = let z : from - from ≡ 0 = omega arith in record { after = omega arith; within = h; holds = rw z k }
+rows_front zero xs ys h = refl
+rows_front (suc k) xs ys h =
+    let more : 7 * suc k ≡ 7 + 7 * k = omega (arith, mul-suc 7 k) in
+    let front : take 7 (xs ++ ys) ≡ take 7 xs = take-append-le 7 xs ys (omega arith) in
+    let behind : drop 7 (xs ++ ys) ≡ drop 7 xs ++ ys = drop-append-le 7 xs ys (omega arith) in
+    rw (front, behind, rows_front k (drop 7 xs) ys (omega (arith, length-drop 7 xs)))
 
-pub rowing_more : {rows : List ℕ} {n from to : ℕ} {out : List ℕ} {i : ℕ} (out₁ : List ℕ) (f : Fact) → Rowing rows n from to out i → i < to
-    → record_from f ≡ row_record (take 7 (drop (7 * i) rows))
-    → ((m : ℕ) (rs : List Record) → Holding out m rs → length rs ≡ i - from → Holding out₁ m (rs ++ (record_from f ∷ [])))
-    → Rowing rows n from to out₁ (i + 1)
-rowing_more {rows} {n} {from} {to} {out} {i} out₁ f c h e w =
-    let one : i + 1 - from ≡ suc (i - from) = omega (arith, c.after) in
-    let far : 7 * from + 7 * (i - from) ≡ 7 * i = omega (arith, c.after) in
-    let this : row_record (take 7 (drop (7 * (i - from)) (drop (7 * from) rows))) ≡ record_from f =
-    ap (λ (l : List ℕ). row_record (take 7 l)) (drop-drop (7 * (i - from)) (7 * from) rows ∙ ap (λ (m : ℕ). drop m rows) far) ∙ sym e in
+-- the rows of a block: 21, or all where fewer are left
+pub rows_part : (rows part left : List ℕ) (b : ℕ) → length rows % 7 ≡ 0 → drop (147 * b) rows ≡ part ++ left → length part ≡ min 147 (length (drop (147 * b) rows))
+    → 0 < length (drop (147 * b) rows) → rows_in part ≡ take 21 (drop (21 * b) (rows_from (length rows / 7) rows))
+unfolding rows_in
+rows_part rows part left b whole e size some =
+    let n : ℕ = length rows / 7 in
+    let long : length (drop (147 * b) rows) ≡ 7 * (n - 21 * b) = omega (arith, length-drop (147 * b) rows) in
+    let inside : 21 * b ≤ n = omega (arith, length-drop (147 * b) rows) in
+    let here : 7 * (21 * b) ≡ 147 * b = omega arith in
+    let few : length part / 7 ≡ min 21 (n - 21 * b) = omega arith in
+    sym (
+    ap (take 21) (rows_drop n (21 * b) rows inside)
+    ∙ rows_take (n - 21 * b) 21 (drop (7 * (21 * b)) rows)
+    ∙ rw (here, e, sym few) (rows_front (length part / 7) part left (omega arith))
+    )
+
+-- what is left behind the first part
+pub left_is : (n : ℕ) (all part left : List ℕ) → all ≡ part ++ left → length part ≡ min n (length all) → left ≡ drop n all
+left_is n all part left e size = go (ltb (length all) n) refl
+  where
+    behind : left ≡ drop (length part) all
+    behind = sym (ap (drop (length part)) e ∙ drop_at part left (length part) refl)
+
+    go : (q : Bool) → ltb (length all) n ≡ q → left ≡ drop n all
+    go true f =
+        let short : length all < n = ltb-true (length all) n f in
+        behind ∙ drop_of_length-le all {i = length part} (omega arith) ∙ sym (drop_of_length-le all {i = n} (omega arith))
+    go false f =
+        let long : n ≤ length all = ltb-false (length all) n f in
+        let same : length part ≡ n = omega arith in
+        behind ∙ ap (λ (m : ℕ). drop m all) same
+
+-- a block that is put with some rows: those that are done, with the rest, are all
+pub record Rowing (rows : List ℕ) (n : ℕ) (sheet : Sheet) (rest : List ℕ) : Type 0 where
+  pub done : List Record
+  pub holds : Holding sheet n done
+  pub leads : done ++ rows_in rest ≡ rows_in rows
+  pub few : length done + length rest / 7 ≤ 21
+
+pub rowing_start : (rows : List ℕ) (n : ℕ) (sheet : Sheet) → length rows ≤ 147 → Holding sheet n [] → Rowing rows n sheet rows
+rowing_start rows n sheet h k = record { done = []; holds = k; leads = refl; few = omega arith }
+
+pub rowing_room : {rows rest : List ℕ} {n : ℕ} {sheet : Sheet} → Rowing rows n sheet rest → (row left : List ℕ) → Cut rest row left → sheet.records < 21
+rowing_room {rows} {rest} {n} {sheet} r row left c = omega (arith, r.few, r.holds.count, cut_count c)
+
+pub rowing_more : {rows rest : List ℕ} {n : ℕ} {sheet : Sheet} (after : Sheet) → Rowing rows n sheet rest → (row left : List ℕ) → Cut rest row left
+    → (f : Fact) → record_from f ≡ row_record row
+    → ((m : ℕ) (rs : List Record) → Holding sheet m rs → Holding after m (rs ++ (record_from f ∷ []))) → Rowing rows n after left
+rowing_more {rows} {rest} {n} {sheet} after r row left c f e w =
     record {
-      after = omega (arith, c.after);
-      within = omega arith;
-      holds =
-          rw (one, rows_snoc (i - from) (drop (7 * from) rows), this)
-          (w n (rows_from (i - from) (drop (7 * from) rows)) c.holds (length_rows (i - from) (drop (7 * from) rows)));
+      done = r.done ++ (record_from f ∷ []);
+      holds = w n r.done r.holds;
+      leads = append_assoc r.done (record_from f ∷ []) (rows_in left) ∙ ap (λ (l : List Record). r.done ++ l) (rw e (sym (cut_rows c))) ∙ r.leads;
+      few = omega (arith, r.few, cut_count c, length-append r.done (record_from f ∷ []));
     }
 
-pub rowing_all : {rows : List ℕ} {n from to : ℕ} {out : List ℕ} {i : ℕ} (out₁ : List ℕ) → Rowing rows n from to out i → to ≤ i
-    → ((m : ℕ) (rs : List Record) → Holding out m rs → out₁ ≡ block_bytes (block_with m rs))
-    → out₁ ≡ block_bytes (block_with n (rows_from (to - from) (drop (7 * from) rows)))
-rowing_all {rows} {n} {from} {to} {out} {i} out₁ c h w =
-    let all : i ≡ to = omega (arith, c.within) in
-    rw (sym all) (w n (rows_from (i - from) (drop (7 * from) rows)) c.holds)
+pub rowing_all : {rows rest : List ℕ} {n : ℕ} {sheet : Sheet} (out : List ℕ) → Rowing rows n sheet rest → length rest < 7
+    → ((m : ℕ) (rs : List Record) → Holding sheet m rs → out ≡ block_bytes (block_with m rs))
+    → out ≡ block_bytes (block_with n (rows_in rows))
+rowing_all {rows} {rest} {n} {sheet} out r h w =
+    let all : r.done ≡ rows_in rows = sym (append-nil r.done) ∙ ap (λ (l : List Record). r.done ++ l) (sym (no_rows rest h)) ∙ r.leads in
+    rw (sym all) (w n r.done r.holds)

@@ -1,11 +1,11 @@
 -- What `write` leaves: the card of the rows' records, each block filled before the next. Assumes nothing.
-use Rattle.std.specs.Prelude.{ℕ, ◌+◌, ◌*◌, ◌/◌, ◌%◌, ◌≤◌, ◌≡◌, true, List, ◌++◌, length, drop}
+use Rattle.std.specs.Prelude.{ℕ, ◌+◌, ◌*◌, ◌/◌, ◌%◌, ◌≤◌, ◌≡◌, true, List, ◌++◌, length, drop, Result, Ok, Err}
 use Rattle.cards.specs.Moments.{Record}
 use Rattle.cards.specs.Counting.{closed}
 use Rattle.cards.specs.Mending.{card_bytes}
 use Rattle.cards.specs.Writing.{fill}
-use Rattle.card_log.specs.declared.Written.{Written}
-use Rattle.card_log.specs.declared.Written.TheVariants.{Done, Wrong, NoRoom}
+use Rattle.card_log.specs.declared.WriteError.{WriteError}
+use Rattle.card_log.specs.declared.WriteError.TheVariants.{Wrong, NoRoom}
 use Rattle.card_log.specs.Rows.{rows_in, right_from}
 
 -- the count of blocks of so many records
@@ -37,7 +37,7 @@ pub record Small (rows out out₁ : List ℕ) : Type 0 where
   pub small : 512 * blocks_in (length rows / 7) ≤ length out → ⊥
   pub same_out : out₁ ≡ out
 
-abbrev pub WritesTo : List ℕ → List ℕ → Written → List ℕ → Type 0
-WritesTo rows out (Done n) out₁ = Writes rows out n out₁
-WritesTo rows out Wrong out₁ = Refuses rows out out₁
-WritesTo rows out NoRoom out₁ = Small rows out out₁
+abbrev pub WritesTo : List ℕ → List ℕ → Result ℕ WriteError → List ℕ → Type 0
+WritesTo rows out (Ok n) out₁ = Writes rows out n out₁
+WritesTo rows out (Err Wrong) out₁ = Refuses rows out out₁
+WritesTo rows out (Err NoRoom) out₁ = Small rows out out₁

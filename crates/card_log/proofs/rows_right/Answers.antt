@@ -1,28 +1,34 @@
-use mathlib.Core.Path.{sym, ap, ◌∙◌}
-use native.Mathlib.Omega.{arith}
-use Prim.Native.Nat.{ℕ}
-use Rattle.card_block.specs.Judging.{onward}
-use Rattle.card_block.proofs.WalkLaws.{few}
-use Rattle.card_log.proofs.RowLaws.{checking_start, checking_many, checking_broken, checking_on, checking_end}
+use mathlib.Core.Path.{refl, sym, ◌∙◌}
+use Rattle.card_log.proofs.RowLaws.{cut_of, checking_start, checking_many, checking_broken, checking_on, checking_end}
 use Rattle.card_log.proofs.rows_right.Goals as goal
 
-pub loop-i-init : goal.loop-i-init
-loop-i-init c = checking_start _ _
+pub loop-row-init : goal.loop-row-init
+loop-row-init c =
+    rw (c.into_iter-row-iterator.ensures.into_iter_gives, c.chunks_exact-row-items.ensures.rest, c.chunks_exact-row-items.ensures.size)
+    (record { size = refl; checking = checking_start c.args.rows.now })
 
-pub fact_of-f-requires : goal.fact_of-f-requires
-fact_of-f-requires c = omega (arith, c.requires)
+pub returns-then-f-gt-VALUES : goal.returns-then-f-gt-VALUES
+returns-then-f-gt-VALUES c =
+    let s = c.in-Some.ensures.steps in
+    checking_many c.loop-row.invariant.checking _ _ (cut_of _ _ _ _ c.loop-row.invariant.size s.1.0 s.1.1) _ c.fact_of-f.ensures.result_value c.fact_of-f.ensures.count_value c.if-f-gt-VALUES.true
 
-pub returns-then-f-gt3 : goal.returns-then-f-gt3
-returns-then-f-gt3 c = checking_many c.loop-i.invariant (omega arith) c.fact_of-f.result c.fact_of-f.ensures.result_value c.fact_of-f.ensures.count_value (omega arith)
+pub returns-in_default : goal.returns-in_default
+returns-in_default c =
+    let s = c.in-Some.ensures.steps in
+    checking_broken c.loop-row.invariant.checking _ _ (cut_of _ _ _ _ c.loop-row.invariant.size s.1.0 s.1.1) _ c.fact_of-f.ensures.result_value c.fact_of-f.ensures.count_value c.if-f-gt-VALUES.false _
+    (sym c.in_default.is ∙ c.go_on.ensures)
 
-pub returns-then-not-may_belong : goal.returns-then-not-may_belong
-returns-then-not-may_belong c = checking_broken c.loop-i.invariant (omega arith) c.fact_of-f.result c.fact_of-f.ensures.result_value c.fact_of-f.ensures.count_value (omega arith) (sym c.may_belong.ensures ∙ c.if-not-may_belong.true)
-
-pub go_on-held-requires : goal.go_on-held-requires
-go_on-held-requires c = few c.loop-i.held.count c.loop-i.held.stamp c.fact_of-f.result.stamp (sym c.may_belong.ensures ∙ c.if-not-may_belong.false)
-
-pub loop-i-preserved : goal.loop-i-preserved
-loop-i-preserved c = checking_on c.loop-i.invariant (omega arith) c.fact_of-f.result c.fact_of-f.ensures.result_value c.fact_of-f.ensures.count_value _ _ (omega arith) (sym c.may_belong.ensures ∙ c.if-not-may_belong.false) (c.go_on-held.ensures ∙ ap (λ (x : ℕ). onward c.loop-i.held.count c.loop-i.held.stamp c.fact_of-f.result.stamp x) c.flag_of.ensures)
+pub loop-row-preserved : goal.loop-row-preserved
+loop-row-preserved c =
+    let s = c.in-Some.ensures.steps in
+    record {
+      size = s.0 ∙ c.loop-row.invariant.size;
+      checking =
+          checking_on c.loop-row.invariant.checking _ _ (cut_of _ _ _ _ c.loop-row.invariant.size s.1.0 s.1.1) _ c.fact_of-f.ensures.result_value c.fact_of-f.ensures.count_value c.if-f-gt-VALUES.false _
+          (sym c.in-Ok.is ∙ c.go_on.ensures);
+    }
 
 pub returns : goal.returns
-returns c = checking_end c.loop-i.invariant (omega arith)
+returns c =
+    let s = c.in-None.ensures.steps in
+    checking_end c.loop-row.invariant.checking (rw c.loop-row.invariant.size at s.1.0) _ c.is_none.ensures

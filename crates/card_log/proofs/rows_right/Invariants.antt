@@ -1,10 +1,11 @@
--- `rows_right` meets its contract: the rows still to come decide. The measure is what is left of them. Assumes nothing.
-use Prim.Native.Nat.{◌-◌}
+-- `rows_right` meets its contract: the rows still to come decide. Assumes nothing.
+use mathlib.Core.Path.{◌≡◌}
+use Rattle.std.specs.Slice.Iter.{chunks_exact_rest, chunks_exact_size}
 use Rattle.card_log.proofs.RowLaws.{Checking}
 use Rattle.card_log.proofs.rows_right.Given as goal
 
-abbrev pub invariant-loop-i : goal.invariant-loop-i
-invariant-loop-i l = Checking l.rows l.n l.held.count l.held.stamp l.i
-
-abbrev pub decreases-loop-i : goal.decreases-loop-i
-decreases-loop-i l = l.n - l.i
+abbrev pub invariant-loop-row : goal.invariant-loop-row
+invariant-loop-row l = record {
+  size : chunks_exact_size l.row-iterator ≡ 7;
+  checking : Checking l.rows l.held (chunks_exact_rest l.row-iterator);
+}
