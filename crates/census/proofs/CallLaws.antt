@@ -9,6 +9,7 @@ use lib.ListN.{length, get_or, get_or-append, length-append}
 use lib.Seq.{get_or-append_seam}
 use Rattle.trees.proofs.Tests.{false_true, or_r, or_cases, lt_or_ge}
 use mathlib.Core.Logic.{⊎_elim}
+use Rattle.std.specs.Prelude.{Some, None}
 use Rattle.text.specs.Words.{Word, name, number, constant, prefix, binary, quantifier, opening, closing, comma, dot, same, bytes_of}
 use Rattle.text.specs.Grammar.{Term, variable, digits, Reading, truth, atom, under, joined, quantified, grouped}
 use Rattle.text.specs.Unfold.{Atom, atoms, listed, number_in, uses_after, first_uses}
@@ -173,24 +174,24 @@ mark_other cs x m p e =
     let z : seen (cs ++ (record { called = x; count = m } ∷ [])) p ≡ seen cs p = seen_snoc cs x m p ∙ rw e (or_false (seen cs p)) in
     rw (z, count_other cs x m p e)
 
-pub mark_seen : (cs : List Call) (p : List ℕ) → seen cs p ≡ true → mark_of cs p ≡ count_in cs p
+pub mark_seen : (cs : List Call) (p : List ℕ) → seen cs p ≡ true → mark_of cs p ≡ Some (count_in cs p)
 unfolding mark_of marking
 mark_seen cs p e = rw (e, marking)
 
-pub mark_unseen : (cs : List Call) (p : List ℕ) → seen cs p ≡ false → mark_of cs p ≡ 65535
+pub mark_unseen : (cs : List Call) (p : List ℕ) → seen cs p ≡ false → mark_of cs p ≡ None
 unfolding mark_of marking
 mark_unseen cs p e = rw (e, marking)
 
 seen_there : (cs : List Call) (x : List ℕ) (m : ℕ) → seen (cs ++ (record { called = x; count = m } ∷ [])) x ≡ true
 seen_there cs x m = seen_snoc cs x m x ∙ or_r (seen cs x) (same x x) (same_refl x)
 
-pub mark_new : (cs : List Call) (x : List ℕ) (m : ℕ) → seen cs x ≡ false → mark_of (cs ++ (record { called = x; count = m } ∷ [])) x ≡ m
-mark_new cs x m e = mark_seen (cs ++ (record { called = x; count = m } ∷ [])) x (seen_there cs x m) ∙ count_unseen cs [] x m e
+pub mark_new : (cs : List Call) (x : List ℕ) (m : ℕ) → seen cs x ≡ false → mark_of (cs ++ (record { called = x; count = m } ∷ [])) x ≡ Some m
+mark_new cs x m e = mark_seen (cs ++ (record { called = x; count = m } ∷ [])) x (seen_there cs x m) ∙ ap Some (count_unseen cs [] x m e)
 
 pub mark_old : (cs : List Call) (x : List ℕ) (m : ℕ) → seen cs x ≡ true → mark_of (cs ++ (record { called = x; count = m } ∷ [])) x ≡ mark_of cs x
 mark_old cs x m e =
     mark_seen (cs ++ (record { called = x; count = m } ∷ [])) x (seen_there cs x m)
-    ∙ count_seen cs (record { called = x; count = m } ∷ []) x e ∙ sym (mark_seen cs x e)
+    ∙ ap Some (count_seen cs (record { called = x; count = m } ∷ []) x e) ∙ sym (mark_seen cs x e)
 
 pub any_append : (all cs ds : List Call) → any_clash all (cs ++ ds) ≡ (any_clash all cs || any_clash all ds)
 unfolding any_clash

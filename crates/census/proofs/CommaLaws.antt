@@ -8,11 +8,14 @@ use lib.Dec.{eqb, ltb}
 use lib.ListN.{length, drop}
 use borrow.Author.Tests.{ne_eqb, eq-eqb}
 use Rattle.text.specs.Words.{Word, wordy, Spelled}
+use Rattle.std.specs.Prelude.{Some, None}
+use Rattle.spelling.specs.declared.words.Taken.{Taken}
+use Rattle.spelling.specs.Kinds.{kind_code}
+use native.Mathlib.Nat.{add-zero}
 use Rattle.spelling.specs.Codes.{code_of, Spells, Next}
-use Rattle.spelling.proofs.KindLaws.{code_lt, opening_kind, closing_kind, comma_kind}
+use Rattle.spelling.proofs.KindLaws.{opening_kind, closing_kind, comma_kind}
 use Rattle.census.specs.Folds.{Lexed, comma_of, commas_in, arguments_in}
 use Rattle.census.specs.Told.{comma_code, Commas, Counts, Wide}
-use Rattle.census.proofs.PassLaws.{nothing_left}
 
 -- the words left, with their commas
 pub record Rest (text : List ℕ) (at n : ℕ) (ws : List Word) : Type 0 where
@@ -51,73 +54,72 @@ unfolding commas_in
 commas_more w ws n = rw (sym (closing_kind w) ∙ ne_eqb (code_of w) 15 n, commas_in, ← (comma_code_law w))
 
 module _ (text : List ℕ) (from n at : ℕ) (k : Counting text from n at) where
-  pub count_over : length text ≤ at → Commas text from n
-  count_over l = record {
+  -- no word is left
+  pub count_ends : ((v : Bool) (ws : List Word) → Spelled v ws (drop at text) → Next text at ws None) → Commas text from n
+  count_ends x = record {
     few = omega (arith, k.few, k.lexed.inside);
     are = λ ws s.
         let r : Rest text at n ws = k.passed ws s in
-        let e : r.us ≡ [] = nothing_left text at r.us r.spells k.lexed.inside l in
-        sym (r.counts ∙ rw e (rw commas_none (omega arith)));
+        let z : commas_in r.us ≡ 0 = ended r.us (x r.spells.after r.us r.spells.spelled) in
+        omega (arith, r.counts);
   }
+    where
+      ended : (us : List Word) → Next text at us None → commas_in us ≡ 0
+      ended [] y = commas_none
+      ended (w ∷ us) y = absurd y
 
-  module _ (word past here : ℕ) (x : (v : Bool) (ws : List Word) → Spelled v ws (drop at text) → Next text at ws word here past) where
-    ended : (us : List Word) → Next text at us word here past → word ≡ 18 → commas_in us ≡ 0
-    ended [] y e = commas_none
-    ended (w ∷ us) y e = absurd (omega (arith, y.code_is, code_lt w))
-
-    pub count_ends : word ≡ 18 → Commas text from n
-    count_ends e = record {
-      few = omega (arith, k.few, k.lexed.inside);
-      are = λ ws s.
-          let r : Rest text at n ws = k.passed ws s in
-          let z : commas_in r.us ≡ 0 = ended r.us (x r.spells.after r.us r.spells.spelled) e in
-          omega (arith, r.counts);
-    }
-
-    shut : (us : List Word) → Next text at us word here past → word ≡ 15 → commas_in us ≡ 0
-    shut [] y e = absurd (omega arith)
-    shut (w ∷ us) y e = commas_closed w us (sym y.code_is ∙ e)
-
-    pub count_shut : word ≡ 15 → Commas text from n
+  module _ (taken : Taken) (x : (v : Bool) (ws : List Word) → Spelled v ws (drop at text) → Next text at ws (Some taken)) where
+    pub count_shut : kind_code taken.word ≡ 15 → Commas text from n
     count_shut e = record {
       few = omega (arith, k.few, k.lexed.inside);
       are = λ ws s.
           let r : Rest text at n ws = k.passed ws s in
-          let z : commas_in r.us ≡ 0 = shut r.us (x r.spells.after r.us r.spells.spelled) e in
+          let z : commas_in r.us ≡ 0 = shut r.us (x r.spells.after r.us r.spells.spelled) in
           omega (arith, r.counts);
     }
+      where
+        shut : (us : List Word) → Next text at us (Some taken) → commas_in us ≡ 0
+        shut [] y = absurd y
+        shut (w ∷ us) y = commas_closed w us (sym y.code_is ∙ e)
 
-    module _ (e : word ≡ 18 → ⊥) (f : word ≡ 15 → ⊥) (m : ℕ) (c : m ≡ comma_code word) (o : m ≤ 1) where
-      lexed_on : (us : List Word) → Next text at us word here past → (Lexed text past) × (at < past)
-      lexed_on [] y = absurd (e y)
-      lexed_on (w ∷ us) y = (
-        record { inside = y.high; words = us; spells = record { after = wordy w; spelled = y.rest } },
-        omega (arith, y.low, y.long),
-      )
+    lexed_on : (us : List Word) → Next text at us (Some taken) → (Lexed text taken.past) × (at < taken.past)
+    lexed_on [] y = absurd y
+    lexed_on (w ∷ us) y = (
+      record { inside = y.high; words = us; spells = record { after = wordy w; spelled = y.rest } },
+      omega (arith, y.low, y.long),
+    )
 
-      after : (Lexed text past) × (at < past)
-      after = lexed_on k.lexed.words (x k.lexed.spells.after k.lexed.words k.lexed.spells.spelled)
+    after : (Lexed text taken.past) × (at < taken.past)
+    after = lexed_on k.lexed.words (x k.lexed.spells.after k.lexed.words k.lexed.spells.spelled)
 
-      pub count_inside : at < past
-      count_inside = after.1
+    pub count_inside : at < taken.past
+    count_inside = after.1
 
-      pub count_past : past ≤ length text
-      count_past = after.0.inside
+    pub count_past : taken.past ≤ length text
+    count_past = after.0.inside
 
-      on : (ws us : List Word) → Next text at us word here past → commas_in ws ≡ n + commas_in us → Rest text past (n + m) ws
-      on ws [] y z = absurd (e y)
-      on ws (w ∷ us) y z =
-          let d : commas_in (w ∷ us) ≡ comma_code word + commas_in us = commas_more w us (λ q. f (y.code_is ∙ q)) ∙ ap (λ (i : ℕ). comma_code i + commas_in us) (sym y.code_is) in
-          record { us = us; spells = record { after = wordy w; spelled = y.rest }; counts = omega arith }
+    pub count_more : (kind_code taken.word ≡ 15 → ⊥) → (m : ℕ) → m ≡ comma_code (kind_code taken.word) → m ≤ 1 → Counting text from (n + m) taken.past
+    count_more f m c o = record {
+      lexed = after.0;
+      few = omega (arith, k.few, after.1);
+      passed = λ ws s.
+          let r : Rest text at n ws = k.passed ws s in
+          on ws r.us (x r.spells.after r.us r.spells.spelled) r.counts;
+    }
+      where
+        on : (ws us : List Word) → Next text at us (Some taken) → commas_in ws ≡ n + commas_in us → Rest text taken.past (n + m) ws
+        on ws [] y z = absurd y
+        on ws (w ∷ us) y z =
+            let d : commas_in (w ∷ us) ≡ comma_code (kind_code taken.word) + commas_in us = commas_more w us (λ q. f (y.code_is ∙ q)) ∙ ap (λ (i : ℕ). comma_code i + commas_in us) (sym y.code_is) in
+            record { us = us; spells = record { after = wordy w; spelled = y.rest }; counts = omega arith }
 
-      pub count_more : Counting text from (n + m) past
-      count_more = record {
-        lexed = after.0;
-        few = omega (arith, k.few, after.1);
-        passed = λ ws s.
-            let r : Rest text at n ws = k.passed ws s in
-            on ws r.us (x r.spells.after r.us r.spells.spelled) r.counts;
-      }
+    pub count_comma : kind_code taken.word ≡ 16 → Counting text from (n + 1) taken.past
+    unfolding comma_code
+    count_comma e = count_more (λ q. omega arith) 1 (rw e) (omega arith)
+
+    pub count_other : (kind_code taken.word ≡ 15 → ⊥) → (kind_code taken.word ≡ 16 → ⊥) → Counting text from n taken.past
+    unfolding comma_code
+    count_other f g = rw (← (add-zero n)) (count_more f 0 (rw (ne_eqb (kind_code taken.word) 16 g, comma_code)) (omega arith))
 
 -- the arguments after a name
 arguments_none : arguments_in [] ≡ 0
@@ -132,29 +134,37 @@ arguments_some : (w : Word) (ws : List Word) → code_of w ≡ 14 → arguments_
 unfolding arguments_in
 arguments_some w ws e = rw (sym (opening_kind w) ∙ eq-eqb (code_of w) 14 e, arguments_in)
 
-module _ (text : List ℕ) (at word past here : ℕ) (x : (v : Bool) (ws : List Word) → Spelled v ws (drop at text) → Next text at ws word here past) where
-  pub arguments_no : (word ≡ 14 → ⊥) → Counts text at 0
-  arguments_no n = record { few = omega arith; are = λ ws s. by ws (x s.after ws s.spelled) }
+module _ (text : List ℕ) (at : ℕ) where
+  pub arguments_ends : ((v : Bool) (ws : List Word) → Spelled v ws (drop at text) → Next text at ws None) → Counts text at 0
+  arguments_ends x = record { few = omega arith; are = λ ws s. by ws (x s.after ws s.spelled) }
     where
-      by : (ws : List Word) → Next text at ws word here past → 0 ≡ arguments_in ws
+      by : (ws : List Word) → Next text at ws None → 0 ≡ arguments_in ws
       by [] y = sym arguments_none
-      by (w ∷ ws) y = sym (arguments_other w ws (λ q. n (y.code_is ∙ q)))
+      by (w ∷ ws) y = absurd y
 
-  pub arguments_lexed : Lexed text at → word ≡ 14 → Lexed text past
-  arguments_lexed l e = by l.words (x l.spells.after l.words l.spells.spelled)
-    where
-      by : (ws : List Word) → Next text at ws word here past → Lexed text past
-      by [] y = absurd (omega arith)
-      by (w ∷ ws) y = record { inside = y.high; words = ws; spells = record { after = wordy w; spelled = y.rest } }
+  module _ (taken : Taken) (x : (v : Bool) (ws : List Word) → Spelled v ws (drop at text) → Next text at ws (Some taken)) where
+    pub arguments_no : (kind_code taken.word ≡ 14 → ⊥) → Counts text at 0
+    arguments_no n = record { few = omega arith; are = λ ws s. by ws (x s.after ws s.spelled) }
+      where
+        by : (ws : List Word) → Next text at ws (Some taken) → 0 ≡ arguments_in ws
+        by [] y = absurd y
+        by (w ∷ ws) y = sym (arguments_other w ws (λ q. n (y.code_is ∙ q)))
 
-  pub arguments_yes : (n : ℕ) → word ≡ 14 → Commas text past n → Counts text at (n + 1)
-  arguments_yes n e c = record { few = omega (arith, c.few); are = λ ws s. by ws (x s.after ws s.spelled) }
-    where
-      by : (ws : List Word) → Next text at ws word here past → n + 1 ≡ arguments_in ws
-      by [] y = absurd (omega arith)
-      by (w ∷ ws) y =
-          let z : n ≡ commas_in ws = c.are ws (record { after = wordy w; spelled = y.rest }) in
-          rw (arguments_some w ws (sym y.code_is ∙ e), z)
+    pub arguments_lexed : Lexed text at → Lexed text taken.past
+    arguments_lexed l = by l.words (x l.spells.after l.words l.spells.spelled)
+      where
+        by : (ws : List Word) → Next text at ws (Some taken) → Lexed text taken.past
+        by [] y = absurd y
+        by (w ∷ ws) y = record { inside = y.high; words = ws; spells = record { after = wordy w; spelled = y.rest } }
+
+    pub arguments_yes : (n : ℕ) → kind_code taken.word ≡ 14 → Commas text taken.past n → Counts text at (n + 1)
+    arguments_yes n e c = record { few = omega (arith, c.few); are = λ ws s. by ws (x s.after ws s.spelled) }
+      where
+        by : (ws : List Word) → Next text at ws (Some taken) → n + 1 ≡ arguments_in ws
+        by [] y = absurd y
+        by (w ∷ ws) y =
+            let z : n ≡ commas_in ws = c.are ws (record { after = wordy w; spelled = y.rest }) in
+            rw (arguments_some w ws (sym y.code_is ∙ e), z)
 
 -- a name with more than 3
 pub wide_mode : (text : List ℕ) (mode word past : ℕ) → (mode ≡ 0 → ⊥) → Wide text mode word past false

@@ -1,5 +1,5 @@
 -- A word comes: what becomes of the depths at which names are bound. Assumes nothing.
-use Prim.Native.Nat.{ℕ, zero, suc, ◌+◌, ◌-◌, ◌≤◌, ◌<◌}
+use Prim.Native.Nat.{ℕ, ◌+◌, ◌-◌, ◌≤◌, ◌<◌}
 use native.Mathlib.Omega.{arith}
 use native.Mathlib.Numerals.{add-one}
 use mathlib.Core.Path.{◌≡◌, refl, sym, ap, ◌∙◌}
@@ -9,7 +9,7 @@ use mathlib.Core.Logic.{◌⊎◌, inl, inr}
 use lib.Dec.{eqb}
 use lib.ListN.{length, get_or, set, length-set}
 use lib.Seq.{get_or-set_same, get_or-set_other}
-use borrow.Author.Tests.{ne_eqb, lt-ltb, le-ltb}
+use borrow.Author.Tests.{ne_eqb, eq-eqb}
 use Rattle.trees.proofs.Tests.{bool, false_true}
 use Rattle.text.specs.Words.{same}
 use Rattle.text.specs.Unfold.{listed, number_in}
@@ -25,9 +25,9 @@ module _ (mode word : ℕ) (x : List ℕ) where
   unfolding scope_event chosen name_event
   is_binding e f = rw (e, f)
 
-  pub is_use : word ≡ 0 → (mode ≡ 3 → ⊥) → mode ≡ 5 → scope_event mode word x ≡ uses x ∷ []
+  pub is_use : word ≡ 0 → mode ≡ 5 → scope_event mode word x ≡ uses x ∷ []
   unfolding scope_event chosen name_event
-  is_use e n f = rw (e, f)
+  is_use e f = rw (e, f)
 
   pub is_name : word ≡ 0 → (mode ≡ 3 → ⊥) → (mode ≡ 5 → ⊥) → scope_event mode word x ≡ []
   unfolding scope_event chosen name_event
@@ -69,7 +69,7 @@ module _ (names : List (List ℕ)) (now : List Event) (since : List ℕ) (d : �
     after = λ env s k c. record { env' = env; scoped = c; tells = λ es. rw (e, add-one d) };
   }
 
-  pub enters_use : (x : List ℕ) (v : ℕ) → now ≡ uses x ∷ [] → v ≡ number_in names x → v < length names → listed names x ≡ true → Enters names now since since d d (eqb (get_or since v 0) 0)
+  enters_use : (x : List ℕ) (v : ℕ) → now ≡ uses x ∷ [] → v ≡ number_in names x → v < length names → listed names x ≡ true → Enters names now since since d d (eqb (get_or since v 0) 0)
   unfolding loose_in
   enters_use x v e i h l = record {
     near = omega arith;
@@ -78,6 +78,12 @@ module _ (names : List (List ℕ)) (now : List Event) (since : List ℕ) (d : �
         let z : get_or since v 0 ≡ env x = c v h ∙ ap (λ (u : ℕ). env (get_or names u [])) i ∙ ap env (number_at names x l) in
         record { env' = env; scoped = c; tells = λ es. rw (e, z) };
   }
+
+  pub enters_loose : (x : List ℕ) (v : ℕ) → now ≡ uses x ∷ [] → v ≡ number_in names x → v < length names → listed names x ≡ true → get_or since v 0 ≡ 0 → Enters names now since since d d true
+  enters_loose x v e i h l z = rw (eq-eqb (get_or since v 0) 0 z) at (enters_use x v e i h l)
+
+  pub enters_bound : (x : List ℕ) (v : ℕ) → now ≡ uses x ∷ [] → v ≡ number_in names x → v < length names → listed names x ≡ true → (get_or since v 0 ≡ 0 → ⊥) → Enters names now since since d d false
+  enters_bound x v e i h l n = rw (ne_eqb (get_or since v 0) 0 n) at (enters_use x v e i h l)
 
   pub enters_close : (since' : List ℕ) (outer : ℕ) → now ≡ closes ∷ [] → outer ≡ d - 1 → length names ≤ 4 → Lowered outer since since' → Enters names now since since' d outer false
   unfolding loose_in
@@ -109,39 +115,6 @@ module _ (names : List (List ℕ)) (now : List Event) (since : List ℕ) (d : �
           ∙ ap (binding_at d true) (ap (λ (o : ℕ). get_or since o 0) w ∙ c j q))
       shown env s k c j q (inr u) =
           rw u (get_or-set_other since v j b 0 (λ w. false_true u (rw (ap (λ (o : ℕ). get_or names o []) (w ∙ i) ∙ number_at names x l) (same_refl x))) ∙ c j q ∙ unfold binding_at in refl)
-
-pub lower_over : (d s : ℕ) → d < s → 0 ≡ lowered d s
-unfolding lowered
-lower_over d s h = rw (lt-ltb d s h, lowered)
-
-pub lower_kept : (d s : ℕ) → s ≤ d → s ≡ lowered d s
-unfolding lowered
-lower_kept d s h = rw (le-ltb d s h, lowered)
-
-pub binds_new : (d s : ℕ) → s ≡ 0 → d ≡ binding_at d true s
-unfolding binding_at
-binds_new d s e = rw e
-
-pub binds_old : (d s : ℕ) → (s ≡ 0 → ⊥) → s ≡ binding_at d true s
-unfolding binding_at
-binds_old d s n = rw (ne_eqb s 0 n, binding_at)
-
--- the four of them
-pub lowers : (d a b c e : ℕ) (since : List ℕ) → a ≡ lowered d (get_or since 0 0) → b ≡ lowered d (get_or (set since 0 a) 1 0)
-    → c ≡ lowered d (get_or (set (set since 0 a) 1 b) 2 0) → e ≡ lowered d (get_or (set (set (set since 0 a) 1 b) 2 c) 3 0) → Lowered d since (set (set (set (set since 0 a) 1 b) 2 c) 3 e)
-lowers d a b c e [] i j k l = λ s. absurd (omega arith)
-lowers d a b c e (p ∷ []) i j k l = λ s. absurd (omega arith)
-lowers d a b c e (p ∷ q ∷ []) i j k l = λ s. absurd (omega arith)
-lowers d a b c e (p ∷ q ∷ r ∷ []) i j k l = λ s. absurd (omega arith)
-lowers d a b c e (p ∷ q ∷ r ∷ t ∷ u ∷ more) i j k l = λ s. absurd (omega arith)
-lowers d a b c e (p ∷ q ∷ r ∷ t ∷ []) i j k l = λ s. (refl, at i j k l)
-  where
-    at : a ≡ lowered d p → b ≡ lowered d q → c ≡ lowered d r → e ≡ lowered d t → (v : ℕ) → v < 4 → get_or (a ∷ b ∷ c ∷ e ∷ []) v 0 ≡ lowered d (get_or (p ∷ q ∷ r ∷ t ∷ []) v 0)
-    at i j k l zero h = i
-    at i j k l (suc zero) h = j
-    at i j k l (suc (suc zero)) h = k
-    at i j k l (suc (suc (suc zero))) h = l
-    at i j k l (suc (suc (suc (suc v)))) h = absurd (omega arith)
 
 -- such a name is a variable
 pub variable_slot : (mode word : ℕ) → word ≡ 0 → (mode ≡ 3) ⊎ (mode ≡ 5) → name_code false mode word ≡ true

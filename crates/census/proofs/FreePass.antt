@@ -13,8 +13,12 @@ use Rattle.text.specs.Grammar.{Reading, HasReading}
 use Rattle.text.specs.Unfold.{listed, number_in, variables, variable_names}
 use Rattle.text.specs.Scope.{loose}
 use Rattle.text.proofs.NameLaws.{Listed, first_uses_list, listed_right, number_lt}
+use Rattle.std.specs.Prelude.{Some, None}
+use Rattle.spelling.specs.declared.words.Taken.{Taken}
+use Rattle.spelling.specs.Kinds.{kind_code}
 use Rattle.spelling.specs.Codes.{code_of, kind_of, next_mode, Next, mode_after}
-use Rattle.spelling.proofs.KindLaws.{code_lt, next_is, name_kind, opening_kind, closing_kind}
+use Rattle.spelling.proofs.KindLaws.{next_is, name_kind, opening_kind, closing_kind}
+use Rattle.census.specs.declared.spans.Span.{Span}
 use Rattle.census.specs.Folds.{Event, call, uses, binds, opens, closes, named, arguments_in, event_of, events, events_of, names_in}
 use Rattle.census.specs.Tables.{names_at, Within, asked_for, name_code}
 use Rattle.census.specs.Scopes.{loose_in, name_event, chosen, scope_event, Distinct, Scoped, After, Enters, Variables, ToldLoose}
@@ -22,7 +26,7 @@ use Rattle.census.proofs.NameLaws.{variables_of, name_step}
 use Rattle.census.proofs.TableLaws.{table_length}
 use Rattle.census.proofs.CallLaws.{distinct_first}
 use Rattle.census.proofs.LooseLaws.{loose_of}
-use Rattle.census.proofs.PassLaws.{Passing, Stepped, pass_begins, pass_over, pass_ends, pass_steps, pass_on, of_all}
+use Rattle.census.proofs.PassLaws.{Passing, Stepped, pass_begins, pass_ends, pass_steps, pass_on, of_all}
 
 -- one word more, by number
 named_loose : (m : ℕ) (x : List ℕ) (n d : ℕ) (env : List ℕ → ℕ) (es : List Event) → loose_in d env (named m x n ++ es) ≡ loose_in d env (name_event (eqb m 3) (eqb m 5) x ++ es)
@@ -70,30 +74,28 @@ by_kind m closing ws d env es = ap (λ (l : List Event). loose_in d env (l ++ es
 by_kind m comma ws d env es = refl
 by_kind m dot ws d env es = refl
 
-kind_code : (m : ℕ) (w : Word) → scope_event m (code_of w) (bytes_of w) ≡ kind_event m w
+coded_event : (m : ℕ) (w : Word) → scope_event m (code_of w) (bytes_of w) ≡ kind_event m w
 unfolding scope_event kind_event
-kind_code m w = rw (name_kind w, opening_kind w, closing_kind w)
+coded_event m w = rw (name_kind w, opening_kind w, closing_kind w)
 
 -- the events left tell it
 pub record Free (d : ℕ) (env : List ℕ → ℕ) (f : Reading) (es : List Event) : Type 0 where
   pub left : loose [] f ≡ loose_in d env es
   pub known : Listed (variable_names f) (names_in false es)
 
-pub record Scoping (text starts lengths : List ℕ) (n : ℕ) (since : List ℕ) (depth mode at : ℕ) : Type 0 where
-  pub low : mode < 8
+pub record Scoping (text : List ℕ) (spans : List Span) (since : List ℕ) (depth mode at : ℕ) : Type 0 where
   pub near : depth ≤ at + 1
   pub sized : length since ≡ 4
   pub env : List ℕ → ℕ
-  pub scoped : Scoped (names_at text starts lengths n) since env
+  pub scoped : Scoped (names_at text spans) since env
   pub pass : Passing (Free depth env) text at mode
 
 all_listed : (f : Reading) → Listed (variable_names f) (names_in false (events_of f))
 unfolding variable_names
 all_listed f = rw (variables_of f) (first_uses_list (variables f))
 
-pub scope_begins : (text starts lengths : List ℕ) (n : ℕ) → HasReading text → Variables text starts lengths n → Scoping text starts lengths n (replicate 4 0) 1 0 0
-scope_begins text starts lengths n h p = record {
-  low = omega arith;
+pub scope_begins : (text : List ℕ) (spans : List Span) → HasReading text → Variables text spans → Scoping text spans (replicate 4 0) 1 0 0
+scope_begins text spans h p = record {
   near = omega arith;
   sized = refl;
   env = λ y. 0;
@@ -112,86 +114,78 @@ asked_first : (ns : List (List ℕ)) (y : List ℕ) (xs : List (List ℕ)) → L
 unfolding asked_for
 asked_first ns y xs h = h.0
 
-module _ (text starts lengths : List ℕ) (n : ℕ) (since : List ℕ) (depth mode at : ℕ) (p : Variables text starts lengths n)
-    (k : Scoping text starts lengths n since depth mode at) where
+module _ (text : List ℕ) (spans : List Span) (since : List ℕ) (depth mode at : ℕ) (p : Variables text spans)
+    (k : Scoping text spans since depth mode at) where
   none : Free depth k.env k.pass.reading [] → ToldLoose text false
   unfolding loose_in
   none x = of_all text k.pass.reading false (loose []) k.pass.is (sym x.left)
 
-  pub scope_over : length text ≤ at → ToldLoose text false
-  scope_over l = none (pass_over (Free depth k.env) text at mode k.pass l)
+  pub scope_ends : ((v : Bool) (ws : List Word) → Spelled v ws (drop at text) → Next text at ws None) → ToldLoose text false
+  scope_ends l = none (pass_ends (Free depth k.env) text at mode k.pass l)
 
-  pub count : length (names_at text starts lengths n) ≡ n
-  count = table_length text starts lengths n p.table.here p.table.there
+  pub count : length (names_at text spans) ≡ length spans
+  count = table_length text spans
 
-  module _ (word from past : ℕ) (x : (v : Bool) (ws : List Word) → Spelled v ws (drop at text) → Next text at ws word from past) where
-    pub scope_ends : word ≡ 18 → ToldLoose text false
-    scope_ends e = none (pass_ends (Free depth k.env) text at mode k.pass word from past x e)
+  module _ (taken : Taken) (x : (v : Bool) (ws : List Word) → Spelled v ws (drop at text) → Next text at ws (Some taken)) where
+    stepped : Stepped (Free depth k.env) text at mode (kind_code taken.word) taken.from taken.past
+    stepped = pass_steps (Free depth k.env) text at mode k.pass taken x
 
-    module _ (e : word ≡ 18 → ⊥) where
-      stepped : Stepped (Free depth k.env) text at mode word from past
-      stepped = pass_steps (Free depth k.env) text at mode k.pass word from past x e
+    pub scope_within : Within text taken.from taken.past
+    scope_within = record { order = omega (arith, stepped.first.long); inside = stepped.first.high }
 
-      pub scope_within : Within text from past
-      scope_within = record { order = omega (arith, stepped.first.long); inside = stepped.first.high }
+    pub scope_grows : at < taken.past
+    scope_grows = omega (arith, stepped.first.low, stepped.first.long)
 
-      pub scope_grows : at < past
-      scope_grows = omega (arith, stepped.first.low, stepped.first.long)
+    same_names : (c d : ℕ) (y z : List ℕ) → c ≡ d → y ≡ z → asked_for (name_code false mode c) y ≡ asked_for (name_code false mode d) z
+    same_names c d y z u v = rw (u, v)
 
-      pub scope_word : word < 18
-      scope_word = omega (arith, stepped.first.code_is, code_lt stepped.w)
+    all_names : Listed (variable_names stepped.reading) (asked_for (name_code false mode (kind_code taken.word)) (take (taken.past - taken.from) (drop taken.from text)) ++ names_in false (events (mode_after mode stepped.w) stepped.ws))
+    all_names =
+        rw (
+          name_step false mode stepped.w stepped.ws (events (mode_after mode stepped.w) stepped.ws),
+          same_names (code_of stepped.w) (kind_code taken.word) (bytes_of stepped.w) (take (taken.past - taken.from) (drop taken.from text)) (sym stepped.first.code_is) (sym stepped.first.bytes_are),
+        )
+        at stepped.left.known
 
-      same_names : (c d : ℕ) (y z : List ℕ) → c ≡ d → y ≡ z → asked_for (name_code false mode c) y ≡ asked_for (name_code false mode d) z
-      same_names c d y z u v = rw (u, v)
+    pub scope_listed : name_code false mode (kind_code taken.word) ≡ true → listed (names_at text spans) (take (taken.past - taken.from) (drop taken.from text)) ≡ true
+    scope_listed z = rw (p.names stepped.reading stepped.is) (asked_first (variable_names stepped.reading) (take (taken.past - taken.from) (drop taken.from text)) (names_in false (events (mode_after mode stepped.w) stepped.ws)) (rw z at all_names))
 
-      all_names : Listed (variable_names stepped.reading) (asked_for (name_code false mode word) (take (past - from) (drop from text)) ++ names_in false (events (mode_after mode stepped.w) stepped.ws))
-      all_names =
-          rw (
-            name_step false mode stepped.w stepped.ws (events (mode_after mode stepped.w) stepped.ws),
-            same_names (code_of stepped.w) word (bytes_of stepped.w) (take (past - from) (drop from text)) (sym stepped.first.code_is) (sym stepped.first.bytes_are),
-          )
-          at stepped.left.known
+    pub scope_number : name_code false mode (kind_code taken.word) ≡ true → number_in (names_at text spans) (take (taken.past - taken.from) (drop taken.from text)) < length spans
+    scope_number z = omega (arith, number_lt (names_at text spans) (take (taken.past - taken.from) (drop taken.from text)) (scope_listed z), count)
 
-      pub scope_listed : name_code false mode word ≡ true → listed (names_at text starts lengths n) (take (past - from) (drop from text)) ≡ true
-      scope_listed z = rw (p.names stepped.reading stepped.is) (asked_first (variable_names stepped.reading) (take (past - from) (drop from text)) (names_in false (events (mode_after mode stepped.w) stepped.ws)) (rw z at all_names))
+    module _ (since' : List ℕ) (depth' : ℕ) (r : Bool)
+        (t : Enters (names_at text spans) (scope_event mode (kind_code taken.word) (take (taken.past - taken.from) (drop taken.from text))) since since' depth depth' r) where
+      different : Distinct (names_at text spans)
+      different = rw (p.names stepped.reading stepped.is) (unfold variable_names in distinct_first (variables stepped.reading))
 
-      pub scope_number : name_code false mode word ≡ true → number_in (names_at text starts lengths n) (take (past - from) (drop from text)) < n
-      scope_number z = omega (arith, number_lt (names_at text starts lengths n) (take (past - from) (drop from text)) (scope_listed z), count)
+      after : After (names_at text spans) (scope_event mode (kind_code taken.word) (take (taken.past - taken.from) (drop taken.from text))) since' depth depth' r k.env
+      after = t.after k.env k.sized different k.scoped
 
-      module _ (since' : List ℕ) (depth' : ℕ) (r : Bool)
-          (t : Enters (names_at text starts lengths n) (scope_event mode word (take (past - from) (drop from text))) since since' depth depth' r) where
-        different : Distinct (names_at text starts lengths n)
-        different = rw (p.names stepped.reading stepped.is) (unfold variable_names in distinct_first (variables stepped.reading))
+      same_event : (c d : ℕ) (y z : List ℕ) → c ≡ d → y ≡ z → scope_event mode c y ≡ scope_event mode d z
+      same_event c d y z u v = rw (u, v)
 
-        after : After (names_at text starts lengths n) (scope_event mode word (take (past - from) (drop from text))) since' depth depth' r k.env
-        after = t.after k.env k.sized different k.scoped
+      told : loose [] stepped.reading ≡ (r || loose_in depth' after.env' (events (mode_after mode stepped.w) stepped.ws))
+      told =
+          stepped.left.left
+          ∙ by_kind mode stepped.w stepped.ws depth k.env (events (mode_after mode stepped.w) stepped.ws)
+          ∙ ap (λ (l : List Event). loose_in depth k.env (l ++ events (mode_after mode stepped.w) stepped.ws))
+          (sym (coded_event mode stepped.w) ∙ same_event (code_of stepped.w) (kind_code taken.word) (bytes_of stepped.w) (take (taken.past - taken.from) (drop taken.from text)) (sym stepped.first.code_is) (sym stepped.first.bytes_are))
+          ∙ after.tells (events (mode_after mode stepped.w) stepped.ws)
 
-        same_event : (c d : ℕ) (y z : List ℕ) → c ≡ d → y ≡ z → scope_event mode c y ≡ scope_event mode d z
-        same_event c d y z u v = rw (u, v)
+      pub scope_loose : r ≡ true → ToldLoose text true
+      scope_loose z = of_all text stepped.reading true (loose []) stepped.is (sym (told ∙ ap (λ (q : Bool). q || loose_in depth' after.env' (events (mode_after mode stepped.w) stepped.ws)) z))
 
-        told : loose [] stepped.reading ≡ (r || loose_in depth' after.env' (events (mode_after mode stepped.w) stepped.ws))
-        told =
-            stepped.left.left
-            ∙ by_kind mode stepped.w stepped.ws depth k.env (events (mode_after mode stepped.w) stepped.ws)
-            ∙ ap (λ (l : List Event). loose_in depth k.env (l ++ events (mode_after mode stepped.w) stepped.ws))
-            (sym (kind_code mode stepped.w) ∙ same_event (code_of stepped.w) word (bytes_of stepped.w) (take (past - from) (drop from text)) (sym stepped.first.code_is) (sym stepped.first.bytes_are))
-            ∙ after.tells (events (mode_after mode stepped.w) stepped.ws)
-
-        pub scope_loose : r ≡ true → ToldLoose text true
-        scope_loose z = of_all text stepped.reading true (loose []) stepped.is (sym (told ∙ ap (λ (q : Bool). q || loose_in depth' after.env' (events (mode_after mode stepped.w) stepped.ws)) z))
-
-        pub scope_more : (mode' : ℕ) → r ≡ false → (mode' ≡ next_mode mode word) × (mode' < 8) → Scoping text starts lengths n since' depth' mode' past
-        scope_more mode' z q =
-            let o : mode' ≡ mode_after mode stepped.w = q.0 ∙ ap (next_mode mode) stepped.first.code_is ∙ next_is mode stepped.w in
-            record {
-              low = q.1;
-              near = omega (arith, t.near, k.near, scope_grows);
-              sized = t.sized k.sized;
-              env = after.env';
-              scoped = after.scoped;
-              pass = pass_on (Free depth k.env) (Free depth' after.env') text at mode word from past mode' stepped o
-                  (record {
-                    left = told ∙ ap (λ (q : Bool). q || loose_in depth' after.env' (events (mode_after mode stepped.w) stepped.ws)) z;
-                    known = listed_right (variable_names stepped.reading) (asked_for (name_code false mode word) (take (past - from) (drop from text))) (names_in false (events (mode_after mode stepped.w) stepped.ws)) all_names;
-                  });
-            }
+      pub scope_more : (mode' : ℕ) → r ≡ false → mode' ≡ next_mode mode (kind_code taken.word) → Scoping text spans since' depth' mode' taken.past
+      scope_more mode' z q =
+          let o : mode' ≡ mode_after mode stepped.w = q ∙ ap (next_mode mode) stepped.first.code_is ∙ next_is mode stepped.w in
+          record {
+            near = omega (arith, t.near, k.near, scope_grows);
+            sized = t.sized k.sized;
+            env = after.env';
+            scoped = after.scoped;
+            pass = pass_on (Free depth k.env) (Free depth' after.env') text at mode (kind_code taken.word) taken.from taken.past mode' stepped o
+                (record {
+                  left = told ∙ ap (λ (q : Bool). q || loose_in depth' after.env' (events (mode_after mode stepped.w) stepped.ws)) z;
+                  known = listed_right (variable_names stepped.reading) (asked_for (name_code false mode (kind_code taken.word)) (take (taken.past - taken.from) (drop taken.from text))) (names_in false (events (mode_after mode stepped.w) stepped.ws)) all_names;
+                });
+          }

@@ -12,11 +12,14 @@ use Rattle.text.specs.Words.{Spelled, Word, bytes_of}
 use Rattle.text.specs.Grammar.{Reading, HasReading}
 use Rattle.text.specs.Unfold.{atoms, value_after}
 use Rattle.text.specs.Translate.{any_atom, too_large}
+use Rattle.std.specs.Prelude.{Some, None}
+use Rattle.spelling.specs.declared.words.Taken.{Taken}
+use Rattle.spelling.specs.Kinds.{kind_code}
 use Rattle.spelling.specs.Codes.{code_of, Next, mode_after}
 use Rattle.census.specs.Folds.{Event, events, large, large_in}
 use Rattle.census.specs.Told.{large_code, ToldLarge}
 use Rattle.census.proofs.TellLaws.{large_of, large_step}
-use Rattle.census.proofs.PassLaws.{Passing, Stepped, pass_begins, pass_over, pass_ends, pass_steps, pass_on, of_all}
+use Rattle.census.proofs.PassLaws.{Passing, Stepped, pass_begins, pass_ends, pass_steps, pass_on, of_all}
 
 pub large_other : (code : ℕ) (bs : List ℕ) → (code ≡ 1 → ⊥) → false ≡ large_code code bs
 unfolding large_code
@@ -48,34 +51,30 @@ module _ (text : List ℕ) (at : ℕ) (s : Seeking text at) where
   none : Large s.pass.reading [] → ToldLarge text false
   none x = of_all text s.pass.reading false (λ f. any_atom (λ a. too_large a.terms) (atoms f)) s.pass.is (sym (unfold large_in in x))
 
-  pub seek_over : length text ≤ at → ToldLarge text false
-  seek_over l = none (pass_over Large text at s.mode s.pass l)
+  pub seek_ends : ((v : Bool) (ws : List Word) → Spelled v ws (drop at text) → Next text at ws None) → ToldLarge text false
+  seek_ends l = none (pass_ends Large text at s.mode s.pass l)
 
-  module _ (word from past : ℕ) (n : (v : Bool) (ws : List Word) → Spelled v ws (drop at text) → Next text at ws word from past) where
-    pub seek_ends : word ≡ 18 → ToldLarge text false
-    seek_ends e = none (pass_ends Large text at s.mode s.pass word from past n e)
+  module _ (taken : Taken) (n : (v : Bool) (ws : List Word) → Spelled v ws (drop at text) → Next text at ws (Some taken)) where
+    stepped : Stepped Large text at s.mode (kind_code taken.word) taken.from taken.past
+    stepped = pass_steps Large text at s.mode s.pass taken n
 
-    module _ (e : word ≡ 18 → ⊥) where
-      stepped : Stepped Large text at s.mode word from past
-      stepped = pass_steps Large text at s.mode s.pass word from past n e
+    pub seek_inside : (taken.from ≤ taken.past) × (taken.past ≤ length text) × (at < taken.past)
+    seek_inside = (omega (arith, stepped.first.long), stepped.first.high, omega (arith, stepped.first.low, stepped.first.long))
 
-      pub seek_inside : (from ≤ past) × (past ≤ length text) × (at < past)
-      seek_inside = (omega (arith, stepped.first.long), stepped.first.high, omega (arith, stepped.first.low, stepped.first.long))
+    told : any_atom (λ a. too_large a.terms) (atoms stepped.reading)
+        ≡ (large_code (kind_code taken.word) (take (taken.past - taken.from) (drop taken.from text)) || large_in (events (mode_after s.mode stepped.w) stepped.ws))
+    told =
+        stepped.left ∙ large_step s.mode stepped.w stepped.ws (events (mode_after s.mode stepped.w) stepped.ws)
+        ∙ ap (λ (b : Bool). b || large_in (events (mode_after s.mode stepped.w) stepped.ws))
+        (same_code (code_of stepped.w) (kind_code taken.word) (bytes_of stepped.w) (take (taken.past - taken.from) (drop taken.from text)) (sym stepped.first.code_is) (sym stepped.first.bytes_are))
 
-      told : any_atom (λ a. too_large a.terms) (atoms stepped.reading)
-          ≡ (large_code word (take (past - from) (drop from text)) || large_in (events (mode_after s.mode stepped.w) stepped.ws))
-      told =
-          stepped.left ∙ large_step s.mode stepped.w stepped.ws (events (mode_after s.mode stepped.w) stepped.ws)
-          ∙ ap (λ (b : Bool). b || large_in (events (mode_after s.mode stepped.w) stepped.ws))
-          (same_code (code_of stepped.w) word (bytes_of stepped.w) (take (past - from) (drop from text)) (sym stepped.first.code_is) (sym stepped.first.bytes_are))
+    pub seek_found : (r : Bool) → r ≡ large_code (kind_code taken.word) (take (taken.past - taken.from) (drop taken.from text)) → r ≡ true → ToldLarge text true
+    seek_found r l z =
+        of_all text stepped.reading true (λ f. any_atom (λ a. too_large a.terms) (atoms f)) stepped.is
+        (sym (told ∙ rw (← l, z)))
 
-      pub seek_found : (r : Bool) → r ≡ large_code word (take (past - from) (drop from text)) → r ≡ true → ToldLarge text true
-      seek_found r l z =
-          of_all text stepped.reading true (λ f. any_atom (λ a. too_large a.terms) (atoms f)) stepped.is
-          (sym (told ∙ rw (← l, z)))
-
-      pub seek_more : (r : Bool) → r ≡ large_code word (take (past - from) (drop from text)) → r ≡ false → Seeking text past
-      seek_more r l z = record {
-        mode = mode_after s.mode stepped.w;
-        pass = pass_on Large Large text at s.mode word from past (mode_after s.mode stepped.w) stepped refl ((told ∙ rw (← l, z)));
-      }
+    pub seek_more : (r : Bool) → r ≡ large_code (kind_code taken.word) (take (taken.past - taken.from) (drop taken.from text)) → r ≡ false → Seeking text taken.past
+    seek_more r l z = record {
+      mode = mode_after s.mode stepped.w;
+      pass = pass_on Large Large text at s.mode (kind_code taken.word) taken.from taken.past (mode_after s.mode stepped.w) stepped refl ((told ∙ rw (← l, z)));
+    }

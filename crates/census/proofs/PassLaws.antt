@@ -5,13 +5,13 @@ use mathlib.Core.Path.{◌≡◌, refl, ap, ◌∙◌}
 use mathlib.Core.Bool.{Bool, false}
 use mathlib.Core.List.{List, [], ◌∷◌, ◌++◌}
 use lib.ListN.{length, drop}
-use lib.Seq.{drop-length}
 use Rattle.text.specs.Words.{Word, wordy, Spelled}
 use Rattle.text.specs.Grammar.{Reading, words, RuleText, HasReading}
 use Rattle.text.proofs.RuleTexts.{unique}
 use Rattle.spelling.specs.Codes.{mode_after, Spells, First, Next}
-use Rattle.spelling.proofs.KindLaws.{code_lt}
-use Rattle.spelling.proofs.NextLaws.{no_words}
+use Rattle.std.specs.Prelude.{Some, None}
+use Rattle.spelling.specs.declared.words.Taken.{Taken}
+use Rattle.spelling.specs.Kinds.{kind_code}
 use Rattle.census.specs.Folds.{Event, event_of, events, events_of, Lexed}
 use Rattle.census.proofs.EventLaws.{all_events}
 
@@ -33,12 +33,6 @@ pub record Stepped (X : Reading → List Event → Type 0) (text : List ℕ) (at
   pub first : First text at w ws word from past
   pub left : X reading (event_of mode w ws ++ events (mode_after mode w) ws)
 
--- where the text spells no more words
-pub nothing_left : (text : List ℕ) (at : ℕ) (ws : List Word) → Spells ws (drop at text) → at ≤ length text → length text ≤ at → ws ≡ []
-nothing_left text at ws s i l =
-    let e : at ≡ length text = omega arith in
-    no_words s.spelled (rw e (drop-length text))
-
 module _ (X : Reading → List Event → Type 0) (text : List ℕ) where
   pub pass_begins : (h : HasReading text) → X h.reading (events_of h.reading) → Passing X text 0 0
   pass_begins h x = record {
@@ -55,30 +49,23 @@ module _ (X : Reading → List Event → Type 0) (text : List ℕ) where
     unfolding events
     none_tells e = rw e at p.left
 
-    -- the text is at its end
-    pub pass_over : length text ≤ at → X p.reading []
-    pass_over l = none_tells (nothing_left text at p.left_words p.spells p.inside l)
+    -- no word is left
+    pub pass_ends : ((v : Bool) (ws : List Word) → Spelled v ws (drop at text) → Next text at ws None) → X p.reading []
+    pass_ends n = none_tells (no_more p.left_words (n p.spells.after p.left_words p.spells.spelled))
+      where
+        no_more : (ws : List Word) → Next text at ws None → ws ≡ []
+        no_more [] k = refl
+        no_more (w ∷ ws) k = absurd k
 
-    module _ (word from past : ℕ) (n : (v : Bool) (ws : List Word) → Spelled v ws (drop at text) → Next text at ws word from past) where
-      next : Next text at p.left_words word from past
-      next = n p.spells.after p.left_words p.spells.spelled
-
-      no_more : (ws : List Word) → Next text at ws word from past → word ≡ 18 → ws ≡ []
-      no_more [] k e = refl
-      no_more (w ∷ ws) k e = absurd (omega (arith, k.code_is, code_lt w))
-
-      -- no word is left
-      pub pass_ends : word ≡ 18 → X p.reading []
-      pass_ends e = none_tells (no_more p.left_words next e)
-
-      by : (ws : List Word) → p.left_words ≡ ws → Next text at ws word from past → (word ≡ 18 → ⊥) → Stepped X text at mode word from past
+    module _ (taken : Taken) (n : (v : Bool) (ws : List Word) → Spelled v ws (drop at text) → Next text at ws (Some taken)) where
+      by : (ws : List Word) → p.left_words ≡ ws → Next text at ws (Some taken) → Stepped X text at mode (kind_code taken.word) taken.from taken.past
       unfolding events
-      by [] z k e = absurd (e k)
-      by (w ∷ ws) z k e = record { reading = p.reading; is = p.is; w = w; ws = ws; first = k; left = rw z at p.left }
+      by [] z k = absurd k
+      by (w ∷ ws) z k = record { reading = p.reading; is = p.is; w = w; ws = ws; first = k; left = rw z at p.left }
 
       -- a word comes
-      pub pass_steps : (word ≡ 18 → ⊥) → Stepped X text at mode word from past
-      pass_steps e = by p.left_words refl next e
+      pub pass_steps : Stepped X text at mode (kind_code taken.word) taken.from taken.past
+      pass_steps = by p.left_words refl (n p.spells.after p.left_words p.spells.spelled)
 
 -- and the pass goes on
 pub pass_on : (X Y : Reading → List Event → Type 0) (text : List ℕ) (at mode word from past mode' : ℕ) (s : Stepped X text at mode word from past) → mode' ≡ mode_after mode s.w

@@ -6,13 +6,18 @@ use mathlib.Core.Path.{◌≡◌, refl, sym, ap, ◌∙◌}
 use mathlib.Core.Bool.{Bool, true, false, ◌||◌}
 use mathlib.Core.List.{List, [], ◌∷◌, ◌++◌}
 use lib.ListN.{length, take, drop, get_or, set, length-append, length-set}
-use lib.Seq.{drop-cons, drop-length, length-take-le, get_or-take, take-suc-set, get_or-set_same, get_or-set_other}
-use Rattle.trees.proofs.Tests.{not_true, lt_or_ge}
-use mathlib.Core.Logic.{◌⊎◌, inl, inr, ⊎_elim}
+use lib.Seq.{drop-cons, drop-length, length-take-le, take-suc-set, get_or-take, get_or-set_same, get_or-set_other}
+use Rattle.trees.proofs.Tests.{not_true, lt_or_ge, false_true}
+use mathlib.Core.Logic.{◌⊎◌, inl, inr}
+use Rattle.std.specs.Str.{bytes_eq}
+use Rattle.spelling.proofs.SameLaws.{equal_same}
+use Rattle.std.specs.Prelude.{Option, Some, None, is_some, IsSome}
 use Rattle.text.specs.Words.{same}
 use Rattle.text.specs.Unfold.{listed, number_in, uses_after}
 use Rattle.text.proofs.NameLaws.{number_lt}
-use Rattle.census.specs.Tables.{names_of, names_at, Table, asked_for, Noted}
+use Rattle.census.specs.declared.spans.Span.{Span}
+use Rattle.census.specs.Tables.{names_at, nowhere, Table, Found, asked_for}
+use Rattle.census.specs.Noting.{NotedIn, Noted}
 
 -- the number of a name is its place, and the count where it is not there
 pub number_listed : (ns : List (List ℕ)) (x : List ℕ) → number_in ns x < length ns → listed ns x ≡ true
@@ -27,23 +32,10 @@ number_listed (y ∷ ns) x h = go (same y x) h (number_listed ns x)
 number_unlisted : (ns : List (List ℕ)) (x : List ℕ) → length ns ≤ number_in ns x → listed ns x ≡ false
 number_unlisted ns x h = not_true (listed ns x) (λ e. omega (arith, number_lt ns x e))
 
-names_length : (text ss ls : List ℕ) → length ss ≡ length ls → length (names_of text ss ls) ≡ length ss
-unfolding names_of
-names_length text [] ls e = refl
-names_length text (s ∷ ss) [] e = absurd (omega arith)
-names_length text (s ∷ ss) (l ∷ ls) e = ap suc (names_length text ss ls (omega arith))
-
-pub table_length : (text starts lengths : List ℕ) (n : ℕ) → n ≤ length starts → n ≤ length lengths → length (names_at text starts lengths n) ≡ n
+pub table_length : (text : List ℕ) (spans : List Span) → length (names_at text spans) ≡ length spans
 unfolding names_at
-table_length text starts lengths n h k =
-    names_length text (take n starts) (take n lengths) (length-take-le n starts h ∙ sym (length-take-le n lengths k)) ∙ length-take-le n starts h
-
-names_snoc : (text ss ls : List ℕ) (s l : ℕ) → length ss ≡ length ls → names_of text (ss ++ (s ∷ [])) (ls ++ (l ∷ [])) ≡ names_of text ss ls ++ (take l (drop s text) ∷ [])
-unfolding names_of
-names_snoc text [] [] s l e = refl
-names_snoc text [] (m ∷ ls) s l e = absurd (omega arith)
-names_snoc text (r ∷ ss) [] s l e = absurd (omega arith)
-names_snoc text (r ∷ ss) (m ∷ ls) s l e = ap (λ (ns : List (List ℕ)). take m (drop r text) ∷ ns) (names_snoc text ss ls s l (omega arith))
+table_length text [] = refl
+table_length text (s ∷ ss) = ap suc (table_length text ss)
 
 found : (y : List ℕ) (ys : List (List ℕ)) (x : List ℕ) → same y x ≡ true → number_in (y ∷ ys) x ≡ 0
 unfolding number_in
@@ -53,49 +45,40 @@ unfound : (y : List ℕ) (ys : List (List ℕ)) (x : List ℕ) → same y x ≡ 
 unfolding number_in
 unfound y ys x e = rw (e, number_in)
 
-no_name : (text ls x : List ℕ) → number_in (names_of text [] ls) x ≡ 0
-unfolding names_of number_in
-no_name text ls x = refl
-
-over : (n : ℕ) (l : List ℕ) → n ≤ length l → drop n (take n l) ≡ []
-over n l h = ap (λ (k : ℕ). drop k (take n l)) (sym (length-take-le n l h)) ∙ drop-length (take n l)
+no_name : (text x : List ℕ) → number_in (names_at text []) x ≡ 0
+unfolding names_at number_in
+no_name text x = refl
 
 -- finding: the first i names are others
-pub record Finding (text starts lengths : List ℕ) (n : ℕ) (x : List ℕ) (i : ℕ) : Type 0 where
-  pub inside : i ≤ n
-  pub rest : number_in (names_at text starts lengths n) x ≡ i + number_in (names_of text (drop i (take n starts)) (drop i (take n lengths))) x
+pub record Finding (text : List ℕ) (spans : List Span) (x : List ℕ) (i : ℕ) : Type 0 where
+  pub rest : number_in (names_at text spans) x ≡ i + number_in (names_at text (drop i spans)) x
 
-module _ (text starts lengths : List ℕ) (n : ℕ) (x : List ℕ) (t : Table text starts lengths n) where
-  pub find_begins : Finding text starts lengths n x 0
-  unfolding names_at
-  find_begins = record { inside = omega arith; rest = omega arith }
+module _ (text : List ℕ) (spans : List Span) (x : List ℕ) where
+  pub find_begins : Finding text spans x 0
+  find_begins = record { rest = omega arith }
 
-  module _ (i : ℕ) (f : Finding text starts lengths n x i) where
-    here : i < n → names_of text (drop i (take n starts)) (drop i (take n lengths))
-        ≡ take (get_or lengths i 0) (drop (get_or starts i 0) text) ∷ names_of text (drop (suc i) (take n starts)) (drop (suc i) (take n lengths))
-    unfolding names_of
-    here h =
-        let a : i < length (take n starts) = omega (arith, length-take-le n starts t.here) in
-        let b : i < length (take n lengths) = omega (arith, length-take-le n lengths t.there) in
-        rw (drop-cons (take n starts) i 0 a, drop-cons (take n lengths) i 0 b, get_or-take n starts i 0 h, get_or-take n lengths i 0 h)
+  module _ (i : ℕ) (f : Finding text spans x i) where
+    module _ (h : i < length spans) (a b : ℕ) (s : a ≡ (get_or spans i nowhere).start) (l : b ≡ (get_or spans i nowhere).length) where
+      here : names_at text (drop i spans) ≡ take ((a + b) - a) (drop a text) ∷ names_at text (drop (suc i) spans)
+      unfolding names_at
+      here =
+          let n : (a + b) - a ≡ b = omega arith in
+          rw (drop-cons spans i nowhere h, n, s, l)
 
-    long : (get_or starts i 0 + get_or lengths i 0) - get_or starts i 0 ≡ get_or lengths i 0
-    long = omega arith
+      pub find_here : (r : Bool) → r ≡ bytes_eq (take ((a + b) - a) (drop a text)) x → r ≡ true → Found (names_at text spans) x (Some i)
+      find_here r q e = (
+        sym (f.rest ∙ rw (here, found _ (names_at text (drop (suc i) spans)) x (sym (equal_same _ x) ∙ sym q ∙ e)) (omega arith)),
+        omega (arith, table_length text spans),
+      )
 
-    pub find_here : i < n → same (take ((get_or starts i 0 + get_or lengths i 0) - get_or starts i 0) (drop (get_or starts i 0) text)) x ≡ true → i ≡ number_in (names_at text starts lengths n) x
-    find_here h e = sym (f.rest ∙ rw (here h, found (take (get_or lengths i 0) (drop (get_or starts i 0) text)) (names_of text (drop (suc i) (take n starts)) (drop (suc i) (take n lengths))) x (rw long at e)) (omega arith))
+      pub find_more : (r : Bool) → r ≡ bytes_eq (take ((a + b) - a) (drop a text)) x → r ≡ false → Finding text spans x (i + 1)
+      find_more r q e = record { rest = f.rest ∙ rw (here, unfound _ (names_at text (drop (suc i) spans)) x (sym (equal_same _ x) ∙ sym q ∙ e), add-one i) (omega arith) }
 
-    pub find_more : i < n → same (take ((get_or starts i 0 + get_or lengths i 0) - get_or starts i 0) (drop (get_or starts i 0) text)) x ≡ false → Finding text starts lengths n x (i + 1)
-    find_more h e = record {
-      inside = omega arith;
-      rest = f.rest ∙ rw (here h, unfound (take (get_or lengths i 0) (drop (get_or starts i 0) text)) (names_of text (drop (suc i) (take n starts)) (drop (suc i) (take n lengths))) x (rw long at e), add-one i) (omega arith);
-    }
-
-    pub find_none : n ≤ i → n ≡ number_in (names_at text starts lengths n) x
-    find_none h =
-        let e : i ≡ n = omega (arith, f.inside) in
-        let a : drop i (take n starts) ≡ [] = rw e (over n starts t.here) in
-        sym (f.rest ∙ rw (a, no_name text (drop i (take n lengths)) x) (omega arith))
+    pub find_none : length spans ≤ i → i ≤ length spans → Found (names_at text spans) x None
+    find_none k l =
+        let e : i ≡ length spans = omega arith in
+        let a : drop i spans ≡ [] = rw e (drop-length spans) in
+        f.rest ∙ rw (a, no_name text x) (omega (arith, table_length text spans))
 
 -- one name more
 uses_old : (ns : List (List ℕ)) (x : List ℕ) → listed ns x ≡ true → uses_after ns (x ∷ []) ≡ ns
@@ -106,81 +89,75 @@ uses_new : (ns : List (List ℕ)) (x : List ℕ) → listed ns x ≡ false → u
 unfolding uses_after
 uses_new ns x e = rw (e, uses_after)
 
-set_shown : (text starts lengths : List ℕ) (n from long : ℕ) → n < length starts → n < length lengths
-    → names_at text (set starts n from) (set lengths n long) (n + 1) ≡ names_at text starts lengths n ++ (take long (drop from text) ∷ [])
+names_snoc : (text : List ℕ) (ss : List Span) (s : Span) → names_at text (ss ++ (s ∷ [])) ≡ names_at text ss ++ (take s.length (drop s.start text) ∷ [])
 unfolding names_at
-set_shown text starts lengths n from long h k =
-    rw (add-one n, take-suc-set starts n from h, take-suc-set lengths n long k)
-    (names_snoc text (take n starts) (take n lengths) from long (length-take-le n starts (omega arith) ∙ sym (length-take-le n lengths (omega arith))))
+names_snoc text [] s = refl
+names_snoc text (r ∷ ss) s = ap (λ (ns : List (List ℕ)). take r.length (drop r.start text) ∷ ns) (names_snoc text ss s)
 
-module _ (text starts lengths : List ℕ) (n : ℕ) (t : Table text starts lengths n) where
-  count : length (names_at text starts lengths n) ≡ n
-  count = table_length text starts lengths n t.here t.there
-
-  pub note_unasked : (asked : Bool) (x : List ℕ) → asked ≡ false → Noted text starts lengths n (asked_for asked x) starts lengths n
+module _ (text : List ℕ) (spans : List Span) (n : ℕ) (room : n ≤ length spans) (t : Table text (take n spans)) where
+  pub note_unasked : (asked : Bool) (x : List ℕ) → asked ≡ false → NotedIn text spans n (asked_for asked x) spans n
   unfolding asked_for uses_after
-  note_unasked asked x e = record {
-    same_starts = refl;
-    same_lengths = refl;
-    near = omega arith;
-    table = λ h. t;
-    names = λ h. rw e;
-    full = λ h. absurd (omega (arith, t.here));
-  }
+  note_unasked asked x e = record { same = refl; near = omega arith; room = room; table = t; names = rw e }
 
-  module _ (asked : Bool) (x : List ℕ) (e : asked ≡ true) (i : ℕ) (f : i ≡ number_in (names_at text starts lengths n) x) where
+  module _ (asked : Bool) (x : List ℕ) (e : asked ≡ true) where
     asked_one : asked_for asked x ≡ x ∷ []
     unfolding asked_for
     asked_one = rw e
 
-    pub note_old : i < n → Noted text starts lengths n (asked_for asked x) starts lengths n
-    note_old h = record {
-      same_starts = refl;
-      same_lengths = refl;
+    pub note_old : (o : Option ℕ) → Found (names_at text (take n spans)) x o → is_some o ≡ true → NotedIn text spans n (asked_for asked x) spans n
+    note_old None f h = absurd (false_true refl h)
+    note_old (Some i) f h = record {
+      same = refl;
       near = omega arith;
-      table = λ k. t;
-      names = λ k. rw asked_one (sym (uses_old (names_at text starts lengths n) x (number_listed (names_at text starts lengths n) x (omega (arith, count)))));
-      full = λ k. absurd (omega (arith, t.here));
+      room = room;
+      table = t;
+      names = rw asked_one (sym (uses_old (names_at text (take n spans)) x (number_listed (names_at text (take n spans)) x (omega (arith, f.0, f.1)))));
     }
 
-    module _ (h : n ≤ i) where
-      new : uses_after (names_at text starts lengths n) (asked_for asked x) ≡ names_at text starts lengths n ++ (x ∷ [])
-      new = rw asked_one (uses_new (names_at text starts lengths n) x (number_unlisted (names_at text starts lengths n) x (omega (arith, count))))
+    module _ (o : Option ℕ) (f : Found (names_at text (take n spans)) x o) (h : is_some o ≡ false) where
+      unlisted : (o : Option ℕ) → Found (names_at text (take n spans)) x o → is_some o ≡ false → listed (names_at text (take n spans)) x ≡ false
+      unlisted None f h = number_unlisted (names_at text (take n spans)) x (omega (arith, f))
+      unlisted (Some i) f h = absurd (false_true h refl)
 
-      pub note_full : n ≡ length starts → Noted text starts lengths n (asked_for asked x) starts lengths (n + 1)
-      note_full z = record {
-        same_starts = refl;
-        same_lengths = refl;
-        near = omega arith;
-        table = λ k. absurd (omega arith);
-        names = λ k. absurd (omega arith);
-        full = λ k. rw (new, length-append (names_at text starts lengths n) (x ∷ []), count) (omega arith);
-      }
+      new : uses_after (names_at text (take n spans)) (asked_for asked x) ≡ names_at text (take n spans) ++ (x ∷ [])
+      new = rw asked_one (uses_new (names_at text (take n spans)) x (unlisted o f h))
 
-      pub note_new : (from long : ℕ) → (n ≡ length starts → ⊥) → length starts ≡ length lengths → x ≡ take long (drop from text) → from + long ≤ length text
-          → Noted text starts lengths n (asked_for asked x) (set starts n from) (set lengths n long) (n + 1)
-      note_new from long z w y b = record {
-        same_starts = length-set starts n from;
-        same_lengths = length-set lengths n long;
+      pub note_full : length spans ≤ n → Noted text spans n (asked_for asked x) spans None
+      note_full z = (
+        omega arith,
+        refl,
+        rw (new, length-append (names_at text (take n spans)) (x ∷ []), table_length text (take n spans), length-take-le n spans room) (omega arith),
+      )
+
+      pub note_new : (from long : ℕ) → n < length spans → x ≡ take long (drop from text) → from + long ≤ length text
+          → NotedIn text spans n (asked_for asked x) (set spans n (record { start = from; length = long })) (n + 1)
+      note_new from long z y b = record {
+        same = length-set spans n (record { start = from; length = long });
         near = omega arith;
-        table = λ k. record {
-          here = rw (length-set starts n from) (omega (arith, t.here));
-          there = rw (length-set lengths n long) (omega (arith, t.there));
-          inside = λ j q. places j q (lt_or_ge j n);
-        };
-        names = λ k. rw new (shown ∙ ap (λ (l : List ℕ). names_at text starts lengths n ++ (l ∷ [])) (sym y));
-        full = λ k. absurd (omega (arith, t.here, room));
+        room = rw (length-set spans n (record { start = from; length = long })) (omega arith);
+        table = record { inside = λ j q. places j (omega (arith, q, length-take-le (n + 1) (set spans n (record { start = from; length = long })) (rw (length-set spans n (record { start = from; length = long })) (omega arith)))) (lt_or_ge j n) };
+        names = rw (new, shown, y);
       }
         where
-          room : n < length starts
-          room = ⊎_elim (λ q. q) (λ q. absurd (z (omega (arith, t.here)))) (lt_or_ge n (length starts))
+          one : Span
+          one = record { start = from; length = long }
 
-          shown : names_at text (set starts n from) (set lengths n long) (n + 1) ≡ names_at text starts lengths n ++ (take long (drop from text) ∷ [])
-          shown = set_shown text starts lengths n from long room (omega (arith, room))
-
-          places : (j : ℕ) → j < n + 1 → (j < n) ⊎ (n ≤ j) → get_or (set starts n from) j 0 + get_or (set lengths n long) j 0 ≤ length text
+          places : (j : ℕ) → j < n + 1 → (j < n) ⊎ (n ≤ j)
+              → (get_or (take (n + 1) (set spans n one)) j nowhere).start + (get_or (take (n + 1) (set spans n one)) j nowhere).length ≤ length text
           places j q (inl h) =
-              rw (get_or-set_other starts n j from 0 (λ u. omega arith), get_or-set_other lengths n j long 0 (λ u. omega arith)) (t.inside j h)
+              let w : (get_or (take n spans) j nowhere).start + (get_or (take n spans) j nowhere).length ≤ length text = t.inside j (omega (arith, length-take-le n spans room)) in
+              rw (get_or-take (n + 1) (set spans n one) j nowhere q, get_or-set_other spans n j one nowhere (λ u. omega arith)) (rw (get_or-take n spans j nowhere h) at w)
           places j q (inr h) =
               let u : j ≡ n = omega arith in
-              rw (u, get_or-set_same starts n from 0 room, get_or-set_same lengths n long 0 (omega (arith, room))) b
+              rw (get_or-take (n + 1) (set spans n one) j nowhere q, u, get_or-set_same spans n one nowhere z) b
+
+          shown : names_at text (take (n + 1) (set spans n (record { start = from; length = long }))) ≡ names_at text (take n spans) ++ (take long (drop from text) ∷ [])
+          shown = rw (add-one n, take-suc-set spans n (record { start = from; length = long }) z) (names_snoc text (take n spans) (record { start = from; length = long }))
+
+-- a name that is there is found
+pub find_lists : (ns : List (List ℕ)) (x : List ℕ) (o : Option ℕ) → Found ns x o → number_in ns x < length ns → IsSome o
+find_lists ns x None f h = absurd (omega (arith, f))
+find_lists ns x (Some i) f h = refl
+
+pub find_number : (ns : List (List ℕ)) (x : List ℕ) (o : Option ℕ) (i : ℕ) → Found ns x o → o ≡ Some i → (i ≡ number_in ns x) × (i < length ns)
+find_number ns x o i f e = rw e at f

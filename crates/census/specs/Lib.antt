@@ -2,5 +2,6 @@
 pub mod Folds
 pub mod Told
 pub mod Tables
+pub mod Noting
 pub mod Clashes
 pub mod Scopes

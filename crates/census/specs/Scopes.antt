@@ -1,11 +1,12 @@
 -- Free variables by events: for each name the depth at which it is bound, counted from 1, and 0 where it is not. Assumes nothing: these are definitions.
-use Rattle.std.specs.Prelude.{ℕ, suc, ◌+◌, ◌-◌, ◌≤◌, ◌<◌, ◌≡◌, Bool, true, false, ◌||◌, List, [], ◌∷◌, ◌++◌, eqb, ltb, length, get_or}
+use Rattle.std.specs.Prelude.{ℕ, suc, ◌+◌, ◌-◌, ◌≤◌, ◌<◌, ◌≡◌, Bool, true, false, ◌||◌, List, [], ◌∷◌, ◌++◌, eqb, ltb, length, get_or, Option, Some, None}
 use Rattle.text.specs.Words.{same}
 use Rattle.text.specs.Grammar.{Reading, RuleText}
 use Rattle.text.specs.Unfold.{number_in, variable_names}
 use Rattle.text.specs.Scope.{loose}
 use Rattle.census.specs.Folds.{Event, call, uses, value, binds, opens, closes}
-use Rattle.census.specs.Tables.{Table, names_at}
+use Rattle.census.specs.declared.spans.Span.{Span}
+use Rattle.census.specs.Tables.{names_at}
 
 -- a binding once the depth is d
 unfoldable pub lowered : ℕ → ℕ → ℕ
@@ -72,11 +73,15 @@ pub record Enters (names : List (List ℕ)) (now : List Event) (since since' : L
   pub sized : length since ≡ 4 → length since' ≡ 4
   pub after : (env : List ℕ → ℕ) → length since ≡ 4 → Distinct names → Scoped names since env → After names now since' d d' r env
 
+-- an event comes, and a depth is left, or none after a variable that is not bound
+abbrev pub EntersTo : List (List ℕ) → List Event → List ℕ → List ℕ → ℕ → Option ℕ → Type 0
+EntersTo names now since since' d None = Enters names now since since' d d true
+EntersTo names now since since' d (Some d') = Enters names now since since' d d' false
+
 -- the table has the names of variables
-pub record Variables (text starts lengths : List ℕ) (n : ℕ) : Type 0 where
-  pub few : n ≤ 4
-  pub table : Table text starts lengths n
-  pub names : (f : Reading) → RuleText text f → names_at text starts lengths n ≡ variable_names f
+pub record Variables (text : List ℕ) (spans : List Span) : Type 0 where
+  pub few : length spans ≤ 4
+  pub names : (f : Reading) → RuleText text f → names_at text spans ≡ variable_names f
 
 -- refusal 8
 abbrev pub ToldLoose : List ℕ → Bool → Type 0

@@ -1,20 +1,19 @@
 // Refusal 4: a constant over 2^32 − 1.
-ghost use Rattle.std.specs.Prelude.{◌≡◌, ◌≤◌, ◌-◌, length, take, drop};
+ghost use Rattle.std.specs.Prelude.{◌≡◌, ◌-◌, ◌≤◌, length, take, drop};
 ghost use Rattle.text.specs.Grammar.{HasReading};
-ghost use Rattle.census.specs.Told.{large_code};
-ghost use Rattle.census.specs.Told.{ToldLarge};
+ghost use Rattle.spelling.specs.Kinds.{kind_code};
+ghost use Rattle.census.specs.Told.{large_code, ToldLarge};
 
-use spelling::words::{next_word, value_of};
+use spelling::kinds::Kind;
+use spelling::words::{Taken, next_word, value_of};
 
 // Whether a word is such a constant.
-fn is_large(text: &[u8], word: u8, from: usize, past: usize) -> bool
-    requires { (from ≤ past) × (past ≤ length text.now) }
-    ensures { result ≡ large_code word (take (past - from) (drop from text.now)) }
+#[tactic(auto, using(spelling::proofs::Each::kind_equal, crate::proofs::LargeLaws::large_value), unfolding(crate::specs::Told::large_code))]
+fn is_large(text: &[u8], w: Taken) -> bool
+    requires { (w.from ≤ w.past) × (w.past ≤ length text.now) }
+    ensures { result ≡ large_code (kind_code w.word) (take (w.past - w.from) (drop w.from text.now)) }
 {
-    if word != 1 {
-        return false;
-    }
-    4294967295 < value_of(&text[from..past])
+    w.word == Kind::Constant && u64::from(u32::MAX) < value_of(&text[w.from..w.past])
 }
 
 // Whether some constant is.
@@ -23,12 +22,8 @@ pub fn too_large(text: &[u8]) -> bool
     ensures { ToldLarge text.now result }
 {
     let mut at = 0;
-    while at < text.len() {
-        let w = next_word(text, at);
-        if w.word == 18 {
-            return false;
-        }
-        if is_large(text, w.word, w.from, w.past) {
+    while let Some(w) = next_word(text, at) {
+        if is_large(text, w) {
             return true;
         }
         at = w.past;

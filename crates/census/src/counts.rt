@@ -1,64 +1,51 @@
 // Refusal 7: one name with two counts.
-ghost use Rattle.std.specs.Prelude.{true, ◌≡◌, ◌+◌, ◌-◌, ◌≤◌, ◌<◌, length, take, drop};
+ghost use Rattle.std.specs.Prelude.{true, ◌≡◌, ◌-◌, ◌≤◌, ◌<◌, length, take, drop};
 ghost use Rattle.text.specs.Grammar.{HasReading};
 ghost use Rattle.text.specs.Unfold.{number_in};
+ghost use Rattle.spelling.specs.Kinds.{kind_code};
+ghost use Rattle.spelling.specs.Modes.{mode_code};
 ghost use Rattle.census.specs.Folds.{Lexed};
-ghost use Rattle.census.specs.Tables.{Table, names_at, Within};
+ghost use Rattle.census.specs.Tables.{names_at, Within, name_code};
 ghost use Rattle.census.specs.Clashes.{Settled, Predicates, ToldClash};
 
 use crate::calls::count_arguments;
-use crate::names::{find, is_name};
-use spelling::modes::next_mode;
-use spelling::words::next_word;
+use crate::names::{Wanted, is_name};
+use crate::spans::Names;
+use spelling::modes::{Mode, next_mode};
+use spelling::words::{Taken, next_word};
 
-// A count that no name has.
-const NONE: u16 = 65535;
-
-// The count of a name's arguments, where one is asked for, is noted, or is compared with what was noted: whether they differ.
-fn settle(
-    text: &[u8],
-    starts: &[u16],
-    lengths: &[u16],
-    n: usize,
-    counts: &mut [u16; 4096],
-    asked: bool,
-    from: usize,
-    past: usize,
-) -> bool
-    requires table { Table text.now starts.now lengths.now n × Within text.now from past × Lexed text.now past }
-    requires text_len_bound { (length text.now ≤ 4096) × (n ≤ 4096) }
-    requires text_bound { asked ≡ true → number_in (names_at text.now starts.now lengths.now n) (take (past - from) (drop from text.now)) < n }
-    ensures { Settled text.now (names_at text.now starts.now lengths.now n) asked from past counts.old counts.new result }
+// A word comes: where it is a predicate's name, the count of its arguments is noted, or compared with what was noted. Whether they differ.
+fn settle(names: Names, counts: &mut [Option<u16>; 4096], mode: Mode, w: Taken) -> bool
+    requires within { Within names.text.now w.from w.past × Lexed names.text.now w.past }
+    requires bounds { (length names.text.now ≤ 4096) × (length names.spans.now ≤ 4096) }
+    requires listed { name_code true (mode_code mode) (kind_code w.word) ≡ true → number_in (names_at names.text.now names.spans.now) (take (w.past - w.from) (drop w.from names.text.now)) < length names.spans.now }
+    ensures { Settled names.entry.text.now (names_at names.entry.text.now names.entry.spans.now) (name_code true (mode_code mode) (kind_code w.word)) w.from w.past counts.old counts.new result }
 {
-    if !asked {
+    if !is_name(Wanted::Predicates, mode, w.word) {
         return false;
     }
-    let m = count_arguments(text, past) as u16;
-    let i = find(text, starts, lengths, n, from, past);
-    let old = counts[i];
-    if old == NONE {
-        counts[i] = m;
-        return false;
+    let i = names.find(&names.text[w.from..w.past]).unwrap();
+    let count = count_arguments(names.text, w.past) as u16;
+    match counts[i] {
+        Some(noted) => noted != count,
+        None => {
+            counts[i] = Some(count);
+            false
+        }
     }
-    old != m
 }
 
 // Whether some name has two counts, the names of predicates being known.
-pub fn clashes(text: &[u8], starts: &[u16], lengths: &[u16], n: usize) -> bool
-    requires has_reading { HasReading text.now × (length text.now ≤ 4096) }
-    requires predicates { Predicates text.now starts.now lengths.now n }
-    ensures { ToldClash text.now result }
+pub fn clashes(names: Names) -> bool
+    requires has_reading { HasReading names.text.now × (length names.text.now ≤ 4096) }
+    requires predicates { Predicates names.text.now names.spans.now }
+    ensures { ToldClash names.entry.text.now result }
 {
-    let mut counts = [NONE; 4096];
-    let mut mode = 0;
+    let mut counts = [None; 4096];
+    let mut mode = Mode::Operand;
     let mut at = 0;
-    while at < text.len() {
-        let w = next_word(text, at);
-        if w.word == 18 {
-            return false;
-        }
-        let asked = is_name(true, mode, w.word);
-        if settle(text, starts, lengths, n, &mut counts, asked, w.from, w.past) {
+    while let Some(w) = next_word(names.text, at) {
+        if settle(names, &mut counts, mode, w) {
             return true;
         }
         mode = next_mode(mode, w.word);

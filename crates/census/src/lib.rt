@@ -7,3 +7,4 @@ pub mod constants;
 pub mod counts;
 pub mod names;
 pub mod scopes;
+pub mod spans;

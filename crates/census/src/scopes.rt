@@ -1,23 +1,20 @@
 // Refusal 8: a free variable. For each variable the depth of parentheses at which it is bound is kept, counted from 1, and 0 where it is
 // not: a quantifier reaches to the parenthesis that closes around it, or to the end.
-ghost use Rattle.std.specs.Prelude.{◌≡◌, true, false, ◌+◌, ◌-◌, ◌≤◌, ◌<◌, length, take, drop};
+ghost use Rattle.std.specs.Prelude.{◌≡◌, true, false, ◌-◌, ◌≤◌, ◌<◌, length, take, drop};
 ghost use Rattle.text.specs.Grammar.{HasReading};
 ghost use Rattle.text.specs.Unfold.{number_in};
-ghost use Rattle.census.specs.Tables.{Table, names_at, Within, name_code};
-ghost use Rattle.census.specs.Scopes.{lowered, Lowered, binding_at, scope_event, Enters, Variables, ToldLoose};
+ghost use Rattle.spelling.specs.Kinds.{kind_code};
+ghost use Rattle.spelling.specs.Modes.{mode_code};
+ghost use Rattle.census.specs.Tables.{names_at, Within, name_code};
+ghost use Rattle.census.specs.Scopes.{lowered, Lowered, binding_at, scope_event, EntersTo, Variables, ToldLoose};
 
-use crate::names::find;
-use spelling::modes::next_mode;
+use crate::spans::Names;
+use spelling::kinds::Kind;
+use spelling::modes::{Mode, next_mode};
 use spelling::words::{Taken, next_word};
 
-// The depth of parentheses, and whether a variable came that is not bound.
-#[derive(Drop)]
-struct Entered {
-    depth: usize,
-    loose: bool,
-}
-
 // What is left of a binding once the depth is that.
+#[tactic(auto, unfolding(crate::specs::Scopes::lowered))]
 fn lower(since: usize, depth: usize) -> usize
     ensures { result ≡ lowered depth since }
 {
@@ -31,121 +28,70 @@ fn lower(since: usize, depth: usize) -> usize
 fn close(since: &mut [usize; 4], depth: usize)
     ensures { Lowered depth since.old since.new }
 {
-    since[0] = lower(since[0], depth);
-    since[1] = lower(since[1], depth);
-    since[2] = lower(since[2], depth);
-    since[3] = lower(since[3], depth);
-}
-
-// One less, and 0 for 0.
-fn less(depth: usize) -> usize
-    ensures { result ≡ depth - 1 }
-{
-    if depth == 0 {
-        return 0;
+    for s in since.iter_mut() {
+        *s = lower(*s, depth);
     }
-    depth - 1
 }
 
 // A binding at the depth, unless there is one.
+#[tactic(auto, unfolding(crate::specs::Scopes::binding_at))]
 fn bind(since: usize, depth: usize) -> usize
     ensures { result ≡ binding_at depth true since }
 {
-    if since == 0 {
-        return depth;
-    }
-    since
+    if since == 0 { depth } else { since }
 }
 
-// A word comes: a parenthesis, a quantifier's variable, a variable as an argument, or something else.
-fn enter(
-    text: &[u8],
-    starts: &[u16],
-    lengths: &[u16],
-    n: usize,
-    since: &mut [usize; 4],
-    depth: usize,
-    mode: u8,
-    w: Taken,
-) -> Entered
-    requires table { Table text.now starts.now lengths.now n × Within text.now w.from w.past }
-    requires n_bound { (n ≤ 4) × (depth < 9223372036854775808) }
-    requires text_bound { name_code false mode w.word ≡ true → number_in (names_at text.now starts.now lengths.now n) (take (w.past - w.from) (drop w.from text.now)) < n }
-    ensures { Enters (names_at text.now starts.now lengths.now n) (scope_event mode w.word (take (w.past - w.from) (drop w.from text.now))) since.old since.new depth result.depth result.loose }
+// A word comes: a parenthesis, a quantifier's variable, a variable as an argument, or something else. The depth of parentheses after it, or
+// none where the variable is not bound.
+fn enter(names: Names, since: &mut [usize; 4], depth: usize, mode: Mode, w: Taken) -> Option<usize>
+    requires within { Within names.text.now w.from w.past }
+    requires bounds { (length names.spans.now ≤ 4) × (depth < 9223372036854775808) }
+    requires listed { name_code false (mode_code mode) (kind_code w.word) ≡ true → number_in (names_at names.text.now names.spans.now) (take (w.past - w.from) (drop w.from names.text.now)) < length names.spans.now }
+    ensures { EntersTo (names_at names.entry.text.now names.entry.spans.now) (scope_event (mode_code mode) (kind_code w.word) (take (w.past - w.from) (drop w.from names.entry.text.now))) since.old since.new depth result }
 {
-    let word = w.word;
-    if word == 0 {
-        if mode == 3 {
-            let v = find(text, starts, lengths, n, w.from, w.past);
-            since[v] = bind(since[v], depth);
-            return Entered {
-                depth: depth,
-                loose: false,
-            };
-        }
-        if mode == 5 {
-            let v = find(text, starts, lengths, n, w.from, w.past);
-            return Entered {
-                depth: depth,
-                loose: since[v] == 0,
-            };
-        }
-        return Entered {
-            depth: depth,
-            loose: false,
-        };
-    }
-    if word == 14 {
-        if mode == 0 {
-            return Entered {
-                depth: depth + 1,
-                loose: false,
-            };
-        }
-        return Entered {
-            depth: depth,
-            loose: false,
-        };
-    }
-    if word == 15 {
-        if mode == 6 {
-            return Entered {
-                depth: depth,
-                loose: false,
-            };
-        }
-        let outer = less(depth);
-        close(since, outer);
-        return Entered {
-            depth: outer,
-            loose: false,
-        };
-    }
-    Entered {
-        depth: depth,
-        loose: false,
+    match w.word {
+        Kind::Name => match mode {
+            Mode::Variable => {
+                let v = names.find(&names.text[w.from..w.past]).unwrap();
+                since[v] = bind(since[v], depth);
+                Some(depth)
+            }
+            Mode::Argument => {
+                let v = names.find(&names.text[w.from..w.past]).unwrap();
+                if since[v] == 0 { None } else { Some(depth) }
+            }
+            _ => Some(depth),
+        },
+        Kind::Open => match mode {
+            Mode::Operand => Some(depth + 1),
+            _ => Some(depth),
+        },
+        Kind::Close => match mode {
+            Mode::AfterArgument => Some(depth),
+            _ => {
+                let outer = depth.saturating_sub(1);
+                close(since, outer);
+                Some(outer)
+            }
+        },
+        _ => Some(depth),
     }
 }
 
 // Whether some variable is free, the names of variables being known.
-pub fn has_free(text: &[u8], starts: &[u16], lengths: &[u16], n: usize) -> bool
-    requires { HasReading text.now × Variables text.now starts.now lengths.now n }
-    ensures { ToldLoose text.now result }
+pub fn has_free(names: Names) -> bool
+    requires { HasReading names.text.now × Variables names.text.now names.spans.now }
+    ensures { ToldLoose names.entry.text.now result }
 {
-    let mut since = [0usize; 4];
+    let mut since = [0; 4];
     let mut depth = 1;
-    let mut mode = 0;
+    let mut mode = Mode::Operand;
     let mut at = 0;
-    while at < text.len() {
-        let w = next_word(text, at);
-        if w.word == 18 {
-            return false;
-        }
-        let e = enter(text, starts, lengths, n, &mut since, depth, mode, w);
-        if e.loose {
+    while let Some(w) = next_word(names.text, at) {
+        let Some(after) = enter(names, &mut since, depth, mode, w) else {
             return true;
-        }
-        depth = e.depth;
+        };
+        depth = after;
         mode = next_mode(mode, w.word);
         at = w.past;
     }

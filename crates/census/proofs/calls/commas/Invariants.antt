@@ -4,8 +4,8 @@ use lib.ListN.{length}
 use Rattle.census.proofs.CommaLaws.{Counting}
 use Rattle.census.proofs.calls.commas.Given as goal
 
-abbrev pub invariant-loop-at : goal.invariant-loop-at
-invariant-loop-at l = Counting l.text l.from l.n l.at
+abbrev pub invariant-loop-w : goal.invariant-loop-w
+invariant-loop-w l = Counting l.text l.from l.n l.at
 
-abbrev pub decreases-loop-at : goal.decreases-loop-at
-decreases-loop-at l = length l.text - l.at
+abbrev pub decreases-loop-w : goal.decreases-loop-w
+decreases-loop-w l = length l.text - l.at

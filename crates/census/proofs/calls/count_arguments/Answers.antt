@@ -1,16 +1,14 @@
 -- `calls::count_arguments` meets its contract. Assumes nothing.
-use native.Mathlib.Omega.{arith}
-use Rattle.census.proofs.CommaLaws.{arguments_no, arguments_lexed, arguments_yes}
+use Rattle.spelling.specs.declared.kinds.Kind.TheVariants.{Open}
+use Rattle.spelling.proofs.Each.{kind_met, kind_missed}
+use Rattle.census.proofs.CommaLaws.{arguments_ends, arguments_no, arguments_yes}
 use Rattle.census.proofs.calls.count_arguments.Goals as goal
 
-pub returns-then-w-ne14 : goal.returns-then-w-ne14
-returns-then-w-ne14 c = arguments_no _ _ _ _ _ c.next_word-w.ensures c.if-w-ne14.true
+pub returns-in-Some : goal.returns-in-Some
+returns-in-Some c = arguments_yes _ _ _ c.in-Some.ensures _ (kind_met c.in-Some.w.word Open _ c.eq.ensures c.if-eq.true) c.commas.ensures
 
-pub commas-requires : goal.commas-requires
-commas-requires c = arguments_lexed _ _ _ _ _ c.next_word-w.ensures c.requires c.if-w-ne14.false
+pub returns-in_default : goal.returns-in_default
+returns-in_default c = arguments_no _ _ _ c.in-Some.ensures (kind_missed c.in-Some.w.word Open _ c.eq.ensures c.if-eq.false)
 
-pub overflow_add-result : goal.overflow_add-result
-overflow_add-result c = omega (arith, c.commas.ensures.few, c.well_formed)
-
-pub returns : goal.returns
-returns c = arguments_yes _ _ _ _ _ c.next_word-w.ensures _ c.if-w-ne14.false c.commas.ensures
+pub returns-in_default-2 : goal.returns-in_default-2
+returns-in_default-2 c = arguments_ends _ _ (rw c.in_default.is at c.next_word.ensures)

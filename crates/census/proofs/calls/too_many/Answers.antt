@@ -1,30 +1,21 @@
 use native.Mathlib.Omega.{arith}
-use Rattle.census.proofs.ManyLaws.{many_begins, many_over, many_ends, many_lexed, many_grows, many_word, many_found, many_more}
+use Rattle.census.proofs.ManyLaws.{many_begins, many_ends, many_lexed, many_grows, many_found, many_more}
 use Rattle.census.proofs.calls.too_many.Goals as goal
 
-pub loop-at-init : goal.loop-at-init
-loop-at-init c = many_begins _ c.requires
-
-pub next_word-w-requires : goal.next_word-w-requires
-next_word-w-requires c = c.loop-at.invariant.pass.inside
-
-pub returns-then-w-eq18 : goal.returns-then-w-eq18
-returns-then-w-eq18 c = many_ends _ _ _ c.loop-at.invariant _ _ _ c.next_word-w.ensures c.if-w-eq18.true
+pub loop-w-init : goal.loop-w-init
+loop-w-init c = many_begins _ c.requires
 
 pub is_wide-requires : goal.is_wide-requires
-is_wide-requires c = many_lexed _ _ _ c.loop-at.invariant _ _ _ c.next_word-w.ensures c.if-w-eq18.false
+is_wide-requires c = many_lexed _ _ _ c.loop-w.invariant _ c.in-Some.ensures
 
 pub returns-then-is_wide : goal.returns-then-is_wide
-returns-then-is_wide c = many_found _ _ _ c.loop-at.invariant _ _ _ c.next_word-w.ensures c.if-w-eq18.false _ c.is_wide.ensures c.if-is_wide.true
+returns-then-is_wide c = many_found _ _ _ c.loop-w.invariant _ c.in-Some.ensures _ c.is_wide.ensures c.if-is_wide.true
 
-pub next_mode-mode-requires : goal.next_mode-mode-requires
-next_mode-mode-requires c = (c.loop-at.invariant.low, many_word _ _ _ c.loop-at.invariant _ _ _ c.next_word-w.ensures c.if-w-eq18.false)
+pub loop-w-smaller : goal.loop-w-smaller
+loop-w-smaller c = omega (arith, many_grows _ _ _ c.loop-w.invariant _ c.in-Some.ensures, (many_lexed _ _ _ c.loop-w.invariant _ c.in-Some.ensures).inside)
 
-pub loop-at-smaller : goal.loop-at-smaller
-loop-at-smaller c = omega (arith, many_grows _ _ _ c.loop-at.invariant _ _ _ c.next_word-w.ensures c.if-w-eq18.false, (many_lexed _ _ _ c.loop-at.invariant _ _ _ c.next_word-w.ensures c.if-w-eq18.false).inside)
-
-pub loop-at-preserved : goal.loop-at-preserved
-loop-at-preserved c = many_more _ _ _ c.loop-at.invariant _ _ _ c.next_word-w.ensures c.if-w-eq18.false _ _ c.is_wide.ensures c.if-is_wide.false c.next_mode-mode.ensures
+pub loop-w-preserved : goal.loop-w-preserved
+loop-w-preserved c = many_more _ _ _ c.loop-w.invariant _ c.in-Some.ensures _ _ c.is_wide.ensures c.if-is_wide.false c.next_mode-mode.ensures
 
 pub returns : goal.returns
-returns c = many_over _ _ _ c.loop-at.invariant c.loop-at-test.false
+returns c = many_ends _ _ _ c.loop-w.invariant c.in_default.ensures

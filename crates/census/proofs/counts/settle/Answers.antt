@@ -1,23 +1,33 @@
 -- `counts::settle` meets its contract. Assumes nothing.
-use Rattle.census.specs.Tables.{names_at}
 use native.Mathlib.Omega.{arith}
+use mathlib.Core.Path.{sym, ◌∙◌}
+use Rattle.census.proofs.TableLaws.{table_length, find_lists, find_number}
 use Rattle.census.proofs.SettleLaws.{settled_no, settled_new, settled_old}
 use Rattle.census.proofs.counts.settle.Goals as goal
 
-pub returns-then-not-asked : goal.returns-then-not-asked
-returns-then-not-asked c = settled_no c.args.text.now (names_at c.args.text.now c.args.starts.now c.args.lengths.now c.args.n) c.args.asked c.args.from c.args.past c.args.counts.now c.if-not-asked.true
+pub returns-then-not-is_name : goal.returns-then-not-is_name
+returns-then-not-is_name c = settled_no _ _ _ _ _ _ (sym c.is_name.ensures ∙ c.if-not-is_name.true)
 
-pub overflow_cast-m : goal.overflow_cast-m
-overflow_cast-m c = omega (arith, c.count_arguments-m.ensures.few, c.requires.text_len_bound.0)
+pub unwrap-i-requires : goal.unwrap-i-requires
+unwrap-i-requires c = find_lists _ _ _ c.find.ensures (omega (arith, c.requires.listed (sym c.is_name.ensures ∙ c.if-not-is_name.false), table_length c.args.names.text.now c.args.names.spans.now))
 
-pub bounds-counts-i : goal.bounds-counts-i
-bounds-counts-i c = omega (arith, c.requires.text_bound c.if-not-asked.false, c.find-i.ensures.value, c.requires.text_len_bound.1)
+pub overflow_cast-count : goal.overflow_cast-count
+overflow_cast-count c = omega (arith, c.count_arguments-count.ensures.few, c.requires.bounds.0)
 
-pub bounds-counts-i-then-old : goal.bounds-counts-i-then-old
-bounds-counts-i-then-old c = omega (arith, c.requires.text_bound c.if-not-asked.false, c.find-i.ensures.value, c.requires.text_len_bound.1)
+pub offset_bounds-counts-i : goal.offset_bounds-counts-i
+offset_bounds-counts-i c = omega (arith, find_number _ _ _ _ c.find.ensures c.unwrap-i.ensures, table_length c.args.names.text.now c.args.names.spans.now, c.requires.bounds.1)
 
-pub returns-then-old : goal.returns-then-old
-returns-then-old c = settled_new c.args.text.now (names_at c.args.text.now c.args.starts.now c.args.lengths.now c.args.n) c.args.asked c.args.from c.args.past c.args.counts.now c.if-not-asked.false _ _ c.requires.text_len_bound.0 c.count_arguments-m.ensures c.find-i.ensures.value c.if-old.true
+pub bounds : goal.bounds
+bounds c = omega (arith, find_number _ _ _ _ c.find.ensures c.unwrap-i.ensures, table_length c.args.names.text.now c.args.names.spans.now, c.requires.bounds.1)
 
-pub returns : goal.returns
-returns c = settled_old c.args.text.now (names_at c.args.text.now c.args.starts.now c.args.lengths.now c.args.n) c.args.asked c.args.from c.args.past c.args.counts.now c.if-not-asked.false _ _ c.requires.text_len_bound.0 c.count_arguments-m.ensures c.find-i.ensures.value c.if-old.false
+pub offset_bounds-counts-i-in-None : goal.offset_bounds-counts-i-in-None
+offset_bounds-counts-i-in-None c = omega (arith, find_number _ _ _ _ c.find.ensures c.unwrap-i.ensures, table_length c.args.names.text.now c.args.names.spans.now, c.requires.bounds.1)
+
+pub bounds-counts-i-in-None : goal.bounds-counts-i-in-None
+bounds-counts-i-in-None c = omega (arith, find_number _ _ _ _ c.find.ensures c.unwrap-i.ensures, table_length c.args.names.text.now c.args.names.spans.now, c.requires.bounds.1)
+
+pub returns-in-Some : goal.returns-in-Some
+returns-in-Some c = settled_old _ _ _ _ _ _ (sym c.is_name.ensures ∙ c.if-not-is_name.false) _ _ c.count_arguments-count.ensures (find_number _ _ _ _ c.find.ensures c.unwrap-i.ensures).0 _ c.in-Some.is
+
+pub returns-in-None : goal.returns-in-None
+returns-in-None c = settled_new _ _ _ _ _ _ (sym c.is_name.ensures ∙ c.if-not-is_name.false) _ _ c.count_arguments-count.ensures (find_number _ _ _ _ c.find.ensures c.unwrap-i.ensures).0 c.in-None.is
