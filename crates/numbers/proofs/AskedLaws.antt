@@ -3,7 +3,7 @@ use Prim.Native.Nat.{ℕ, zero, suc, ◌+◌, ◌-◌, ◌*◌, ◌/◌, ◌%◌
 use mathlib.Core.Path.{◌≡◌, refl, ap, sym, ◌∙◌}
 use mathlib.Core.Bool.{true}
 use mathlib.Core.List.{List, [], ◌∷◌, map}
-use mathlib.Core.Logic.{⊎_elim}
+use mathlib.Core.Logic.{◌⊎◌, inl, inr, ⊎_elim}
 use native.Mathlib.Omega.{arith}
 use lib.Dec.{leb}
 use lib.ListN.{length, get_or, take, drop, length-map, length-take, get_or-map}
@@ -19,10 +19,11 @@ use Rattle.meaning.specs.Numbering.{Lists, place, ask_facts}
 use Rattle.meaning.specs.Tables.{most, list_of, list_right}
 use Rattle.meaning.specs.Outcome.{fact_of, given, facts_of, all_agree, fact_right, all_right, count_right}
 use Rattle.numbers.specs.declared.Asked.{Asked}
-use Rattle.numbers.specs.Asking.{with_counts, bare, with_fresh, Listing, AsksFor, fact_at, number_at, lists_before, lists_after, Askable, Asks, part_of}
+use Rattle.std.specs.Prelude.{Option, Some, None}
+use Rattle.making.specs.declared.Number.{Number}
+use Rattle.numbers.specs.Asking.{with_counts, bare, numbered, with_fresh, Listing, AsksFor, fact_at, number_at, lists_before, lists_after, Parted, Askable, Asks, part_of}
 use Rattle.numbers.proofs.PlaceLaws.{number_place}
-use Rattle.numbers.proofs.TallyLaws.{same_or_not}
-use Rattle.numbers.proofs.StartLaws.{lists_parts}
+use Rattle.numbers.proofs.StartLaws.{lists_parts, most_le}
 use Rattle.numbers.proofs.FactsLaws.{place_low, after, Going}
 
 -- an event that passed refusal 5 has at most eight facts, each of at most three values
@@ -70,17 +71,25 @@ facts_few : (e : Event) → length (facts_of e) ≤ e.count
 unfolding facts_of given
 facts_few e = rw (length-map (take e.count e.facts) fact_of, length-take e.count e.facts) (omega arith)
 
+-- the parts of the value slice
+pub parted : (k : ℕ) (before values rows : List ℕ) (e : Event) → Askable k before values rows e → {m : ℕ} → m ≡ most k → Parted m before values
+parted k before values rows e p is = record {
+  small = rw is (most_le k p.bits);
+  counts_fit = λ v h. rw is (p.counts v h);
+  whole = rw is p.parts;
+}
+
 -- what all facts have asked is what is promised
-asks_lists : (k : ℕ) (before values rows : List ℕ) (e : Event) (a : Asked) (fresh : List ℕ) → e.count ≤ 8 → bare a.fresh ≡ fresh
-    → Going before (lists_before k before values) rows e e.count a.counts fresh a.given → Asks k before values rows e a
-asks_lists k before values rows e a fresh h same g = record {
-  listing = rw (same, ← whole) g.listing;
+asks_lists : (k : ℕ) (before values rows : List ℕ) (e : Event) (a : Asked) → e.count ≤ 8
+    → Going before (lists_before k before values) rows e e.count a.counts a.fresh a.given → Asks k before values rows e a
+asks_lists k before values rows e a h g = record {
+  listing = rw (← whole) g.listing;
   few = λ v q. omega (arith, g.few v q);
   asked = λ f v j l q x. (
     place_low (fact_at e f) rows x.0 v j x.2,
     let n = g.asked f v j l q x in
         let r = g.real f v j l q x in
-        n ∙ (number_place (now v) (get_or (fact_at e f).values j 0) (λ z. r (n ∙ z)) ∙ ap (λ (L : Lists). place (L v) (get_or (fact_at e f).values j 0)) whole),
+        n ∙ (number_place (now v) (get_or (fact_at e f).values j 0) (λ z. r (n ∙ z)) ∙ ap (λ (L : Lists). numbered (place (L v) (get_or (fact_at e f).values j 0))) whole),
   );
   only = g.only;
 }
@@ -91,15 +100,15 @@ asks_lists k before values rows e a fresh h same g = record {
     whole : now ≡ lists_after k before values rows e
     whole = rw (take_all e.count (facts_of e) (facts_few e))
 
-pub asks_all : (k m : ℕ) (before values rows : List ℕ) (e : Event) (a : Asked) (fresh : List ℕ) (f : ℕ) → Askable k before values rows e → m ≡ most k → length before ≡ 4 → f ≡ e.count
-    → bare a.fresh ≡ fresh → Going before (part_of m before values) rows e f a.counts fresh a.given → Asks k before values rows e a
-asks_all k m before values rows e a fresh f p is four all same g =
-    asks_lists k before values rows e a fresh (eight e (rule_of rows) p.agreed) same (rw (lists_parts k before values four p.counts, ← is) (rw all at g))
+pub asks_all : (k m : ℕ) (before values rows : List ℕ) (e : Event) (a : Asked) (f : ℕ) → Askable k before values rows e → m ≡ most k → length before ≡ 4 → f ≡ e.count
+    → Going before (part_of m before values) rows e f a.counts a.fresh a.given → Asks k before values rows e a
+asks_all k m before values rows e a f p is four all g =
+    asks_lists k before values rows e a (eight e (rule_of rows) p.agreed) (rw (lists_parts k before values four p.counts, ← is) (rw all at g))
 
 -- "at the place 12 * f + (3 * v + j)": the number that a matching atom asks for is the value's place in the lists after the event
 pub numbers_right : (k : ℕ) (before values rows : List ℕ) (e : Event) (a : Asked) → Asks k before values rows e a
     → (f i v j : ℕ) → f < e.count → i < count_of_rows rows → v < 4 → AsksFor (fact_at e f) (row_at rows i) v j
-    → get_or a.given (12 * f + (3 * v + j)) 0 ≡ place (ask_facts (facts_of e) (list_of k (with_counts before) values) (rule_of rows) v) (get_or (fact_at e f).values j 0)
+    → get_or a.given (12 * f + (3 * v + j)) None ≡ numbered (place (ask_facts (facts_of e) (list_of k (with_counts before) values) (rule_of rows) v) (get_or (fact_at e f).values j 0))
 unfolding number_at
 numbers_right k before values rows e a s f i v j l h q x = (s.asked f v j l q (i, h, x)).1
 
@@ -116,6 +125,10 @@ unfolding with_fresh
 fresh_at before L M counts fresh t v j h k =
     rw (t.lists v h, ← t.start v h) (get_or-append-add (L v) (take (get_or counts v 0 - length (L v)) (drop (24 * v) fresh)) j 0)
     ∙ (get_or-take (get_or counts v 0 - length (L v)) (drop (24 * v) fresh) j 0 (omega (arith, t.start v h)) ∙ get_or-drop (24 * v) fresh j 0)
+
+none_or_not : (n : Option Number) → (n ≡ None) ⊎ (n ≡ None → ⊥)
+none_or_not None = inl refl
+none_or_not (Some n) = inr (λ e. cc)
 
 one_value : (x y : Value) → x.0 ≡ y.0 → x ≡ y
 one_value x y e = λ i. record { 0 = e i }
@@ -137,11 +150,11 @@ module _ (k : ℕ) (before values rows : List ℕ) (e : Event) (a b : Asked) (p 
       (λ x. ⊎_elim
       (λ y. x ∙ sym y)
       (λ y. let z = r.only f v j h l m y in (s.asked f v j z.0 l z.1).1 ∙ sym (r.asked f v j z.0 l z.1).1)
-      (same_or_not (number_at b.given f v j) 4294967295))
+      (none_or_not (number_at b.given f v j)))
       (λ x. let z = s.only f v j h l m x in (s.asked f v j z.0 l z.1).1 ∙ sym (r.asked f v j z.0 l z.1).1)
-      (same_or_not (number_at a.given f v j) 4294967295)
+      (none_or_not (number_at a.given f v j))
 
-  same_at : (f v j : ℕ) → f < 8 → v < 4 → j < 3 → get_or a.given (12 * f + (3 * v + j)) 0 ≡ get_or b.given (12 * f + (3 * v + j)) 0
+  same_at : (f v j : ℕ) → f < 8 → v < 4 → j < 3 → get_or a.given (12 * f + (3 * v + j)) None ≡ get_or b.given (12 * f + (3 * v + j)) None
   unfolding number_at
   same_at f v j h l m = same_number f v j h l m
 
@@ -155,7 +168,7 @@ module _ (k : ℕ) (before values rows : List ℕ) (e : Event) (a b : Asked) (p 
       one_value (get_or a.fresh i (record { 0 = 0 })) (get_or b.fresh i (record { 0 = 0 }))
       (sym (get_or-map (λ (x : Value). x.0) a.fresh i (record { 0 = 0 })) ∙ ((rw z at u) ∙ get_or-map (λ (x : Value). x.0) b.fresh i (record { 0 = 0 })))) in
       let n : a.given ≡ b.given =
-      ext_get_or 0 a.given b.given (p.given ∙ sym q.given) (λ i h.
+      ext_get_or None a.given b.given (p.given ∙ sym q.given) (λ i h.
       let z : 12 * (i / 12) + (3 * (i % 12 / 3) + i % 12 % 3) ≡ i = omega arith in
       let u = same_at (i / 12) (i % 12 / 3) (i % 12 % 3) (omega (arith, p.given)) (omega arith) (omega arith) in
       rw z at u) in

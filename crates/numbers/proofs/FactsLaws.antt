@@ -17,10 +17,12 @@ use Rattle.meaning.specs.Outcome.{facts_of}
 use Rattle.meaning.proofs.ValuesLaws.{Grows}
 use Rattle.meaning.proofs.AskingLaws.{ask_facts_grows}
 use Rattle.numbers.specs.Matching.{arguments_in}
-use Rattle.numbers.specs.Asking.{number_in, with_fresh, Listing, AsksFor, AskedBy, fact_at, number_at, sheet, nothing_given, Tally, Steady, Carried, Put}
+use Rattle.std.specs.Prelude.{Option, None}
+use Rattle.making.specs.declared.Number.{Number}
+use Rattle.meaning.specs.declared.Value.{Value}
+use Rattle.numbers.specs.Asking.{number_in, bare, with_fresh, Listing, AsksFor, AskedBy, fact_at, number_at, sheet, nothing_given, Tally, Steady, Carried, Put}
 use Rattle.numbers.proofs.PlaceLaws.{number_grows}
 use Rattle.numbers.proofs.TallyLaws.{same_or_not}
-use Rattle.numbers.proofs.SheetLaws.{plain_at}
 use Rattle.numbers.proofs.StartLaws.{nothing_given_law, vacancies_le, steady_start}
 
 -- a row has at most three arguments
@@ -63,19 +65,22 @@ module _ (before : List ℕ) (L : Lists) (rows : List ℕ) (e : Event) where
   abbrev pub after : ℕ → Lists
   after f = ask_facts (take f (facts_of e)) L (rule_of rows)
 
-  pub record Going (f : ℕ) (counts fresh given : List ℕ) : Type 0 where
+  pub record Going (f : ℕ) (counts : List ℕ) (fresh : List Value) (given : List (Option Number)) : Type 0 where
     pub four : length counts ≡ 4
-    pub places : length fresh ≡ 96
+    pub places : length (bare fresh) ≡ 96
     pub size : length given ≡ 96
     pub grown : (v : ℕ) → v < 4 → get_or before v 0 ≤ get_or counts v 0
     pub few : (v : ℕ) → v < 4 → get_or counts v 0 ≤ get_or before v 0 + 3 * f
-    pub listing : Listing before L (after f) counts fresh
-    pub real : (g v j : ℕ) → g < f → v < 4 → AskedBy (fact_at e g) rows (count_of_rows rows) v j → number_at given g v j ≡ 4294967295 → ⊥
+    pub listing : Listing before L (after f) counts (bare fresh)
+    pub real : (g v j : ℕ) → g < f → v < 4 → AskedBy (fact_at e g) rows (count_of_rows rows) v j → number_at given g v j ≡ None → ⊥
     pub asked : (g v j : ℕ) → g < f → v < 4 → AskedBy (fact_at e g) rows (count_of_rows rows) v j → number_at given g v j ≡ number_in (after f v) (get_or (fact_at e g).values j 0)
-    pub only : (g v j : ℕ) → g < 8 → v < 4 → j < 3 → (number_at given g v j ≡ 4294967295 → ⊥) → (g < f) × AskedBy (fact_at e g) rows (count_of_rows rows) v j
+    pub only : (g v j : ℕ) → g < 8 → v < 4 → j < 3 → (number_at given g v j ≡ None → ⊥) → (g < f) × AskedBy (fact_at e g) rows (count_of_rows rows) v j
+
+  zero_fresh : bare (replicate 96 (record { 0 = 0 })) ≡ replicate 96 0
+  zero_fresh = refl
 
   -- before the first
-  pub going_none : length before ≡ 4 → ((v : ℕ) → v < 4 → length (L v) ≡ get_or before v 0) → Going 0 before (replicate 96 0) (replicate 96 4294967295)
+  pub going_none : length before ≡ 4 → ((v : ℕ) → v < 4 → length (L v) ≡ get_or before v 0) → Going 0 before (replicate 96 (record { 0 = 0 })) (replicate 96 None)
   unfolding with_fresh ask_facts number_at
   going_none four start = record {
     four = four;
@@ -87,20 +92,20 @@ module _ (before : List ℕ) (L : Lists) (rows : List ℕ) (e : Event) where
       start = start;
       counted = start;
       lists = λ v h. let z : get_or before v 0 - get_or before v 0 ≡ 0 = omega arith in rw z (sym (append-nil (L v)));
-      unused = λ v j h k q. get_or-replicate 96 (24 * v + j) 0 0 (omega arith);
+      unused = λ v j h k q. rw zero_fresh (get_or-replicate 96 (24 * v + j) 0 0 (omega arith));
     };
     real = λ g v j h. absurd (omega arith);
     asked = λ g v j h. absurd (omega arith);
-    only = λ g v j hg hv hj n. absurd (n (get_or-replicate 96 (12 * g + (3 * v + j)) 4294967295 0 (omega arith)));
+    only = λ g v j hg hv hj n. absurd (n (get_or-replicate {A = Option Number} 96 (12 * g + (3 * v + j)) None None (omega arith)));
   }
 
   -- what the fact f may assume
-  module _ (f : ℕ) (counts fresh given : List ℕ) (w : Going f counts fresh given) (hf : f < 8) where
+  module _ (f : ℕ) (counts : List ℕ) (fresh : List Value) (given : List (Option Number)) (w : Going f counts fresh given) (hf : f < 8) where
     pub going_steady : ((v : ℕ) → v < 4 → get_or before v 0 ≤ 1023) → Steady before (sheet counts fresh nothing_given)
     going_steady first = steady_start before counts fresh w.four w.places first w.grown (λ v h. omega (arith, w.few v h))
 
     -- and what it leaves
-    module _ (inside : f < length (facts_of e)) (counts' fresh' : List ℕ) (numbers : List Number) (given' : List ℕ)
+    module _ (inside : f < length (facts_of e)) (counts' : List ℕ) (fresh' : List Value) (numbers given' : List (Option Number))
         (c : Carried before L (fact_at e f).values (λ M. ask_rows (fact_at e f) M (rule_of rows)) (AskedBy (fact_at e f) rows (count_of_rows rows)) (sheet counts fresh nothing_given) (sheet counts' fresh' numbers))
         (p : Put f numbers given given') where
       next_is : after (f + 1) ≡ ask_rows (fact_at e f) (after f) (rule_of rows)
@@ -114,9 +119,9 @@ module _ (before : List ℕ) (L : Lists) (rows : List ℕ) (e : Event) where
       grows v = rw next_is (rows_grow (fact_at e f) (after f) (rule_of rows) v)
 
       -- the numbers of this fact, and those of the others
-      here : (v j : ℕ) → v < 4 → j < 3 → number_at given' f v j ≡ get_or (sheet counts' fresh' numbers).numbers (3 * v + j) 0
+      here : (v j : ℕ) → v < 4 → j < 3 → number_at given' f v j ≡ get_or (sheet counts' fresh' numbers).numbers (3 * v + j) None
       unfolding number_at
-      here v j h k = p.here (3 * v + j) (omega arith) ∙ sym (plain_at numbers (3 * v + j))
+      here v j h k = p.here (3 * v + j) (omega arith)
 
       there : (g v j : ℕ) → (g ≡ f → ⊥) → v < 4 → j < 3 → number_at given' g v j ≡ number_at given g v j
       unfolding number_at
@@ -156,7 +161,7 @@ module _ (before : List ℕ) (L : Lists) (rows : List ℕ) (e : Event) where
       }
 
     -- the same, where the fact is said in other words
-    pub going_next : (inside : f < length (facts_of e)) (x : Fact) → fact_at e f ≡ x → (counts' fresh' : List ℕ) (numbers : List Number) (given' : List ℕ)
+    pub going_next : (inside : f < length (facts_of e)) (x : Fact) → fact_at e f ≡ x → (counts' : List ℕ) (fresh' : List Value) (numbers given' : List (Option Number))
         → Carried before L x.values (λ M. ask_rows x M (rule_of rows)) (AskedBy x rows (count_of_rows rows)) (sheet counts fresh nothing_given) (sheet counts' fresh' numbers)
         → Put f numbers given given' → Going (f + 1) counts' fresh' given'
     going_next inside x same counts' fresh' numbers given' c p = going_more inside counts' fresh' numbers given' (rw (← same) at c) p

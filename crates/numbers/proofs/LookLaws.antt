@@ -5,7 +5,7 @@ use mathlib.Core.Bool.{Bool, true, false, cond, not, ◌&&◌, and-false}
 use mathlib.Core.List.{List, [], ◌∷◌}
 use native.Mathlib.Omega.{arith}
 use lib.Dec.{eqb, ltb, leb}
-use lib.ListN.{length, get_or, take, drop}
+use lib.ListN.{length, get_or, take, drop, length-map}
 use lib.Seq.{take-take}
 use borrow.Author.Tests.{lt-ltb, le-ltb, lt-leb, le-leb, leb-true, ltb-true, eqb-true, eq-eqb, ne_eqb}
 use Rattle.std.specs.Prelude.{Option, Some, None}
@@ -16,7 +16,9 @@ use Rattle.meaning.specs.Tables.{most, part, list_of}
 use Rattle.meaning.specs.Outcome.{k_right, values_right}
 use Rattle.numbers.specs.declared.Lookup.{Lookup}
 use Rattle.numbers.specs.declared.Lookup.TheVariants.{Has, OneLeft, NoneLeft, Misfit}
-use Rattle.numbers.specs.Asking.{number_in, part_of}
+use Rattle.making.specs.declared.Number.{Number}
+use Rattle.meaning.specs.declared.Value.{Value}
+use Rattle.numbers.specs.Asking.{number_in, numbered, bare, part_of}
 use Rattle.numbers.specs.Looking.{looked_up, readable, look_up, number_told}
 use Rattle.numbers.proofs.StartLaws.{most_le}
 
@@ -68,13 +70,45 @@ pub told_number : (m : ℕ) (xs : List ℕ) (y : ℕ) → number_told (looked_up
 unfolding looked_up number_told number_in
 told_number m xs y = go (listed xs y) (ltb (length xs) m)
   where
-    go : (t u : Bool) → number_told (cond t (Has (record { 0 = place xs y })) (cond u OneLeft NoneLeft)) ≡ cond t (place xs y) 4294967295
+    go : (t u : Bool) → number_told (cond t (Has (record { 0 = place xs y })) (cond u OneLeft NoneLeft)) ≡ cond t (numbered (place xs y)) None
     go true u = refl
     go false true = refl
     go false false = refl
 
-pub told_is : (m : ℕ) (xs : List ℕ) (y n : ℕ) (found : Lookup) → found ≡ looked_up m xs y → n ≡ number_told found → n ≡ number_in xs y
-told_is m xs y n found e h = h ∙ (ap number_told e ∙ told_number m xs y)
+pub told_is : (m : ℕ) (xs : List ℕ) (y : ℕ) {n : Option Number} {found : Lookup} → found ≡ looked_up m xs y → n ≡ number_told found → number_in xs y ≡ n
+told_is m xs y e h = sym (h ∙ (ap number_told e ∙ told_number m xs y))
+
+-- the position of a value among fresh ones is its number among them
+fresh_position : (xs : List Value) (y : ℕ) → position_or_len (λ (x : Value). eqb x.0 y) xs ≡ place (bare xs) y
+unfolding place
+fresh_position [] y = refl
+fresh_position (x ∷ xs) y = rw (fresh_position xs y) (go (eqb x.0 y))
+  where
+    go : (t : Bool) → cond (not t) (1 + place (bare xs) y) 0 ≡ cond t 0 (suc (place (bare xs) y))
+    go true = refl
+    go false = omega arith
+
+module _ (xs : List Value) (y : ℕ) {r : Option ℕ}
+    (e : r ≡ cond (ltb (position_or_len (λ (x : Value). eqb x.0 y) xs) (length xs)) (Some (position_or_len (λ (x : Value). eqb x.0 y) xs)) None) where
+  fresh_found : r ≡ cond (listed (bare xs) y) (Some (place (bare xs) y)) None
+  unfolding listed
+  fresh_found = rw length-map (rw (fresh_position xs y) at e)
+
+  pub fresh_some : (i : ℕ) → r ≡ Some i → number_in (bare xs) y ≡ numbered i
+  unfolding number_in
+  fresh_some i is = go (listed (bare xs) y) (sym is ∙ fresh_found)
+    where
+      go : (t : Bool) → Some i ≡ cond t (Some (place (bare xs) y)) None → cond t (numbered (place (bare xs) y)) None ≡ numbered i
+      go true q = let z : i ≡ place (bare xs) y = cc in rw z
+      go false q = cc
+
+  pub fresh_none : r ≡ None → number_in (bare xs) y ≡ None
+  unfolding number_in
+  fresh_none is = go (listed (bare xs) y) (sym is ∙ fresh_found)
+    where
+      go : (t : Bool) → None ≡ cond t (Some (place (bare xs) y)) None → cond t (numbered (place (bare xs) y)) None ≡ None
+      go true q = cc
+      go false q = refl
 
 -- each test that fails leaves nothing to look in
 module _ (k : ℕ) (counts values : List ℕ) (v : ℕ) where

@@ -1,11 +1,10 @@
 -- Laws of where a fact's walk starts: checked rows, the lists in their parts, and what is written down before anything is asked. Assumes nothing.
 use Prim.Native.Nat.{ℕ, ◌+◌, ◌*◌, ◌/◌, ◌^◌, ◌≤◌, ◌<◌}
-use mathlib.Core.Path.{◌≡◌, refl, sym, ◌∙◌, fun_ext}
-use mathlib.Core.Bool.{Bool, true, false, cond, not, ◌&&◌}
+use mathlib.Core.Path.{◌≡◌, refl, sym, fun_ext}
+use mathlib.Core.Bool.{Bool, true, false, not, ◌&&◌}
 use mathlib.Core.List.{List}
 use mathlib.Core.Logic.{⊎_elim}
 use native.Mathlib.Omega.{arith}
-use lib.Dec.{eqb}
 use lib.Pow.{pow_mono}
 use lib.ListN.{length, get_or, drop, get_or-replicate, get_or-eq_default}
 use lib.Seq.{take-take, length-take-le}
@@ -17,8 +16,9 @@ use Rattle.meaning.specs.Rows.{row_right, disagree, row_fault, count_of_rows, fi
 use Rattle.meaning.specs.Tables.{most, part, list_of}
 use Rattle.meaning.proofs.RowsLaws.{first_none}
 use Rattle.meaning.proofs.PartsLaws.{part_length}
-use Rattle.numbers.specs.Asking.{with_counts, sheet, nothing_given, Given, vacant, vacancies, Steady, part_of}
-use Rattle.numbers.proofs.SheetLaws.{plain_at}
+use Rattle.std.specs.Prelude.{Option, Some, None}
+use Rattle.meaning.specs.declared.Value.{Value}
+use Rattle.numbers.specs.Asking.{with_counts, bare, sheet, nothing_given, Given, vacant, vacancies, Steady, part_of}
 
 -- 2^k − 1 for the largest k
 pub most_le : (k : ℕ) → k ≤ 10 → most k ≤ 1023
@@ -56,23 +56,20 @@ unfolding list_of
 list_length k counts values v h e q = length-take-le (get_or counts v 0) (part k values v) (rw (part_length k values v h e) q)
 
 -- before a fact asks anything: no number is given, and three places of each variable are vacant
-pub nothing_given_law : (counts fresh : List ℕ) (v j : ℕ) → v < 4 → j < 3 → Given (sheet counts fresh nothing_given) v j → ⊥
+pub nothing_given_law : (counts : List ℕ) (fresh : List Value) (v j : ℕ) → v < 4 → j < 3 → Given (sheet counts fresh nothing_given) v j → ⊥
 nothing_given_law counts fresh v j h k g =
-    g (plain_at nothing_given (3 * v + j) ∙ rw (get_or-replicate {A = Number} 12 (3 * v + j) (record { 0 = 4294967295 }) (record { 0 = 0 }) (omega arith)))
+    g (get_or-replicate {A = Option Number} 12 (3 * v + j) None None (omega arith))
 
-pub vacant_le : (n : ℕ) → vacant n ≤ 1
+pub vacant_le : (n : Option Number) → vacant n ≤ 1
 unfolding vacant
-vacant_le n = go (eqb n 4294967295)
-  where
-    go : (t : Bool) → cond t 1 0 ≤ 1
-    go true = omega arith
-    go false = omega arith
+vacant_le None = omega arith
+vacant_le (Some n) = omega arith
 
-pub vacancies_le : (ns : List ℕ) (v : ℕ) → vacancies ns v ≤ 3
+pub vacancies_le : (ns : List (Option Number)) (v : ℕ) → vacancies ns v ≤ 3
 unfolding vacancies
-vacancies_le ns v = omega (arith, vacant_le (get_or ns (3 * v + 0) 0), vacant_le (get_or ns (3 * v + 1) 0), vacant_le (get_or ns (3 * v + 2) 0))
+vacancies_le ns v = omega (arith, vacant_le (get_or ns (3 * v + 0) None), vacant_le (get_or ns (3 * v + 1) None), vacant_le (get_or ns (3 * v + 2) None))
 
-pub steady_start : (before counts fresh : List ℕ) → length counts ≡ 4 → length fresh ≡ 96 → ((v : ℕ) → v < 4 → get_or before v 0 ≤ 1023)
+pub steady_start : (before counts : List ℕ) (fresh : List Value) → length counts ≡ 4 → length (bare fresh) ≡ 96 → ((v : ℕ) → v < 4 → get_or before v 0 ≤ 1023)
     → ((v : ℕ) → v < 4 → get_or before v 0 ≤ get_or counts v 0) → ((v : ℕ) → v < 4 → get_or counts v 0 ≤ get_or before v 0 + 21) → Steady before (sheet counts fresh nothing_given)
 steady_start before counts fresh four places first grown few = record {
   four = four;

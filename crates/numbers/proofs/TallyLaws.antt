@@ -11,7 +11,9 @@ use lib.Seq.{get_or-set_same, get_or-set_other, drop-set-lt, drop-set-add, take-
 use borrow.Author.Tests.{eq-eqb, ne_eqb}
 use Rattle.trees.proofs.Tests.{EqCase, equal, other, eq_case, lt_or_ge}
 use Rattle.meaning.specs.Numbering.{Lists, listed, ask}
-use Rattle.numbers.specs.Asking.{number_in, with_fresh, Sheet, Given, Tally, vacant, vacancies, Steady, Carried, Pair}
+use Rattle.std.specs.Prelude.{Option, Some, None}
+use Rattle.making.specs.declared.Number.{Number}
+use Rattle.numbers.specs.Asking.{number_in, numbered, with_fresh, Sheet, Given, Tally, vacant, vacancies, Steady, Carried, Pair}
 use Rattle.numbers.proofs.PlaceLaws.{listed_of, unlisted_of, number_snoc, ask_listed, ask_here, ask_other}
 
 -- two numbers are equal or not
@@ -23,13 +25,14 @@ same_or_not m n = go (eqb m n) (eq_case m n)
     go false (other q) = inr q
 
 -- a number that is none counts, another does not
-vacant_none : (n : ℕ) → n ≡ 4294967295 → vacant n ≡ 1
+vacant_none : (n : Option Number) → n ≡ None → vacant n ≡ 1
 unfolding vacant
-vacant_none n h = rw (eq-eqb n 4294967295 h)
+vacant_none n h = rw h
 
-vacant_not : (n : ℕ) → (n ≡ 4294967295 → ⊥) → vacant n ≡ 0
+vacant_not : (n : Option Number) → (n ≡ None → ⊥) → vacant n ≡ 0
 unfolding vacant
-vacant_not n h = rw (ne_eqb n 4294967295 h)
+vacant_not None h = absurd (h refl)
+vacant_not (Some n) h = refl
 
 -- a pair of a variable and a place is one of the others, or this one
 same_pair : (v j w i : ℕ) → Pair v j w i ⊎ (w ≡ v → i ≡ j → ⊥)
@@ -39,25 +42,25 @@ same_pair v j w i = ⊎_elim
     (same_or_not w v)
 
 -- the number n is stored for the pair of v and j, which had none
-module _ (ns : List ℕ) (v j n : ℕ) (hj : j < 3) (room : 3 * v + j < length ns) (none : get_or ns (3 * v + j) 0 ≡ 4294967295) (real : n ≡ 4294967295 → ⊥) where
-  stored : (w i : ℕ) → Pair v j w i → get_or (set ns (3 * v + j) n) (3 * w + i) 0 ≡ n
-  stored w i p = let z : 3 * w + i ≡ 3 * v + j = omega (arith, p.0, p.1) in rw z (get_or-set_same ns (3 * v + j) n 0 room)
+module _ (ns : List (Option Number)) (v j : ℕ) (n : Option Number) (hj : j < 3) (room : 3 * v + j < length ns) (none : get_or ns (3 * v + j) None ≡ None) (real : n ≡ None → ⊥) where
+  stored : (w i : ℕ) → Pair v j w i → get_or (set ns (3 * v + j) n) (3 * w + i) None ≡ n
+  stored w i p = let z : 3 * w + i ≡ 3 * v + j = omega (arith, p.0, p.1) in rw z (get_or-set_same ns (3 * v + j) n None room)
 
-  others : (w i : ℕ) → i < 3 → (w ≡ v → i ≡ j → ⊥) → get_or (set ns (3 * v + j) n) (3 * w + i) 0 ≡ get_or ns (3 * w + i) 0
-  others w i h p = get_or-set_other ns (3 * v + j) (3 * w + i) n 0 (λ e. p (omega arith) (omega arith))
+  others : (w i : ℕ) → i < 3 → (w ≡ v → i ≡ j → ⊥) → get_or (set ns (3 * v + j) n) (3 * w + i) None ≡ get_or ns (3 * w + i) None
+  others w i h p = get_or-set_other ns (3 * v + j) (3 * w + i) n None (λ e. p (omega arith) (omega arith))
 
   -- which pairs have numbers then
-  some_kept : (w i : ℕ) → i < 3 → (get_or ns (3 * w + i) 0 ≡ 4294967295 → ⊥) → get_or (set ns (3 * v + j) n) (3 * w + i) 0 ≡ 4294967295 → ⊥
+  some_kept : (w i : ℕ) → i < 3 → (get_or ns (3 * w + i) None ≡ None → ⊥) → get_or (set ns (3 * v + j) n) (3 * w + i) None ≡ None → ⊥
   some_kept w i h g e = ⊎_elim (λ p. real (sym (stored w i p) ∙ e)) (λ p. g (sym (others w i h p) ∙ e)) (same_pair v j w i)
 
-  some_new : (w i : ℕ) → Pair v j w i → get_or (set ns (3 * v + j) n) (3 * w + i) 0 ≡ 4294967295 → ⊥
+  some_new : (w i : ℕ) → Pair v j w i → get_or (set ns (3 * v + j) n) (3 * w + i) None ≡ None → ⊥
   some_new w i p e = real (sym (stored w i p) ∙ e)
 
-  some_only : (w i : ℕ) → i < 3 → (get_or (set ns (3 * v + j) n) (3 * w + i) 0 ≡ 4294967295 → ⊥) → (get_or ns (3 * w + i) 0 ≡ 4294967295 → ⊥) ⊎ Pair v j w i
+  some_only : (w i : ℕ) → i < 3 → (get_or (set ns (3 * v + j) n) (3 * w + i) None ≡ None → ⊥) → (get_or ns (3 * w + i) None ≡ None → ⊥) ⊎ Pair v j w i
   some_only w i h g = ⊎_elim (λ p. inr p) (λ p. inl (λ e. g (others w i h p ∙ e))) (same_pair v j w i)
 
   -- the variable has a vacancy less
-  no_more : (i : ℕ) → i < 3 → vacant (get_or (set ns (3 * v + j) n) (3 * v + i) 0) ≤ vacant (get_or ns (3 * v + i) 0)
+  no_more : (i : ℕ) → i < 3 → vacant (get_or (set ns (3 * v + j) n) (3 * v + i) None) ≤ vacant (get_or ns (3 * v + i) None)
   no_more i h = ⊎_elim
       (λ p. rw (stored v i p, vacant_not n real) (omega arith))
       (λ p. rw (others v i h p) (omega arith))
@@ -65,11 +68,11 @@ module _ (ns : List ℕ) (v j n : ℕ) (hj : j < 3) (room : 3 * v + j < length n
 
   one_less : suc (vacancies (set ns (3 * v + j) n) v) ≤ vacancies ns v
   unfolding vacancies
-  one_less = go j hj (rw (stored v j (refl, refl)) (vacant_not n real)) (vacant_none (get_or ns (3 * v + j) 0) none)
+  one_less = go j hj (rw (stored v j (refl, refl)) (vacant_not n real)) (vacant_none (get_or ns (3 * v + j) None) none)
     where
-      go : (i : ℕ) → i < 3 → vacant (get_or (set ns (3 * v + j) n) (3 * v + i) 0) ≡ 0 → vacant (get_or ns (3 * v + i) 0) ≡ 1
-          → suc (vacant (get_or (set ns (3 * v + j) n) (3 * v + 0) 0) + (vacant (get_or (set ns (3 * v + j) n) (3 * v + 1) 0) + vacant (get_or (set ns (3 * v + j) n) (3 * v + 2) 0)))
-          ≤ vacant (get_or ns (3 * v + 0) 0) + (vacant (get_or ns (3 * v + 1) 0) + vacant (get_or ns (3 * v + 2) 0))
+      go : (i : ℕ) → i < 3 → vacant (get_or (set ns (3 * v + j) n) (3 * v + i) None) ≡ 0 → vacant (get_or ns (3 * v + i) None) ≡ 1
+          → suc (vacant (get_or (set ns (3 * v + j) n) (3 * v + 0) None) + (vacant (get_or (set ns (3 * v + j) n) (3 * v + 1) None) + vacant (get_or (set ns (3 * v + j) n) (3 * v + 2) None)))
+          ≤ vacant (get_or ns (3 * v + 0) None) + (vacant (get_or ns (3 * v + 1) None) + vacant (get_or ns (3 * v + 2) None))
       go zero q a b = omega (arith, no_more 1 (omega arith), no_more 2 (omega arith))
       go (suc zero) q a b = omega (arith, no_more 0 (omega arith), no_more 2 (omega arith))
       go (suc (suc zero)) q a b = omega (arith, no_more 0 (omega arith), no_more 1 (omega arith))
@@ -88,34 +91,34 @@ part_kept xs m n i x h = ⊎_elim
     h
 
 -- what is written down where the variable v asks a number for the value at place j: the number that it has, or a new one
-abbrev pub after_known : Sheet → ℕ → ℕ → ℕ → Sheet
+abbrev pub after_known : Sheet → ℕ → ℕ → Option Number → Sheet
 after_known a v j n = record { counts = a.counts; fresh = a.fresh; numbers = set a.numbers (3 * v + j) n }
 
 abbrev pub after_new : List ℕ → Sheet → ℕ → ℕ → ℕ → Sheet
 after_new before a v j y = record {
   counts = set a.counts v (get_or a.counts v 0 + 1);
   fresh = set a.fresh (24 * v + (get_or a.counts v 0 - get_or before v 0)) y;
-  numbers = set a.numbers (3 * v + j) (get_or a.counts v 0);
+  numbers = set a.numbers (3 * v + j) (numbered (get_or a.counts v 0));
 }
 
 -- the fact has the value y at place j, and no number of v's for it is written down
 module _ (before : List ℕ) (L : Lists) (ys : List ℕ) (a : Sheet) (v j y : ℕ) (st : Steady before a) (hv : v < 4) (hj : j < 3)
-    (none : get_or a.numbers (3 * v + j) 0 ≡ 4294967295) (is : y ≡ get_or ys j 0) where
+    (none : get_or a.numbers (3 * v + j) None ≡ None) (is : y ≡ get_or ys j 0) where
   inside_numbers : 3 * v + j < length a.numbers
   inside_numbers = omega (arith, st.dozen)
 
   -- the numbers that are right stay so, where the lists only grew
-  numbers_more : (n : ℕ) (M N : Lists) → (n ≡ 4294967295 → ⊥) → n ≡ number_in (N v) y
-      → ((w i : ℕ) → w < 4 → i < 3 → (get_or a.numbers (3 * w + i) 0 ≡ 4294967295 → ⊥) → get_or a.numbers (3 * w + i) 0 ≡ number_in (N w) (get_or ys i 0))
-      → (w i : ℕ) → w < 4 → i < 3 → (get_or (set a.numbers (3 * v + j) n) (3 * w + i) 0 ≡ 4294967295 → ⊥)
-      → get_or (set a.numbers (3 * v + j) n) (3 * w + i) 0 ≡ number_in (N w) (get_or ys i 0)
+  numbers_more : (n : Option Number) (M N : Lists) → (n ≡ None → ⊥) → n ≡ number_in (N v) y
+      → ((w i : ℕ) → w < 4 → i < 3 → (get_or a.numbers (3 * w + i) None ≡ None → ⊥) → get_or a.numbers (3 * w + i) None ≡ number_in (N w) (get_or ys i 0))
+      → (w i : ℕ) → w < 4 → i < 3 → (get_or (set a.numbers (3 * v + j) n) (3 * w + i) None ≡ None → ⊥)
+      → get_or (set a.numbers (3 * v + j) n) (3 * w + i) None ≡ number_in (N w) (get_or ys i 0)
   numbers_more n M N real e old w i hw hi g = ⊎_elim
       (λ p. stored a.numbers v j n hj inside_numbers none real w i p ∙ (e ∙ rw (p.0, p.1, is)))
       (λ p. let o = others a.numbers v j n hj inside_numbers none real w i hi p in o ∙ old w i hw hi (λ z. g (o ∙ z)))
       (same_pair v j w i)
 
   -- the value has a number already
-  module _ (n : ℕ) (real : n ≡ 4294967295 → ⊥) (found : n ≡ number_in (with_fresh before a.counts a.fresh L v) y) where
+  module _ (n : Option Number) (real : n ≡ None → ⊥) (found : n ≡ number_in (with_fresh before a.counts a.fresh L v) y) where
     pub note_known : Carried before L ys (λ M. ask M v (get_or ys j 0)) (Pair v j) a (after_known a v j n)
     unfolding with_fresh
     note_known = record {
@@ -144,12 +147,12 @@ module _ (before : List ℕ) (L : Lists) (ys : List ℕ) (a : Sheet) (v j y : �
     }
 
   -- it has none
-  module _ (missing : number_in (with_fresh before a.counts a.fresh L v) y ≡ 4294967295) where
-    real : get_or a.counts v 0 ≡ 4294967295 → ⊥
-    real e = let r = st.room v hv in let f = st.first v hv in omega arith
+  module _ (missing : number_in (with_fresh before a.counts a.fresh L v) y ≡ None) where
+    real : ◌≡◌ {A = Option Number} (numbered (get_or a.counts v 0)) None → ⊥
+    real e = cc
 
     short : get_or a.counts v 0 < get_or before v 0 + 24
-    short = let r = st.room v hv in omega (arith, one_less a.numbers v j (get_or a.counts v 0) hj inside_numbers none real)
+    short = let r = st.room v hv in omega (arith, one_less a.numbers v j (numbered (get_or a.counts v 0)) hj inside_numbers none real)
 
     pub inside : 24 * v + (get_or a.counts v 0 - get_or before v 0) < 96
     inside = omega (arith, short)
@@ -171,15 +174,15 @@ module _ (before : List ℕ) (L : Lists) (ys : List ℕ) (a : Sheet) (v j y : �
           (λ e. rw (other_count_law w e) (st.grown w h))
           (same_or_not w v);
       room = λ w h. ⊎_elim
-          (λ e. let z : w ≡ v = e in rw (z, now_count) (omega (arith, st.room v hv, one_less a.numbers v j (get_or a.counts v 0) hj inside_numbers none real)))
-          (λ e. rw (other_count_law w e, as_many a.numbers v j (get_or a.counts v 0) hj inside_numbers none real w e) (st.room w h))
+          (λ e. let z : w ≡ v = e in rw (z, now_count) (omega (arith, st.room v hv, one_less a.numbers v j (numbered (get_or a.counts v 0)) hj inside_numbers none real)))
+          (λ e. rw (other_count_law w e, as_many a.numbers v j (numbered (get_or a.counts v 0)) hj inside_numbers none real w e) (st.room w h))
           (same_or_not w v);
     }
 
     -- the lists before and after
     module _ (M : Lists) (t : Tally before L M ys a) where
       new : listed (M v) y ≡ false
-      new = unlisted_of (M v) y (omega (arith, t.listing.counted v hv, st.room v hv, st.first v hv)) (ap (λ (xs : List ℕ). number_in xs y) (t.listing.lists v hv) ∙ missing)
+      new = unlisted_of (M v) y (ap (λ (xs : List ℕ). number_in xs y) (t.listing.lists v hv) ∙ missing)
 
       new_counts : (w : ℕ) → w < 4 → length (ask M v y w) ≡ get_or (set a.counts v (get_or a.counts v 0 + 1)) w 0
       new_counts w h = ⊎_elim
@@ -216,36 +219,36 @@ module _ (before : List ℕ) (L : Lists) (ys : List ℕ) (a : Sheet) (v j y : �
           (same_or_not w v)
 
       -- the numbers given before are those of other values
-      still : (w i : ℕ) → w < 4 → i < 3 → (get_or a.numbers (3 * w + i) 0 ≡ 4294967295 → ⊥) → get_or a.numbers (3 * w + i) 0 ≡ number_in (ask M v y w) (get_or ys i 0)
+      still : (w i : ℕ) → w < 4 → i < 3 → (get_or a.numbers (3 * w + i) None ≡ None → ⊥) → get_or a.numbers (3 * w + i) None ≡ number_in (ask M v y w) (get_or ys i 0)
       still w i h k g = ⊎_elim
           (λ e.
           let z : w ≡ v = e in
-          let o : get_or a.numbers (3 * v + i) 0 ≡ number_in (M v) (get_or ys i 0) = rw z at (t.numbers w i h k g) in
+          let o : get_or a.numbers (3 * v + i) None ≡ number_in (M v) (get_or ys i 0) = rw z at (t.numbers w i h k g) in
           let apart : get_or ys i 0 ≡ y → ⊥ = λ f. g (rw z (o ∙ (ap (number_in (M v)) f ∙ (ap (λ (xs : List ℕ). number_in xs y) (t.listing.lists v hv) ∙ missing)))) in
           rw (z, ask_here M v y new, number_snoc (M v) y (get_or ys i 0) new, ne_eqb (get_or ys i 0) y apart) o)
           (λ e. rw (ask_other M v w y e) (t.numbers w i h k g))
           (same_or_not w v)
 
-      own : get_or a.counts v 0 ≡ number_in (ask M v y v) y
-      own = rw (ask_here M v y new, number_snoc (M v) y y new, eq-eqb y y refl) (sym (t.listing.counted v hv))
+      own : numbered (get_or a.counts v 0) ≡ number_in (ask M v y v) y
+      own = rw (ask_here M v y new, number_snoc (M v) y y new, eq-eqb y y refl) (ap numbered (sym (t.listing.counted v hv)))
 
       new_tally : Tally before L (ask M v y) ys (after_new before a v j y)
       new_tally = record {
         listing = record { start = t.listing.start; counted = new_counts; lists = new_lists; unused = new_unused };
-        numbers = numbers_more (get_or a.counts v 0) M (ask M v y) real own still;
+        numbers = numbers_more (numbered (get_or a.counts v 0)) M (ask M v y) real own still;
       }
 
     pub note_new : Carried before L ys (λ M. ask M v (get_or ys j 0)) (Pair v j) a (after_new before a v j y)
     note_new = record {
       steady = new_steady;
       fewer = λ w h. ⊎_elim
-          (λ e. let z : w ≡ v = e in rw (z, now_count) (omega (arith, one_less a.numbers v j (get_or a.counts v 0) hj inside_numbers none real)))
-          (λ e. rw (other_count_law w e, as_many a.numbers v j (get_or a.counts v 0) hj inside_numbers none real w e) (omega arith))
+          (λ e. let z : w ≡ v = e in rw (z, now_count) (omega (arith, one_less a.numbers v j (numbered (get_or a.counts v 0)) hj inside_numbers none real)))
+          (λ e. rw (other_count_law w e, as_many a.numbers v j (numbered (get_or a.counts v 0)) hj inside_numbers none real w e) (omega arith))
           (same_or_not w v);
       lists = λ M t. rw (← is) (new_tally M t);
-      kept = λ w i h k. some_kept a.numbers v j (get_or a.counts v 0) hj inside_numbers none real w i k;
-      asked = λ w i h k. some_new a.numbers v j (get_or a.counts v 0) hj inside_numbers none real w i;
-      only = λ w i h k. some_only a.numbers v j (get_or a.counts v 0) hj inside_numbers none real w i k;
+      kept = λ w i h k. some_kept a.numbers v j (numbered (get_or a.counts v 0)) hj inside_numbers none real w i k;
+      asked = λ w i h k. some_new a.numbers v j (numbered (get_or a.counts v 0)) hj inside_numbers none real w i;
+      only = λ w i h k. some_only a.numbers v j (numbered (get_or a.counts v 0)) hj inside_numbers none real w i k;
     }
 
 -- a value whose number is written down asks nothing

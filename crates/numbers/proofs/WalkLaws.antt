@@ -1,5 +1,5 @@
 -- Laws of the walk over arguments and rows: what each step carries, the walk carries. Assumes nothing.
-use Prim.Native.Nat.{ℕ, zero, suc, ◌+◌, ◌-◌, ◌*◌, ◌≤◌, ◌<◌}
+use Prim.Native.Nat.{ℕ, zero, suc, ◌+◌, ◌*◌, ◌≤◌, ◌<◌}
 use mathlib.Core.Path.{◌≡◌, refl, ap, sym, ◌∙◌}
 use mathlib.Core.Bool.{true, false}
 use mathlib.Core.List.{List, [], ◌∷◌, ◌++◌}
@@ -16,7 +16,7 @@ use Rattle.meaning.specs.Numbering.{Lists, ask, ask_arguments, ask_row, ask_rows
 use Rattle.meaning.specs.Outcome.{fact_of}
 use Rattle.meaning.proofs.RowsLaws.{ArgumentOk, ArgumentsOk, row_ok}
 use Rattle.numbers.specs.Matching.{matches_row, arguments_in, arguments_of, Sized, Readable}
-use Rattle.numbers.specs.Asking.{Sheet, AsksFor, AskedBy, Steady, Carried, Pair, AtPlace, AtPlaces, ask_one, Asking, NextMatch}
+use Rattle.numbers.specs.Asking.{Sheet, AsksFor, AskedBy, Steady, Carried, Pair, AtPlace, AtPlaces, ask_one, Asking}
 use Rattle.numbers.proofs.MatchingLaws.{values_length, arguments_length, argument_is, is_variable, is_constant, atom_is, match_kind, match_count}
 use Rattle.numbers.proofs.TallyLaws.{same_or_not}
 
@@ -239,24 +239,13 @@ module _ (before : List ℕ) (L : Lists) (raw : List ℕ) (e : Handed) where
       from : (v j : ℕ) → AskedBy (fact_of e) raw i v j ⊎ AsksFor (fact_of e) (row_at raw i) v j → AskedBy (fact_of e) raw (i + 1) v j
       from v j x = ⊎_elim (λ l. let w = l.1 in (l.0, omega arith, l.2)) (λ l. (i, omega arith, l)) x
 
-  -- rows that do not match are passed over
-  rows_skip : (from d : ℕ) (a b : Sheet) → ((i : ℕ) → from ≤ i → i < from + d → matches_row (fact_of e) (row_at raw i) ≡ false) → Rows from a b → Rows (from + d) a b
-  rows_skip from zero a b none p = let z : from + 0 ≡ from = omega arith in rw z p
-  rows_skip from (suc d) a b none p =
-      let z : from + suc d ≡ from + d + 1 = omega arith in
-      let q = rows_skip from d a b (λ i h k. none i h (omega arith)) p in
-      let n = none (from + d) (omega arith) (omega arith) in
-      rw z
-      (rows_more (from + d) a b b q
-      (carried_none before L (fact_of e).values (λ M. ask_row (fact_of e) M (row_at raw (from + d))) (AsksFor (fact_of e) (row_at raw (from + d))) b
-      (λ M. ask_unmatched (fact_of e) M (row_at raw (from + d)) n) (λ v j x. false_true n x.matches) q.steady))
+  -- a row that does not match is passed over, and one that does asks
+  pub rows_pass : (i : ℕ) (a b : Sheet) → matches_row (fact_of e) (row_at raw i) ≡ false → Rows i a b → Rows (i + 1) a b
+  rows_pass i a b n p =
+      rows_more i a b b p
+      (carried_none before L (fact_of e).values (λ M. ask_row (fact_of e) M (row_at raw i)) (AsksFor (fact_of e) (row_at raw i)) b
+      (λ M. ask_unmatched (fact_of e) M (row_at raw i) n) (λ v j x. false_true n x.matches) p.steady)
 
-  pub rows_to : (from r : ℕ) (a b : Sheet) → NextMatch raw e from r → Rows from a b → Rows r a b
-  rows_to from r a b n p =
-      let z : from + (r - from) ≡ r = omega (arith, n.later) in
-      rw z at (rows_skip from (r - from) a b (λ i h k. n.skipped i h (omega arith)) p)
-
-  -- a row that matches, and then the next one
-  pub rows_next : (i r : ℕ) (a b c : Sheet) → Sized e → row_right raw i ≡ true → matches_row (fact_of e) (row_at raw i) ≡ true → NextMatch raw e (i + 1) r → Rows i a b
-      → Carried before L (fact_of e).values (λ M. ask_arguments M (arguments_of raw i e.count) (fact_of e).values) (AtPlaces raw i e.count) b c → Rows r a c
-  rows_next i r a b c s right m n p q = rows_to (i + 1) r a c n (rows_more i a b c p (row_matched raw i e s right before L b c m q))
+  pub rows_ask : (i : ℕ) (a b c : Sheet) → Sized e → row_right raw i ≡ true → matches_row (fact_of e) (row_at raw i) ≡ true → Rows i a b
+      → Carried before L (fact_of e).values (λ M. ask_arguments M (arguments_of raw i e.count) (fact_of e).values) (AtPlaces raw i e.count) b c → Rows (i + 1) a c
+  rows_ask i a b c s right m p q = rows_more i a b c p (row_matched raw i e s right before L b c m q)

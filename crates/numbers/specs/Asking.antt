@@ -1,5 +1,5 @@
 -- What an event asks, over the lists of `meaning`: what `ask` and its parts promise. Assumes nothing: these are definitions.
-use Rattle.std.specs.Prelude.{ℕ, ◌+◌, ◌-◌, ◌*◌, ◌/◌, ◌≤◌, ◌<◌, ◌≡◌, true, false, cond, List, [], ◌++◌, map, ◌⊎◌, eqb, length, get_or, take, drop, replicate}
+use Rattle.std.specs.Prelude.{ℕ, ◌+◌, ◌-◌, ◌*◌, ◌≤◌, ◌<◌, ◌≡◌, true, cond, List, [], ◌++◌, map, ◌⊎◌, Option, Some, None, length, get_or, take, drop, replicate}
 use Rattle.making.specs.declared.Number.{Number}
 use Rattle.meaning.specs.declared.Event.{Event}
 use Rattle.meaning.specs.declared.Fact.{Fact as Handed}
@@ -9,7 +9,7 @@ use Rattle.meaning.specs.Qtl.{Argument, variable, constant, Fact}
 use Rattle.meaning.specs.Rows.{Row, argument_at, row_at, count_of_rows, rule_of, right, check_rows}
 use Rattle.meaning.specs.Numbering.{Lists, place, listed, ask, ask_facts}
 use Rattle.meaning.specs.Tables.{most, list_of}
-use Rattle.meaning.specs.Outcome.{fact_of, facts_of, count_right}
+use Rattle.meaning.specs.Outcome.{facts_of, count_right}
 use Rattle.numbers.specs.declared.Asked.{Asked}
 use Rattle.numbers.specs.Matching.{matches_row, arguments_in, Readable}
 
@@ -17,16 +17,17 @@ use Rattle.numbers.specs.Matching.{matches_row, arguments_in, Readable}
 abbrev pub with_counts : List ℕ → State
 with_counts counts = record { k = 0; rows = 0; kept = 0; counts = counts; refs = []; sizes = [] }
 
--- the number of a value: its place, or 4294967295 where it has none
-unfoldable pub number_in : List ℕ → ℕ → ℕ
-number_in xs y = cond (listed xs y) (place xs y) 4294967295
+-- there is a number, n
+abbrev pub numbered : ℕ → Option Number
+numbered n = Some (record { 0 = n })
 
--- values and numbers as plain numbers
+-- the number of a value: its place, where it has one
+unfoldable pub number_in : List ℕ → ℕ → Option Number
+number_in xs y = cond (listed xs y) (numbered (place xs y)) None
+
+-- values as plain numbers
 abbrev pub bare : List Value → List ℕ
 bare xs = map (λ (x : Value). x.0) xs
-
-abbrev pub plain : List Number → List ℕ
-plain ns = map (λ (n : Number). n.0) ns
 
 -- the lists L with the fresh values behind them, as many as the counts grew by: those of the variable v stand from 24 * v on
 unfoldable pub with_fresh : List ℕ → List ℕ → List ℕ → Lists → Lists
@@ -55,8 +56,8 @@ unfoldable pub fact_at : Event → ℕ → Fact
 fact_at e f = get_or (facts_of e) f (record { predicate = 0; values = [] })
 
 -- the number that the variable v has for value j of the fact f
-unfoldable pub number_at : List ℕ → ℕ → ℕ → ℕ → ℕ
-number_at given f v j = get_or given (12 * f + (3 * v + j)) 0
+unfoldable pub number_at : List (Option Number) → ℕ → ℕ → ℕ → Option Number
+number_at given f v j = get_or given (12 * f + (3 * v + j)) None
 
 -- the lists before an event, and after it
 abbrev pub lists_before : ℕ → List ℕ → List ℕ → Lists
@@ -72,8 +73,8 @@ pub record Asks (k : ℕ) (before values rows : List ℕ) (e : Event) (a : Asked
   -- a fact asks up to three numbers for one variable, and an event has up to eight facts
   pub few : (v : ℕ) → v < 4 → get_or a.counts v 0 ≤ get_or before v 0 + 24
   pub asked : (f v j : ℕ) → f < e.count → v < 4 → AskedBy (fact_at e f) rows (count_of_rows rows) v j
-      → (j < 3) × (number_at a.given f v j ≡ place (lists_after k before values rows e v) (get_or (fact_at e f).values j 0))
-  pub only : (f v j : ℕ) → f < 8 → v < 4 → j < 3 → (number_at a.given f v j ≡ 4294967295 → ⊥) → (f < e.count) × AskedBy (fact_at e f) rows (count_of_rows rows) v j
+      → (j < 3) × (number_at a.given f v j ≡ numbered (place (lists_after k before values rows e v) (get_or (fact_at e f).values j 0)))
+  pub only : (f v j : ℕ) → f < 8 → v < 4 → j < 3 → (number_at a.given f v j ≡ None → ⊥) → (f < e.count) × AskedBy (fact_at e f) rows (count_of_rows rows) v j
 
 -- what `ask` may assume
 pub record Askable (k : ℕ) (before values rows : List ℕ) (e : Event) : Type 0 where
@@ -87,31 +88,32 @@ pub record Askable (k : ℕ) (before values rows : List ℕ) (e : Event) : Type 
 pub record Sheet : Type 0 where
   pub counts : List ℕ
   pub fresh : List ℕ
-  pub numbers : List ℕ
+  pub numbers : List (Option Number)
 
-abbrev pub sheet : List ℕ → List ℕ → List Number → Sheet
-sheet counts fresh numbers = record { counts = counts; fresh = fresh; numbers = plain numbers }
+abbrev pub sheet : List ℕ → List Value → List (Option Number) → Sheet
+sheet counts fresh numbers = record { counts = counts; fresh = bare fresh; numbers = numbers }
 
 -- before a fact asks anything
-abbrev pub nothing_given : List Number
-nothing_given = replicate 12 (record { 0 = 4294967295 })
+abbrev pub nothing_given : List (Option Number)
+nothing_given = replicate 12 None
 
 -- the fact's value j has a number of v's
 abbrev pub Given : Sheet → ℕ → ℕ → Type 0
-Given a v j = get_or a.numbers (3 * v + j) 0 ≡ 4294967295 → ⊥
+Given a v j = get_or a.numbers (3 * v + j) None ≡ None → ⊥
 
 -- the sheet shows the lists M, and a number that is given is the value's
 pub record Tally (before : List ℕ) (L M : Lists) (ys : List ℕ) (a : Sheet) : Type 0 where
   pub listing : Listing before L M a.counts a.fresh
-  pub numbers : (v j : ℕ) → v < 4 → j < 3 → Given a v j → get_or a.numbers (3 * v + j) 0 ≡ number_in (M v) (get_or ys j 0)
+  pub numbers : (v j : ℕ) → v < 4 → j < 3 → Given a v j → get_or a.numbers (3 * v + j) None ≡ number_in (M v) (get_or ys j 0)
 
--- 1 where a number is none
-unfoldable pub vacant : ℕ → ℕ
-vacant n = cond (eqb n 4294967295) 1 0
+-- 1 where there is no number
+unfoldable pub vacant : Option Number → ℕ
+vacant None = 1
+vacant (Some n) = 0
 
 -- how many of the fact's three places have no number of v's
-unfoldable pub vacancies : List ℕ → ℕ → ℕ
-vacancies ns v = vacant (get_or ns (3 * v + 0) 0) + (vacant (get_or ns (3 * v + 1) 0) + vacant (get_or ns (3 * v + 2) 0))
+unfoldable pub vacancies : List (Option Number) → ℕ → ℕ
+vacancies ns v = vacant (get_or ns (3 * v + 0) None) + (vacant (get_or ns (3 * v + 1) None) + vacant (get_or ns (3 * v + 2) None))
 
 -- There is a place for each number that the fact can still ask.
 pub record Steady (before : List ℕ) (a : Sheet) : Type 0 where
@@ -152,18 +154,11 @@ pub record Asking (raw : List ℕ) (i : ℕ) (e : Handed) : Type 0 where
   pub readable : Readable raw i e
   pub variables : (j : ℕ) → j < e.count → get_or raw (9 * i + (3 + 2 * j)) 0 ≡ 0 → get_or raw (9 * i + (4 + 2 * j)) 0 < 4
 
--- r is the first row from `from` on that matches, or where the rows end
-pub record NextMatch (raw : List ℕ) (e : Handed) (from r : ℕ) : Type 0 where
-  pub later : from ≤ r
-  pub within : from ≤ length raw / 9 → r ≤ length raw / 9
-  pub skipped : (i : ℕ) → from ≤ i → i < r → matches_row (fact_of e) (row_at raw i) ≡ false
-  pub matches : r < length raw / 9 → matches_row (fact_of e) (row_at raw r) ≡ true
-
 -- the twelve numbers of the fact f stand at their places, and the other places are as they were
-pub record Put (f : ℕ) (numbers : List Number) (given r : List ℕ) : Type 0 where
+pub record Put (f : ℕ) (numbers given r : List (Option Number)) : Type 0 where
   pub size : length r ≡ length given
-  pub here : (t : ℕ) → t < 12 → get_or r (12 * f + t) 0 ≡ (get_or numbers t (record { 0 = 0 })).0
-  pub there : (g t : ℕ) → (g ≡ f → ⊥) → t < 12 → get_or r (12 * g + t) 0 ≡ get_or given (12 * g + t) 0
+  pub here : (t : ℕ) → t < 12 → get_or r (12 * f + t) None ≡ get_or numbers t None
+  pub there : (g t : ℕ) → (g ≡ f → ⊥) → t < 12 → get_or r (12 * g + t) None ≡ get_or given (12 * g + t) None
 
 -- a value slice of four parts of m numbers each, with a count of values for each part
 pub record Parted (m : ℕ) (counts values : List ℕ) : Type 0 where

@@ -1,5 +1,6 @@
 -- What looking a value up tells. Assumes nothing: these are definitions.
-use Rattle.std.specs.Prelude.{ℕ, Bool, cond, ◌&&◌, List, ltb, leb, length, get_or}
+use Rattle.std.specs.Prelude.{ℕ, Bool, cond, ◌&&◌, List, Option, Some, None, ltb, leb, length, get_or}
+use Rattle.making.specs.declared.Number.{Number}
 use Rattle.meaning.specs.Numbering.{place, listed}
 use Rattle.meaning.specs.Tables.{most, list_of}
 use Rattle.meaning.specs.Outcome.{k_right, values_right}
@@ -20,9 +21,9 @@ readable k counts values v = k_right k && (values_right k values && (ltb v 4 && 
 unfoldable pub look_up : ℕ → List ℕ → List ℕ → ℕ → ℕ → Lookup
 look_up k counts values v y = cond (readable k counts values v) (looked_up (most k) (list_of k (with_counts counts) values v) y) Misfit
 
--- the number that was told, or 4294967295 where there is none
-unfoldable pub number_told : Lookup → ℕ
-number_told (Has n) = n.0
-number_told OneLeft = 4294967295
-number_told NoneLeft = 4294967295
-number_told Misfit = 4294967295
+-- the number that was told, where there is one
+unfoldable pub number_told : Lookup → Option Number
+number_told (Has n) = Some n
+number_told OneLeft = None
+number_told NoneLeft = None
+number_told Misfit = None

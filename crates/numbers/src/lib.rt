@@ -9,6 +9,8 @@ pub mod matching; // matching.rt: the atoms that match a fact
 ghost use Rattle.std.specs.Prelude.{◌≡◌, ◌+◌, ◌*◌, ◌<◌, ◌≤◌, length, get_or};
 ghost use Rattle.meaning.specs.Outcome.{fact_of};
 ghost use Rattle.meaning.specs.Tables;
+ghost use Rattle.numbers.specs.Asking.{number_at};
+ghost use Rattle.numbers.specs.Looking.{number_told};
 
 pub use asking::ask;
 pub use looking::look_up;
@@ -18,12 +20,12 @@ use meaning::{Fact, Value};
 
 // What an event asks: how many values of each variable have numbers after it; the new values of variable v, in order, from
 // 24 * v on, and 0 past them; and at 12 * f + 3 * v + j the number that variable v has for value j of fact f, where an atom that
-// matches the fact has v at place j, and 4294967295 elsewhere.
+// matches the fact has v at place j, and none elsewhere.
 #[derive(Clone, Copy)]
 pub struct Asked {
     pub counts: [u32; 4],
     pub fresh: [Value; 96],
-    pub given: [u32; 96],
+    pub given: [Option<Number>; 96],
 }
 
 // What looking a value up tells: it has this number; it has none, and one is left; it has none, and none is left; or there is nothing
@@ -36,6 +38,18 @@ pub enum Lookup {
     Misfit,
 }
 
+impl Lookup {
+    // The number that was told.
+    pub fn number(self) -> Option<Number>
+        ensures { result ≡ number_told self }
+    {
+        match self {
+            Lookup::Has(n) => Some(n),
+            Lookup::OneLeft | Lookup::NoneLeft | Lookup::Misfit => None,
+        }
+    }
+}
+
 // The most values of a variable that have numbers. The caller has checked k (refusal 1).
 pub fn most(k: u32) -> u32
     requires { k ≤ 10 }
@@ -44,12 +58,12 @@ pub fn most(k: u32) -> u32
     (1 << k) - 1
 }
 
-// The number that variable v has for value j of fact f: the table `given` is read as numbers here and nowhere else.
-pub fn number_of(given: &[u32; 96], f: usize, v: usize, j: usize) -> Number
+// The number that variable v has for value j of fact f, if any: the table `given` is read here and nowhere else.
+pub fn number_of(given: &[Option<Number>; 96], f: usize, v: usize, j: usize) -> Option<Number>
     requires { (length given.now ≡ 96) × (f < 8) × (v < 4) × (j < 3) }
-    ensures { result ≡ record { 0 = get_or given.now (12 * f + (3 * v + j)) 0 } }
+    ensures { result ≡ number_at given.now f v j }
 {
-    Number(given[12 * f + (3 * v + j)])
+    given[12 * f + (3 * v + j)]
 }
 
 // The fact's value at place j.

@@ -21,14 +21,24 @@ pub fn look_in(list: &[u32], m: usize, y: Value) -> Lookup
     }
 }
 
-// Looks y up among the values of variable v, of which m may have numbers.
-pub fn look_part(m: usize, counts: [u32; 4], values: &[u32], v: usize, y: Value) -> Lookup
-    requires { (m ≤ 1023) × (length values.now ≡ 4 * m) × (v < 4) × (get_or counts v 0 ≤ m) }
-    ensures { result ≡ looked_up m (part_of m counts values.now v) y.0 }
-{
-    let at = v * m;
-    let end = at + counts[v] as usize;
-    look_in(&values[at..end], m, y)
+// The value slice in its four parts of m values, of which the first `counts[v]` of the part v have numbers.
+#[derive(Clone, Copy)]
+pub struct Parts<'a> {
+    pub m: usize,
+    pub counts: [u32; 4],
+    pub values: &'a [u32],
+}
+
+impl Parts<'_> {
+    // Looks y up among the values of variable v, of which m may have numbers.
+    pub fn look(&self, v: usize, y: Value) -> Lookup
+        requires { (self.now.m ≤ 1023) × (length self.now.values.now ≡ 4 * self.now.m) × (v < 4) × (get_or self.now.counts v 0 ≤ self.now.m) }
+        ensures { result ≡ looked_up self.now.m (part_of self.now.m self.now.counts self.now.values.now v) y.0 }
+    {
+        let at = v * self.m;
+        let end = at + self.counts[v] as usize;
+        look_in(&self.values[at..end], self.m, y)
+    }
 }
 
 // Whether k is 1 to 10, the value slice has four parts, the variable is one of the four, and its count is no more than a part has.
@@ -50,6 +60,10 @@ pub fn look_up(k: u32, counts: [u32; 4], values: &[u32], variable: u32, y: Value
     if !readable(k, counts, values, variable) {
         return Lookup::Misfit;
     }
-    let m = most(k) as usize;
-    look_part(m, counts, values, variable as usize, y)
+    let parts = Parts {
+        m: most(k) as usize,
+        counts,
+        values,
+    };
+    parts.look(variable as usize, y)
 }
