@@ -1,7 +1,7 @@
 -- Laws of the first binding: it is found variable by variable, and there is only one. Assumes nothing.
 use Prim.Native.Nat.{ℕ, zero, suc, ◌+◌, ◌*◌, ◌≤◌, ◌<◌}
 use mathlib.Core.Path.{◌≡◌, refl, sym, ◌∙◌}
-use mathlib.Core.Bool.{true}
+use mathlib.Core.Bool.{Bool, true}
 use mathlib.Core.List.{List}
 use mathlib.Core.Logic.{◌≢◌, ◌⊎◌, inl, inr, ⊎_elim}
 use native.Mathlib.Nat.{eq-or-lt_of_le, mul-le-mul_right}
@@ -11,12 +11,14 @@ use lib.Seq.{ext_get_or, get_or-set_same, get_or-set_other}
 use Rattle.trees.specs.Bits.{Bits, Function, number}
 use Rattle.trees.specs.Tree.{Tree, off, eval, Fine}
 use Rattle.trees.specs.Table.{at, trees_of}
+use Rattle.trees.proofs.CanonicalLaws.{zeros_at}
 use Rattle.trees.proofs.Tests.{lt_or_ge}
+use Rattle.std.specs.Prelude.{Option, None}
 use Rattle.trees.proofs.BitsLaws.{Outside, number_agree, number_lt, write, write_outside, write_number}
 use Rattle.nodes.specs.Nodes.{Table}
 use Rattle.binding.specs.First.{Order, shown, Shows, First}
 use Rattle.binding.specs.Fixing.{Meets, Free, can, Fixes}
-use Rattle.binding.proofs.CanLaws.{can_some, can_free}
+use Rattle.binding.proofs.CanLaws.{clash, can_some, can_free}
 
 -- different variables have different levels
 levels_apart : (k u v l : ℕ) → u ≢ v → u * k ≤ l → l < u * k + k → (l < v * k) ⊎ (v * k + k ≤ l)
@@ -73,7 +75,7 @@ unasked_zero k g vs count ms o f i h ignores =
     omega (arith, z, f.least i h t others (sym (ignores s t out) ∙ f.some.2))
 
 -- the first i variables are bound
-pub record Going (d : Tree) (k : ℕ) (vs : List ℕ) (count i : ℕ) (fs ms : List ℕ) : Type 0 where
+pub record Going (d : Tree) (k : ℕ) (vs : List ℕ) (count i : ℕ) (fs : List (Option Bool)) (ms : List ℕ) : Type 0 where
   pub size : length fs ≡ 40
   pub four : length ms ≡ 4
   pub met : (s : Bits) → Meets fs s → Shows k vs ms i s
@@ -83,15 +85,15 @@ pub record Going (d : Tree) (k : ℕ) (vs : List ℕ) (count i : ℕ) (fs ms : L
   pub free : (j : ℕ) → i ≤ j → j < count → Free (get_or vs j 0 * k) k fs
   pub past : (j : ℕ) → i ≤ j → get_or ms j 0 ≡ 0
 
--- so many zeros
-abbrev zeros : ℕ → List ℕ
-zeros n = replicate n 0
+-- all levels are open
+abbrev open_all : List (Option Bool)
+open_all = replicate 40 None
 
-zero_at : (n i : ℕ) → get_or (zeros n) i 0 ≡ 0
-zero_at n i = ⊎_elim
-    (λ h. get_or-replicate n i 0 0 h)
-    (λ h. get_or-eq_default (zeros n) 0 (rw (length-replicate {A = ℕ} n 0) h))
-    (lt_or_ge i n)
+open_at : (i : ℕ) → get_or open_all i None ≡ None
+open_at i = ⊎_elim
+    (λ h. get_or-replicate 40 i None None h)
+    (λ h. get_or-eq_default open_all None {n = i} (rw (length-replicate {A = Option Bool} 40 None) h))
+    (lt_or_ge i 40)
 
 -- a reference other than 0 leads to a diagram other than no
 pub not_no : {ns : List ℕ} {kept p : ℕ} → Table ns kept → 0 < p → p < kept + 2 → at (trees_of ns kept) p ≢ off
@@ -99,24 +101,24 @@ unfolding at
 not_no {p = p} t pos h e = let z = t.one p 0 h (omega arith) e in omega arith
 
 -- none is bound, and a diagram other than no can say yes
-pub going_none : (d : Tree) (k : ℕ) (vs : List ℕ) (count hi : ℕ) → Fine 0 hi d → d ≢ off → Going d k vs count 0 (zeros 40) (zeros 4)
+pub going_none : (d : Tree) (k : ℕ) (vs : List ℕ) (count hi : ℕ) → Fine 0 hi d → d ≢ off → Going d k vs count 0 open_all (replicate 4 0)
 going_none d k vs count hi fine some = record {
   size = refl;
   four = refl;
   met = λ s w. record { each = λ i h. absurd (omega arith) };
-  meets = λ s w. record { each = λ l x e. absurd (omega (arith, zero_at 40 l, e)) };
-  can_still = can_free (zeros 40) (zero_at 40) 0 hi d fine some;
+  meets = λ s w. record { each = λ l x e. absurd (clash (sym (open_at l) ∙ e)) };
+  can_still = can_free open_all open_at 0 hi d fine some;
   least = λ j h t w e. absurd (omega arith);
-  free = λ j p q. record { each = λ l a b. zero_at 40 l };
-  past = λ j h. zero_at 4 j;
+  free = λ j p q. record { each = λ l a b. open_at l };
+  past = λ j h. zeros_at 4 j;
 }
 
 -- the same, with other words for the count
-pub going_same : {d : Tree} {k : ℕ} {vs : List ℕ} {count i j : ℕ} {fs ms : List ℕ} → i ≡ j → Going d k vs count i fs ms → Going d k vs count j fs ms
+pub going_same : {d : Tree} {k : ℕ} {vs : List ℕ} {count i j : ℕ} {fs : List (Option Bool)} {ms : List ℕ} → i ≡ j → Going d k vs count i fs ms → Going d k vs count j fs ms
 going_same e g = rw (← e) g
 
 -- one variable more is bound
-module _ {d : Tree} {k : ℕ} {vs : List ℕ} {count i : ℕ} {fs fs' ms : List ℕ} {m : ℕ} (order : Order vs count) (h : i < count) (four : count ≤ 4)
+module _ {d : Tree} {k : ℕ} {vs : List ℕ} {count i : ℕ} {fs fs' : List (Option Bool)} {ms : List ℕ} {m : ℕ} (order : Order vs count) (h : i < count) (four : count ≤ 4)
     (g : Going d k vs count i fs ms) (f : Fixes d (get_or vs i 0 * k) k fs fs' m) where
   own : get_or (set ms i m) i 0 ≡ m
   own = get_or-set_same ms i m 0 (omega (arith, h, four, g.four))
@@ -159,7 +161,7 @@ module _ {d : Tree} {k : ℕ} {vs : List ℕ} {count i : ℕ} {fs fs' ms : List 
           here j y w = rw (y, own) (f.least t (g.meets t (before i (omega arith) t (rw y at w))) e)
 
 -- all are bound
-pub going_first : {d : Tree} {k : ℕ} {vs : List ℕ} {count : ℕ} {fs ms : List ℕ} → (hi : ℕ) → Fine 0 hi d → Going d k vs count count fs ms → First k (eval d) vs count ms
+pub going_first : {d : Tree} {k : ℕ} {vs : List ℕ} {count : ℕ} {fs : List (Option Bool)} {ms : List ℕ} → (hi : ℕ) → Fine 0 hi d → Going d k vs count count fs ms → First k (eval d) vs count ms
 going_first {d} {fs = fs} hi fine g =
     let t = can_some fs hi d fine g.can_still in
     record { some = (t.0, g.met t.0 t.1, t.2); least = g.least }

@@ -9,6 +9,8 @@ use native.Mathlib.Nat.{eq-or-lt_of_le}
 use native.Mathlib.Omega.{arith}
 use lib.ListN.{length, get_or, set, length-set}
 use lib.Seq.{get_or-set_other, set-set}
+use Rattle.std.specs.Int.{from_bool}
+use Rattle.std.specs.Prelude.{Option, Some, None}
 use Rattle.trees.specs.Bits.{Bits, bit, number}
 use Rattle.trees.specs.Tree.{Tree, eval, Fine}
 use Rattle.trees.proofs.Tests.{bool, false_true}
@@ -16,19 +18,17 @@ use Rattle.trees.proofs.BitsLaws.{number_lt}
 use Rattle.binding.specs.Fixing.{Meets, can, Settles, Fixes}
 use Rattle.binding.proofs.CanLaws.{bit_small, can_of, can_some, meets_set, set_meets}
 
--- where the test says that d can say yes with 0 there, the bit is 0
-pub settles_zero : (d : Tree) (l : ℕ) (fs : List ℕ) {r : Bool} → r ≡ can (set fs l 1) d → r ≡ true → Settles d l fs (set fs l 1) 0
-settles_zero d l fs e h = record { bit_is = rw (← e, h) refl; fixed_is = refl }
+-- where the test says that d cannot say yes with 0 there, the bit is 1
+pub settles_one : (d : Tree) (l : ℕ) (fs : List (Option Bool)) {r : Bool} → r ≡ can (set fs l (Some false)) d → r ≡ false → Settles d l fs (set (set fs l (Some false)) l (Some true)) true
+settles_one d l fs e h = record { bit_is = rw (← e, h) refl; fixed_is = set-set fs l (Some false) (Some true) }
 
--- and else 1
-pub settles_one : (d : Tree) (l : ℕ) (fs : List ℕ) {r : Bool} → r ≡ can (set fs l 1) d → r ≡ false → Settles d l fs (set (set fs l 1) l 2) 1
-settles_one d l fs e h = record { bit_is = rw (← e, h) refl; fixed_is = set-set fs l 1 2 }
-
-pub settles_small : {d : Tree} {l : ℕ} {fs fs' : List ℕ} {x : ℕ} → Settles d l fs fs' x → x < 2
-settles_small {d} {l} {fs} w = rw w.bit_is (bit_small (not (can (set fs l 1) d)))
+-- a bit that is made a number
+pub bit_from : (x : Bool) → from_bool x ≡ bit x
+bit_from true = refl
+bit_from false = refl
 
 -- no bit is fixed yet
-pub fixes_none : (d : Tree) (base n : ℕ) (fs : List ℕ) → n ≡ 0 → can fs d ≡ true → Fixes d base n fs fs 0
+pub fixes_none : (d : Tree) (base n : ℕ) (fs : List (Option Bool)) → n ≡ 0 → can fs d ≡ true → Fixes d base n fs fs 0
 unfolding number
 fixes_none d base n fs z h = record {
   size = refl;
@@ -40,11 +40,11 @@ fixes_none d base n fs z h = record {
 }
 
 -- the same, with other words for the level and the count
-pub fixes_same : {d : Tree} {base base' n n' : ℕ} {fs fs' : List ℕ} {m : ℕ} → base ≡ base' → n ≡ n' → Fixes d base n fs fs' m → Fixes d base' n' fs fs' m
+pub fixes_same : {d : Tree} {base base' n n' : ℕ} {fs fs' : List (Option Bool)} {m : ℕ} → base ≡ base' → n ≡ n' → Fixes d base n fs fs' m → Fixes d base' n' fs fs' m
 fixes_same e g f = rw (← e, ← g) f
 
 -- the number that is fixed is shown by some bits, so it is small
-pub fixes_lt : {d : Tree} {base n : ℕ} {fs fs' : List ℕ} {m : ℕ} → (hi : ℕ) → Fine 0 hi d → Fixes d base n fs fs' m → m < 2 ^ n
+pub fixes_lt : {d : Tree} {base n : ℕ} {fs fs' : List (Option Bool)} {m : ℕ} → (hi : ℕ) → Fine 0 hi d → Fixes d base n fs fs' m → m < 2 ^ n
 fixes_lt {d} {base} {n} {fs' = fs'} hi fine f =
     let t = can_some fs' hi d fine f.can_still in
     omega (arith, (f.met t.0 t.1).1, number_lt t.0 base n)
@@ -56,19 +56,19 @@ odd_even false false n m e = (refl, omega arith)
 odd_even true false n m e = absurd (omega arith)
 odd_even false true n m e = absurd (omega arith)
 
-module _ (d : Tree) (base n : ℕ) (fs fs' : List ℕ) (m : ℕ) (f : Fixes d (suc base) n fs fs' m) (inside : base < length fs) (free : get_or fs base 0 ≡ 0) where
+module _ (d : Tree) (base n : ℕ) (fs fs' : List (Option Bool)) (m : ℕ) (f : Fixes d (suc base) n fs fs' m) (inside : base < length fs) (free : get_or fs base None ≡ None) where
   below : base < length fs'
   below = omega (arith, inside, f.size)
 
-  free_still : get_or fs' base 0 ≡ 0
+  free_still : get_or fs' base None ≡ None
   free_still = f.rest base (inl (omega arith)) ∙ free
 
   -- one bit more, which is the least that will do
-  one_bit : (y : Bool) → can (set fs' base (suc (bit y))) d ≡ true → ((t : Bits) → Meets fs' t → eval d t ≡ true → bit y ≤ bit (t base))
-      → Fixes d base (suc n) fs (set fs' base (suc (bit y))) (2 * m + bit y)
+  one_bit : (y : Bool) → can (set fs' base (Some y)) d ≡ true → ((t : Bits) → Meets fs' t → eval d t ≡ true → bit y ≤ bit (t base))
+      → Fixes d base (suc n) fs (set fs' base (Some y)) (2 * m + bit y)
   unfolding number
   one_bit y still low = record {
-    size = length-set fs' base (suc (bit y)) ∙ f.size;
+    size = length-set fs' base (Some y) ∙ f.size;
     met = λ s w.
         let p = set_meets fs' base y s below free_still w in
         let q = f.met s p.0 in
@@ -76,7 +76,7 @@ module _ (d : Tree) (base n : ℕ) (fs fs' : List ℕ) (m : ℕ) (f : Fixes d (s
     meets = λ s w e. let p = odd_even (s base) y (number s (suc base) n) m e in meets_set fs' base y s below (f.meets s w p.1) p.0;
     can_still = still;
     least = λ t w e. more t w e (eq-or-lt_of_le (f.least t w e));
-    rest = λ l o. get_or-set_other fs' base l (suc (bit y)) 0 (apart l o) ∙ f.rest l (around l o);
+    rest = λ l o. get_or-set_other fs' base l (Some y) None (apart l o) ∙ f.rest l (around l o);
   }
     where
       swap : (a b : ℕ) → b + 2 * a ≡ 2 * a + b
@@ -95,16 +95,16 @@ module _ (d : Tree) (base n : ℕ) (fs fs' : List ℕ) (m : ℕ) (f : Fixes d (s
       around l (inr o) = inr (omega arith)
 
   -- the bit is 0 where the diagram can still say yes, and else 1
-  pub fixes_more : (hi : ℕ) → Fine 0 hi d → {fs'' : List ℕ} {x : ℕ} → Settles d base fs' fs'' x → Fixes d base (suc n) fs fs'' (2 * m + x)
-  fixes_more hi fine w = rw (w.fixed_is, w.bit_is) (go (can (set fs' base 1) d) refl)
+  pub fixes_more : (hi : ℕ) → Fine 0 hi d → {fs'' : List (Option Bool)} {x : Bool} → Settles d base fs' fs'' x → Fixes d base (suc n) fs fs'' (2 * m + bit x)
+  fixes_more hi fine w = rw (w.fixed_is, w.bit_is) (go (can (set fs' base (Some false)) d) refl)
     where
-      must : can (set fs' base 1) d ≡ false → (t : Bits) → Meets fs' t → eval d t ≡ true → t base ≡ true
-      must q t w h = ⊎_elim (λ z. z) (λ z. absurd (false_true q (can_of (set fs' base 1) d t (meets_set fs' base false t below w z) h))) (bool (t base))
+      must : can (set fs' base (Some false)) d ≡ false → (t : Bits) → Meets fs' t → eval d t ≡ true → t base ≡ true
+      must q t w h = ⊎_elim (λ z. z) (λ z. absurd (false_true q (can_of (set fs' base (Some false)) d t (meets_set fs' base false t below w z) h))) (bool (t base))
 
-      go : (q : Bool) → can (set fs' base 1) d ≡ q → Fixes d base (suc n) fs (set fs' base (suc (bit (not q)))) (2 * m + bit (not q))
+      go : (q : Bool) → can (set fs' base (Some false)) d ≡ q → Fixes d base (suc n) fs (set fs' base (Some (not q))) (2 * m + bit (not q))
       go true q = one_bit false q (λ t w h. omega arith)
       go false q =
           let s = can_some fs' hi d fine f.can_still in
           one_bit true
-          (can_of (set fs' base 2) d s.0 (meets_set fs' base true s.0 below s.1 (must q s.0 s.1 s.2)) s.2)
+          (can_of (set fs' base (Some true)) d s.0 (meets_set fs' base true s.0 below s.1 (must q s.0 s.1 s.2)) s.2)
           (λ t w h. rw (must q t w h) (omega arith))

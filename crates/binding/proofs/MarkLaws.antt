@@ -1,14 +1,13 @@
 -- Laws of the pass: the marks of references, children first. Assumes nothing.
-use Prim.Native.Nat.{ℕ, zero, suc, ◌+◌, ◌≤◌, ◌<◌}
+use Prim.Native.Nat.{ℕ, zero, suc, ◌+◌, ◌≤◌, ◌<◌, max}
 use mathlib.Core.Path.{◌≡◌, refl, sym, ap, ◌∙◌}
 use mathlib.Core.Bool.{Bool, true, false, ◌||◌}
 use mathlib.Core.List.{List}
-use mathlib.Core.Logic.{◌≢◌}
 use native.Mathlib.Decide.{ℕ_discrete}
 use native.Mathlib.Omega.{arith}
-use lib.Dec.{eqb}
 use lib.ListN.{length, get_or, set, length-set}
 use lib.Seq.{get_or-set_same, get_or-set_other}
+use Rattle.std.specs.Prelude.{Option, None}
 use Rattle.trees.specs.Bits.{bit}
 use Rattle.trees.specs.Tree.{Tree}
 use Rattle.trees.specs.Table.{at, trees_of}
@@ -16,30 +15,15 @@ use Rattle.nodes.specs.Nodes.{Table, Splits}
 use Rattle.nodes.proofs.ReadLaws.{read_below}
 use Rattle.binding.specs.Fixing.{either, can, Marks}
 
--- an open bit allows both sides
-pub either_open : (f : ℕ) (a b : Bool) → f ≢ 1 → f ≢ 2 → either f a b ≡ (a || b)
-unfolding either
-either_open zero a b p q = refl
-either_open (suc zero) a b p q = absurd (p refl)
-either_open (suc (suc zero)) a b p q = absurd (q refl)
-either_open (suc (suc (suc f))) a b p q = refl
-
--- a low mark of 1 is enough, and after another the high one tells
-pub low_enough : (a b : Bool) → bit a ≡ 1 → 1 ≡ bit (a || b)
-low_enough true b e = refl
-low_enough false b e = absurd (omega arith)
-
-pub high_tells : (a b : Bool) → bit a ≢ 1 → bit b ≡ bit (a || b)
-high_tells true b e = absurd (e refl)
-high_tells false b e = refl
-
--- a mark as a test
-pub mark_test : (y : Bool) → eqb (bit y) 1 ≡ y
-mark_test true = refl
-mark_test false = refl
+-- the larger mark of two sides is that of either
+pub either_open : (a b : Bool) → max (bit a) (bit b) ≡ bit (a || b)
+either_open true true = refl
+either_open true false = refl
+either_open false true = refl
+either_open false false = refl
 
 -- the leaves' marks
-pub marks_none : (ns : List ℕ) (kept : ℕ) (fs w : List ℕ) → 2 ≤ length w → Marks ns kept fs (set (set w 0 0) 1 1) 2
+pub marks_none : (ns : List ℕ) (kept : ℕ) (fs : List (Option Bool)) (w : List ℕ) → 2 ≤ length w → Marks ns kept fs (set (set w 0 0) 1 1) 2
 unfolding at can
 marks_none ns kept fs w h = record { is = go }
   where
@@ -49,7 +33,7 @@ marks_none ns kept fs w h = record { is = go }
     go (suc (suc q)) l = absurd (omega arith)
 
 -- one reference more is marked
-pub marks_more : {ns : List ℕ} {kept : ℕ} {fs w : List ℕ} {r : ℕ} → Marks ns kept fs w r → r < length w
+pub marks_more : {ns : List ℕ} {kept : ℕ} {fs : List (Option Bool)} {w : List ℕ} {r : ℕ} → Marks ns kept fs w r → r < length w
     → (x : ℕ) → x ≡ bit (can fs (at (trees_of ns kept) r)) → Marks ns kept fs (set w r x) (r + 1)
 marks_more {ns} {kept} {fs} {w} {r} m l x e = record { is = λ q h. go q h (ℕ_discrete q r) }
   where
@@ -58,8 +42,8 @@ marks_more {ns} {kept} {fs} {w} {r} m l x e = record { is = λ q h. go q h (ℕ_
     go q h (no z) = get_or-set_other w r q x 0 z ∙ m.is q (omega arith)
 
 -- the mark of a node, from its sides' marks
-pub node_can : {ns : List ℕ} {kept : ℕ} {fs w : List ℕ} {r l a b : ℕ} → Table ns kept → 2 ≤ r → r < kept + 2 → Splits ns kept r l a b → Marks ns kept fs w r
-    → (x : ℕ) → ((p q : Bool) → get_or w a 0 ≡ bit p → get_or w b 0 ≡ bit q → x ≡ bit (either (get_or fs l 0) p q)) → x ≡ bit (can fs (at (trees_of ns kept) r))
+pub node_can : {ns : List ℕ} {kept : ℕ} {fs : List (Option Bool)} {w : List ℕ} {r l a b : ℕ} → Table ns kept → 2 ≤ r → r < kept + 2 → Splits ns kept r l a b → Marks ns kept fs w r
+    → (x : ℕ) → ((p q : Bool) → get_or w a 0 ≡ bit p → get_or w b 0 ≡ bit q → x ≡ bit (either (get_or fs l None) p q)) → x ≡ bit (can fs (at (trees_of ns kept) r))
 unfolding can
 node_can {ns} {kept} {fs} {w} {r} {l} {a} {b} t h k s m x f =
     let z = read_below t s h k in

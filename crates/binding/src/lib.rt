@@ -20,9 +20,9 @@ fn settle(
     kept: u32,
     p: u32,
     level: u32,
-    fixed: &mut [u32; 40],
+    fixed: &mut [Option<bool>; 40],
     work: &mut [u32],
-) -> u32
+) -> bool
     requires table { Table nodes.now kept }
     requires p_bound { (p < kept + 2) × (kept + 2 ≤ length work.old) }
     requires level_bound { (level < 40) × (length fixed.old ≡ 40) }
@@ -30,12 +30,12 @@ fn settle(
     ensures rest { Rest (kept + 2) work.old work.new }
 {
     let l = level as usize;
-    fixed[l] = 1;
+    fixed[l] = Some(false);
     if possible(nodes, kept, p, fixed, work) {
-        return 0;
+        return false;
     }
-    fixed[l] = 2;
-    1
+    fixed[l] = Some(true);
+    true
 }
 
 // Fixes the bits of the variable v, which are open, to the least number for which the diagram can say yes. Gives the number.
@@ -45,7 +45,7 @@ fn least(
     p: u32,
     k: u32,
     v: u32,
-    fixed: &mut [u32; 40],
+    fixed: &mut [Option<bool>; 40],
     work: &mut [u32],
 ) -> u32
     requires table { Table nodes.now kept × Fine 0 (4 * k) (at (trees_of nodes.now kept) p) }
@@ -58,11 +58,9 @@ fn least(
 {
     let base = v * k;
     let mut n = 0;
-    let mut done = 0;
-    while done < k {
-        done += 1;
-        let x = settle(nodes, kept, p, base + (k - done), fixed, work);
-        n = 2 * n + x;
+    for level in (base..base + k).rev() {
+        let bit = settle(nodes, kept, p, level, fixed, work);
+        n = 2 * n + u32::from(bit);
     }
     n
 }
@@ -85,14 +83,11 @@ pub fn first(
     ensures by_index { (i : ℕ) → count ≤ i → get_or result i 0 ≡ 0 }
     ensures rest { Rest (kept + 2) work.old work.new }
 {
-    let mut fixed = [0; 40];
+    let mut fixed = [None; 40];
     let mut answer = [0; 4];
-    let mut left = count;
-    while 0 < left {
-        let j = (count - left) as usize;
+    for j in 0..count as usize {
         let n = least(nodes, kept, p, k, order[j], &mut fixed, work);
         answer[j] = n;
-        left -= 1;
     }
     answer
 }

@@ -1,6 +1,6 @@
-// Whether a diagram can say yes with some bits fixed: one pass over the nodes, children first, a mark a reference. For each
-// level 0 stands for an open bit, and 1 and 2 for a bit fixed to 0 and to 1; the levels past the array are open. Assumes nothing.
-ghost use Rattle.std.specs.Prelude.{◌≡◌, Bool, ◌+◌, ◌<◌, ◌≤◌, length, get_or};
+// Whether a diagram can say yes with some bits fixed: one pass over the nodes, children first, a mark a reference. The bit at a
+// level is fixed or open; the levels past the array are open. Assumes nothing.
+ghost use Rattle.std.specs.Prelude.{◌≡◌, Bool, Option, Some, None, ◌+◌, ◌<◌, ◌≤◌, length, get_or};
 ghost use Rattle.trees.specs.Bits.{bit};
 ghost use Rattle.trees.specs.Table.{at, trees_of};
 ghost use Rattle.nodes.specs.Nodes.{Table, Rest};
@@ -8,58 +8,50 @@ ghost use Rattle.binding.specs.Fixing.{either, can, Marks};
 
 use nodes::read;
 
-// What stands for the bit at a level.
-fn fixed_at(fixed: &[u32; 40], level: u32) -> u32
+// What the bit at a level is fixed to, where it is.
+fn fixed_at(fixed: &[Option<bool>; 40], level: u32) -> Option<bool>
     requires { length fixed.now ≡ 40 }
-    ensures { result ≡ get_or fixed.now level 0 }
+    ensures { result ≡ get_or fixed.now level None }
 {
     if 40 <= level {
-        return 0;
+        return None;
     }
-    let i = level as usize;
-    fixed[i]
+    fixed[level as usize]
 }
 
-// The mark of a reference.
-fn marked(work: &[u32], r: u32) -> u32
-    requires { r < length work.now }
-    ensures { result ≡ get_or work.now r 0 }
+// The mark of a node, from what its bit is fixed to and its sides' marks.
+fn mark(fixed: Option<bool>, low: u32, high: u32) -> u32
+    ensures { (a b : Bool) → low ≡ bit a → high ≡ bit b → result ≡ bit (either fixed a b) }
 {
-    let i = r as usize;
-    work[i]
-}
-
-// The mark of a node, from what stands for its bit and its sides' marks.
-fn mark(f: u32, low: u32, high: u32) -> u32
-    ensures { (a b : Bool) → low ≡ bit a → high ≡ bit b → result ≡ bit (either f a b) }
-{
-    if f == 1 {
-        return low;
+    match fixed {
+        Some(false) => low,
+        Some(true) => high,
+        None => low.max(high),
     }
-    if f == 2 {
-        return high;
-    }
-    if low == 1 {
-        return 1;
-    }
-    high
 }
 
 // The mark of the node r, where the references before it are marked.
-fn node_mark(nodes: &[u32], kept: u32, r: u32, fixed: &[u32; 40], work: &[u32]) -> u32
+fn node_mark(nodes: &[u32], kept: u32, r: u32, fixed: &[Option<bool>; 40], work: &[u32]) -> u32
     requires table { Table nodes.now kept × Marks nodes.now kept fixed.now work.now r }
     requires le_r { (2 ≤ r) × (r < kept + 2) × (kept + 2 ≤ length work.now) × (length fixed.now ≡ 40) }
     ensures { result ≡ bit (can fixed.now (at (trees_of nodes.now kept) r)) }
 {
     let x = read(nodes, kept, r);
-    let f = fixed_at(fixed, x.level);
-    let low = marked(work, x.low);
-    let high = marked(work, x.high);
-    mark(f, low, high)
+    mark(
+        fixed_at(fixed, x.level),
+        work[x.low as usize],
+        work[x.high as usize],
+    )
 }
 
 // Whether the diagram of p can say yes. The nodes past p's place are no part of it, and are not looked at.
-pub fn possible(nodes: &[u32], kept: u32, p: u32, fixed: &[u32; 40], work: &mut [u32]) -> bool
+pub fn possible(
+    nodes: &[u32],
+    kept: u32,
+    p: u32,
+    fixed: &[Option<bool>; 40],
+    work: &mut [u32],
+) -> bool
     requires table { Table nodes.now kept }
     requires p_bound { (p < kept + 2) × (kept + 2 ≤ length work.old) × (length fixed.now ≡ 40) }
     ensures value { result ≡ can fixed.now (at (trees_of nodes.now kept) p) }
@@ -67,12 +59,9 @@ pub fn possible(nodes: &[u32], kept: u32, p: u32, fixed: &[u32; 40], work: &mut 
 {
     work[0] = 0;
     work[1] = 1;
-    let mut r = 2;
-    while r <= p {
-        let x = node_mark(nodes, kept, r, fixed, work);
-        let i = r as usize;
-        work[i] = x;
-        r += 1;
+    for r in 2..p + 1 {
+        let mark = node_mark(nodes, kept, r, fixed, work);
+        work[r as usize] = mark;
     }
-    marked(work, p) == 1
+    work[p as usize] == 1
 }

@@ -1,21 +1,16 @@
 -- `possible::mark` meets its contract. Assumes nothing.
-use mathlib.Core.Path.{sym, ◌∙◌}
 use Rattle.binding.specs.Fixing.{either}
-use Rattle.binding.proofs.MarkLaws.{either_open, low_enough, high_tells}
+use Rattle.binding.proofs.MarkLaws.{either_open}
 use Rattle.binding.proofs.possible.mark.Goals as goal
 
-pub returns-then-f-eq1 : goal.returns-then-f-eq1
+pub returns-in-Some-true : goal.returns-in-Some-true
 unfolding either
-returns-then-f-eq1 c = λ a b p q. rw c.if-f-eq1.true p
+returns-in-Some-true c = λ a b p q. rw (c.in-Some-true.is, c.in-Some-true.field-0-test) q
 
-pub returns-then-f-eq2 : goal.returns-then-f-eq2
+pub returns-in-Some-false : goal.returns-in-Some-false
 unfolding either
-returns-then-f-eq2 c = λ a b p q. rw c.if-f-eq2.true q
+returns-in-Some-false c = λ a b p q. rw (c.in-Some-false.is, c.in-Some-false.field-0-test) p
 
-pub returns-then-low-eq1 : goal.returns-then-low-eq1
-returns-then-low-eq1 c = λ a b p q.
-    rw (either_open c.args.f a b c.if-f-eq1.false c.if-f-eq2.false) (low_enough a b (sym p ∙ c.if-low-eq1.true))
-
-pub returns : goal.returns
-returns c = λ a b p q.
-    rw (either_open c.args.f a b c.if-f-eq1.false c.if-f-eq2.false) (q ∙ high_tells a b (λ e. c.if-low-eq1.false (p ∙ e)))
+pub returns-in-None : goal.returns-in-None
+unfolding either
+returns-in-None c = λ a b p q. rw (c.in-None.is, c.max.ensures, p, q) (either_open a b)
