@@ -26,16 +26,16 @@ unfolding digits numeral spaced text
 sizes_text = refl
 
 -- `r 5 2 3 0 0 0 0 0 0`
-row_text : text (Row 5 2 3 0 0 0 0 0 0) ≡ 114 ∷ 32 ∷ 53 ∷ 32 ∷ 50 ∷ 32 ∷ 51 ∷ 32 ∷ 48 ∷ 32 ∷ 48 ∷ 32 ∷ 48 ∷ 32 ∷ 48 ∷ 32 ∷ 48 ∷ 32 ∷ 48 ∷ []
+row_text : text (Row (5 ∷ 2 ∷ 3 ∷ 0 ∷ 0 ∷ 0 ∷ 0 ∷ 0 ∷ 0 ∷ [])) ≡ 114 ∷ 32 ∷ 53 ∷ 32 ∷ 50 ∷ 32 ∷ 51 ∷ 32 ∷ 48 ∷ 32 ∷ 48 ∷ 32 ∷ 48 ∷ 32 ∷ 48 ∷ 32 ∷ 48 ∷ 32 ∷ 48 ∷ []
 unfolding digits numeral spaced text
 row_text = refl
 
 -- `e 1 7`
-event_text : text (Event 1 1 7 0 0 0) ≡ 101 ∷ 32 ∷ 49 ∷ 32 ∷ 55 ∷ []
+event_text : text (Event 1 1 (7 ∷ 0 ∷ 0 ∷ 0 ∷ [])) ≡ 101 ∷ 32 ∷ 49 ∷ 32 ∷ 55 ∷ []
 unfolding digits numeral spaced text
 event_text = refl
 
 -- `e 3`
-event_alone_text : text (Event 3 0 0 0 0 0) ≡ 101 ∷ 32 ∷ 51 ∷ []
+event_alone_text : text (Event 3 0 (0 ∷ 0 ∷ 0 ∷ 0 ∷ [])) ≡ 101 ∷ 32 ∷ 51 ∷ []
 unfolding digits numeral spaced text
 event_alone_text = refl

@@ -2,13 +2,13 @@
 use Prim.Native.Nat.{ℕ, zero, suc, ◌-◌, ◌<◌, ◌≤◌}
 use native.Mathlib.Omega.{arith}
 use mathlib.Core.Path.{◌≡◌, refl, ap, subst, ◌∙◌}
-use mathlib.Core.List.{List, [], ◌∷◌}
+use mathlib.Core.List.{List, ◌∷◌}
 use lib.ListN.{length, take, drop, get_or, length-take}
 use lib.Seq.{take-append-le}
 use Rattle.lines.specs.Format.{Fits, Every, spaced, text, Written, NoLine}
 use Rattle.lines.specs.Parts.{LedBy, Run, NoRun}
 use Rattle.lines.specs.declared.Line.{Line}
-use Rattle.lines.specs.declared.Line.TheVariants.{Sizes, Row, Event, Bad}
+use Rattle.lines.specs.declared.Line.TheVariants.{Sizes, Row, Event}
 use Rattle.lines.proofs.Every.{every_take}
 use Rattle.lines.proofs.Text.{headed, text_head}
 use Rattle.lines.proofs.Run.{run_count, places, nine_places}
@@ -21,13 +21,11 @@ none {line} e no-event = record { none = go }
   where
     go : (l : Line) → Written line l → ⊥
     go (Sizes k c) w = omega (arith, e.first, text_head line (Sizes k c) w)
-    go (Row x1 x2 x3 x4 x5 x6 x7 x8 x9) w = omega (arith, e.first, text_head line (Row x1 x2 x3 x4 x5 x6 x7 x8 x9) w)
-    go (Event p n x1 x2 x3 x4) w =
-        let values : List ℕ = x1 ∷ x2 ∷ x3 ∷ x4 ∷ [] in
+    go (Row ns) w = omega (arith, e.first, text_head line (Row ns) w)
+    go (Event p n values) w =
         let long : length (take n values) ≤ 4 = omega (arith, length-take n values, w.right.few) in
         let fit : Every Fits (p ∷ take n values) = (w.right.fit.0, every_take Fits n values w.right.fit.1) in
         no-event (p ∷ take n values) fit (omega arith) (omega arith) (ap (drop 1) w.shown)
-    go Bad w = w.right
 
 -- no line where no run of numbers follows
 pub event_no_run : {line : List ℕ} → LedBy line 101 → NoRun (drop 1 line) → NoLine line
@@ -44,14 +42,14 @@ event_too_many e r z = none e (λ ns f some few s. omega (arith, run_count r ns 
 -- the event of one to five numbers
 pub event_written : {line : List ℕ} (count : ℕ) {all : List ℕ} → LedBy line 101 → Run (drop 1 line) count all
     → (count ≡ 0 → ⊥) → count ≤ 5
-    → Written line (Event (get_or all 0 0) (count - 1) (get_or all 1 0) (get_or all 2 0) (get_or all 3 0) (get_or all 4 0))
+    → Written line (Event (get_or all 0 0) (count - 1) (places all 1 4))
 unfolding text
 event_written zero e r some few = absurd (some refl)
 event_written {line} (suc n) {all} e r some few =
     let one : suc n - 1 ≡ n = omega arith in
     rw one
     (record {
-      right = record { fit = every_take Fits 5 (places all 0 9) fits; few = omega arith; rest = rest };
+      right = record { fit = every_take Fits 5 (places all 0 9) fits; four = refl; few = omega arith; rest = rest };
       shown = headed 101 (spaced (get_or all 0 0 ∷ take n (places all 1 4))) e (r.shown ∙ ap spaced whole);
     })
   where

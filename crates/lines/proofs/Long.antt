@@ -1,13 +1,14 @@
--- No line is longer than 100 bytes, so a program that meets a longer one needs no more of it to answer `Bad`. Assumes nothing.
+-- No line is longer than 100 bytes, so a program that meets a longer one needs no more of it to answer that it is none. Assumes nothing.
 use Prim.Native.Nat.{ℕ, zero, suc, ◌+◌, ◌*◌, ◌^◌, ◌<◌, ◌≤◌}
 use native.Mathlib.Omega.{arith}
 use mathlib.Core.Path.{ap}
 use mathlib.Core.List.{List, [], ◌∷◌, ◌++◌}
+use Rattle.std.specs.Prelude.{None}
 use lib.ListN.{length, take, length-append, length-take}
 use Rattle.lines.specs.Numeral.{numeral}
 use Rattle.lines.specs.Format.{Fits, Every, spaced, text, Right, Reads}
 use Rattle.lines.specs.declared.Line.{Line}
-use Rattle.lines.specs.declared.Line.TheVariants.{Sizes, Row, Event, Bad}
+use Rattle.lines.specs.declared.Line.TheVariants.{Sizes, Row, Event}
 use Rattle.lines.proofs.Every.{every_take}
 use Rattle.lines.proofs.Numeral.{numeral_every}
 
@@ -40,13 +41,11 @@ pub text_short : (l : Line) → Right l → length (text l) ≤ 100
 unfolding text
 text_short (Sizes k c) r =
     omega (arith, length-append (numeral k) (spaced (c ∷ [])), numeral_short k r.0, spaced_short (c ∷ []) (omega arith, tt))
-text_short (Row x1 x2 x3 x4 x5 x6 x7 x8 x9) r = omega (arith, spaced_short (x1 ∷ x2 ∷ x3 ∷ x4 ∷ x5 ∷ x6 ∷ x7 ∷ x8 ∷ x9 ∷ []) r)
-text_short (Event p n x1 x2 x3 x4) r =
-    let values : List ℕ = x1 ∷ x2 ∷ x3 ∷ x4 ∷ [] in
+text_short (Row ns) r = omega (arith, spaced_short ns r.fit, r.nine)
+text_short (Event p n values) r =
     let fit : Every Fits (p ∷ take n values) = (r.fit.0, every_take Fits n values r.fit.1) in
     omega (arith, spaced_short (p ∷ take n values) fit, length-take n values, r.few)
-text_short Bad r = absurd r
 
--- a line of more than 100 bytes is read as `Bad`
-pub long_line_bad : (bytes : List ℕ) → 100 < length bytes → Reads bytes Bad
+-- a line of more than 100 bytes is read as none
+pub long_line_bad : (bytes : List ℕ) → 100 < length bytes → Reads bytes None
 long_line_bad bytes h = record { none = λ l w. omega (arith, text_short l w.right, ap length w.shown) }

@@ -4,16 +4,16 @@ use native.Mathlib.Omega.{arith}
 use mathlib.Core.Path.{◌≡◌, refl, sym, ap, ◌∙◌}
 use mathlib.Core.Bool.{Bool, true, false}
 use mathlib.Core.List.{List, [], ◌∷◌, ◌++◌}
-use mathlib.Core.Logic.{◌⊎◌, inl, inr}
+use Rattle.std.specs.Prelude.{Option, None, Some}
 use lib.Dec.{ltb}
 use lib.ListN.{length, take, drop, get_or, length-take}
 use lib.Seq.{ext_get_or, get_or-take}
 use borrow.Author.Tests.{ltb-true, ltb-false}
 use Rattle.lines.specs.Numeral.{numeral}
-use Rattle.lines.specs.Format.{Fits, Every, spaced, text, Right, RightEvent, Written, NoLine, Reads}
+use Rattle.lines.specs.Format.{Fits, Every, spaced, text, Right, RightEvent, Written, Reads}
 use Rattle.lines.specs.Parts.{Opens}
 use Rattle.lines.specs.declared.Line.{Line}
-use Rattle.lines.specs.declared.Line.TheVariants.{Sizes, Row, Event, Bad}
+use Rattle.lines.specs.declared.Line.TheVariants.{Sizes, Row, Event}
 use Rattle.lines.proofs.Every.{every_take}
 use Rattle.lines.proofs.Opens.{opens_same}
 use Rattle.lines.proofs.Spaced.{spaced_opens, spaced_same}
@@ -56,53 +56,24 @@ values_same p q m n xs ys lx ly f g e =
 pub written_same : (bytes : List ℕ) (l m : Line) → Written bytes l → Written bytes m → l ≡ m
 unfolding text
 written_same bytes (Sizes k c) (Sizes m d) w v = sizes_same k c m d w.right v.right (sym w.shown ∙ v.shown)
-written_same bytes (Sizes k c) (Row y1 y2 y3 y4 y5 y6 y7 y8 y9) w v =
-    absurd (omega (arith, text_head bytes (Sizes k c) w, text_head bytes (Row y1 y2 y3 y4 y5 y6 y7 y8 y9) v))
-written_same bytes (Sizes k c) (Event q n y1 y2 y3 y4) w v =
-    absurd (omega (arith, text_head bytes (Sizes k c) w, text_head bytes (Event q n y1 y2 y3 y4) v))
-written_same bytes (Sizes k c) Bad w v = absurd v.right
-written_same bytes (Row x1 x2 x3 x4 x5 x6 x7 x8 x9) (Sizes m d) w v =
-    absurd (omega (arith, text_head bytes (Row x1 x2 x3 x4 x5 x6 x7 x8 x9) w, text_head bytes (Sizes m d) v))
-written_same bytes (Row x1 x2 x3 x4 x5 x6 x7 x8 x9) (Row y1 y2 y3 y4 y5 y6 y7 y8 y9) w v =
-    let xs : List ℕ = x1 ∷ x2 ∷ x3 ∷ x4 ∷ x5 ∷ x6 ∷ x7 ∷ x8 ∷ x9 ∷ [] in
-    let ys : List ℕ = y1 ∷ y2 ∷ y3 ∷ y4 ∷ y5 ∷ y6 ∷ y7 ∷ y8 ∷ y9 ∷ [] in
-    let run : xs ≡ ys = spaced_same xs ys w.right v.right (ap (drop 1) (sym w.shown ∙ v.shown)) in
-    cc
-written_same bytes (Row x1 x2 x3 x4 x5 x6 x7 x8 x9) (Event q n y1 y2 y3 y4) w v =
-    absurd (omega (arith, text_head bytes (Row x1 x2 x3 x4 x5 x6 x7 x8 x9) w, text_head bytes (Event q n y1 y2 y3 y4) v))
-written_same bytes (Row x1 x2 x3 x4 x5 x6 x7 x8 x9) Bad w v = absurd v.right
-written_same bytes (Event p m x1 x2 x3 x4) (Sizes k d) w v =
-    absurd (omega (arith, text_head bytes (Event p m x1 x2 x3 x4) w, text_head bytes (Sizes k d) v))
-written_same bytes (Event p m x1 x2 x3 x4) (Row y1 y2 y3 y4 y5 y6 y7 y8 y9) w v =
-    absurd (omega (arith, text_head bytes (Event p m x1 x2 x3 x4) w, text_head bytes (Row y1 y2 y3 y4 y5 y6 y7 y8 y9) v))
-written_same bytes (Event p m x1 x2 x3 x4) (Event q n y1 y2 y3 y4) w v =
-    let xs : List ℕ = x1 ∷ x2 ∷ x3 ∷ x4 ∷ [] in
-    let ys : List ℕ = y1 ∷ y2 ∷ y3 ∷ y4 ∷ [] in
-    let all : (p ≡ q) × (m ≡ n) × (xs ≡ ys) = values_same p q m n xs ys refl refl w.right v.right (ap (drop 1) (sym w.shown ∙ v.shown)) in
+written_same bytes (Sizes k c) (Row ms) w v = absurd (omega (arith, text_head bytes (Sizes k c) w, text_head bytes (Row ms) v))
+written_same bytes (Sizes k c) (Event q n ys) w v = absurd (omega (arith, text_head bytes (Sizes k c) w, text_head bytes (Event q n ys) v))
+written_same bytes (Row ns) (Sizes m d) w v = absurd (omega (arith, text_head bytes (Row ns) w, text_head bytes (Sizes m d) v))
+written_same bytes (Row ns) (Row ms) w v = ap Row (spaced_same ns ms w.right.fit v.right.fit (ap (drop 1) (sym w.shown ∙ v.shown)))
+written_same bytes (Row ns) (Event q n ys) w v = absurd (omega (arith, text_head bytes (Row ns) w, text_head bytes (Event q n ys) v))
+written_same bytes (Event p m xs) (Sizes k d) w v = absurd (omega (arith, text_head bytes (Event p m xs) w, text_head bytes (Sizes k d) v))
+written_same bytes (Event p m xs) (Row ms) w v = absurd (omega (arith, text_head bytes (Event p m xs) w, text_head bytes (Row ms) v))
+written_same bytes (Event p m xs) (Event q n ys) w v =
+    let all : (p ≡ q) × (m ≡ n) × (xs ≡ ys) = values_same p q m n xs ys w.right.four v.right.four w.right v.right (ap (drop 1) (sym w.shown ∙ v.shown)) in
     cc (all.0, all.1, all.2)
-written_same bytes (Event p m x1 x2 x3 x4) Bad w v = absurd v.right
-written_same bytes Bad m w v = absurd w.right
-
--- a reading is a line that the bytes are the text of, or is `Bad` where there is none
-outcome : (bytes : List ℕ) (l : Line) → Reads bytes l → Written bytes l ⊎ ((l ≡ Bad) × NoLine bytes)
-outcome bytes (Sizes k c) r = inl r
-outcome bytes (Row x1 x2 x3 x4 x5 x6 x7 x8 x9) r = inl r
-outcome bytes (Event p n x1 x2 x3 x4) r = inl r
-outcome bytes Bad r = inr (refl, r)
 
 -- two readings of one line are the same
-pub same_reading : (bytes : List ℕ) (l m : Line) → Reads bytes l → Reads bytes m → l ≡ m
-same_reading bytes l m r s = go (outcome bytes l r) (outcome bytes m s)
-  where
-    go : Written bytes l ⊎ ((l ≡ Bad) × NoLine bytes) → Written bytes m ⊎ ((m ≡ Bad) × NoLine bytes) → l ≡ m
-    go (inl w) (inl v) = written_same bytes l m w v
-    go (inl w) (inr v) = absurd (v.1.none l w)
-    go (inr w) (inl v) = absurd (w.1.none m v)
-    go (inr w) (inr v) = w.0 ∙ sym v.0
+pub same_reading : (bytes : List ℕ) (l m : Option Line) → Reads bytes l → Reads bytes m → l ≡ m
+same_reading bytes None None r s = refl
+same_reading bytes None (Some m) r s = absurd (r.none m s)
+same_reading bytes (Some l) None r s = absurd (s.none l r)
+same_reading bytes (Some l) (Some m) r s = ap Some (written_same bytes l m r s)
 
 -- every right line is read from its text
-pub every_line_read : (l : Line) → Right l → Reads (text l) l
-every_line_read (Sizes k c) r = record { right = r; shown = refl }
-every_line_read (Row x1 x2 x3 x4 x5 x6 x7 x8 x9) r = record { right = r; shown = refl }
-every_line_read (Event p n x1 x2 x3 x4) r = record { right = r; shown = refl }
-every_line_read Bad r = absurd r
+pub every_line_read : (l : Line) → Right l → Reads (text l) (Some l)
+every_line_read l r = record { right = r; shown = refl }

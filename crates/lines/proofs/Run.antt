@@ -2,22 +2,13 @@
 use Prim.Native.Nat.{ℕ, zero, suc, ◌+◌}
 use native.Mathlib.Omega.{arith}
 use mathlib.Core.Path.{◌≡◌, sym, ap, ◌∙◌}
-use mathlib.Core.Bool.{true, false}
 use mathlib.Core.List.{List, [], ◌∷◌}
 use lib.ListN.{length, take, drop, get_or, length-take, drop_of_length-le}
 use lib.Seq.{drop-cons}
 use Rattle.lines.specs.Format.{Fits, Every, spaced}
-use Rattle.lines.specs.Parts.{Run, NoRun, Found}
+use Rattle.lines.specs.Parts.{Run}
 use Rattle.lines.proofs.Every.{every_take}
 use Rattle.lines.proofs.Spaced.{spaced_same}
-
--- a run that was found
-pub found_run : {bytes : List ℕ} {count : ℕ} {all : List ℕ} → Run bytes count all → Found bytes true count all
-found_run r = record { run = λ e. r; none = λ e. absurd (let z : ◌≡◌ {A = ℕ} 0 1 = cc in omega arith) }
-
--- that there is no run was found
-pub found_none : {bytes : List ℕ} {count : ℕ} {all : List ℕ} → NoRun bytes → Found bytes false count all
-found_none r = record { run = λ e. absurd (let z : ◌≡◌ {A = ℕ} 0 1 = cc in omega arith); none = λ e. r }
 
 -- a run that the bytes are is the run that was read
 pub run_same : {bytes : List ℕ} {count : ℕ} {all : List ℕ} → Run bytes count all
@@ -43,3 +34,7 @@ listed all at (suc k) e = drop-cons all at 0 (omega arith) ∙ ap (λ (l : List 
 -- a list of nine numbers is its nine places
 pub nine_places : (all : List ℕ) → length all ≡ 9 → all ≡ places all 0 9
 nine_places all e = listed all 0 9 e
+
+-- and a list of four its four
+pub four_places : (all : List ℕ) → length all ≡ 4 → all ≡ places all 0 4
+four_places all e = listed all 0 4 e

@@ -8,7 +8,7 @@ use Rattle.lines.specs.Numeral.{numeral}
 use Rattle.lines.specs.Format.{spaced, text, Written, NoLine}
 use Rattle.lines.specs.Parts.{Unlettered, Opens, Took, NoNumber, Run, NoRun}
 use Rattle.lines.specs.declared.Line.{Line}
-use Rattle.lines.specs.declared.Line.TheVariants.{Sizes, Row, Event, Bad}
+use Rattle.lines.specs.declared.Line.TheVariants.{Sizes, Row, Event}
 use Rattle.lines.proofs.Opens.{opens_same}
 use Rattle.lines.proofs.Spaced.{spaced_stops}
 use Rattle.lines.proofs.Text.{text_head}
@@ -23,9 +23,8 @@ none {line} u no-sizes = record { none = go }
     go : (l : Line) → Written line l → ⊥
     go (Sizes k c) w =
         no-sizes k c w.right.1 (record { fits = w.right.0; shown = w.shown; stops = spaced_stops (c ∷ []) })
-    go (Row x1 x2 x3 x4 x5 x6 x7 x8 x9) w = u.no_r (text_head line (Row x1 x2 x3 x4 x5 x6 x7 x8 x9) w)
-    go (Event p n x1 x2 x3 x4) w = u.no_e (text_head line (Event p n x1 x2 x3 x4) w)
-    go Bad w = w.right
+    go (Row ns) w = u.no_r (text_head line (Row ns) w)
+    go (Event p n vs) w = u.no_e (text_head line (Event p n vs) w)
 
 -- no line where no first number stands
 pub sizes_no_number : {line : List ℕ} → Unlettered line → NoNumber line 0 → NoLine line

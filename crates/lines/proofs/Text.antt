@@ -9,7 +9,7 @@ use Rattle.lines.specs.Numeral.{numeral}
 use Rattle.lines.specs.Format.{text, spaced, Written, NoLine}
 use Rattle.lines.specs.Parts.{Digit, LedBy}
 use Rattle.lines.specs.declared.Line.{Line}
-use Rattle.lines.specs.declared.Line.TheVariants.{Sizes, Row, Event, Bad}
+use Rattle.lines.specs.declared.Line.TheVariants.{Sizes, Row, Event}
 use Rattle.lines.proofs.Numeral.{Begins, numeral_begins}
 
 -- bytes are their first byte and the rest
@@ -19,9 +19,8 @@ headed {line} b rest e s = drop-cons line 0 0 e.some ∙ cc
 -- the byte that a line of this kind begins with: a digit, `r` or `e`
 abbrev pub Head : Line → ℕ → Type 0
 Head (Sizes k c) b = Digit b
-Head (Row x1 x2 x3 x4 x5 x6 x7 x8 x9) b = b ≡ 114
-Head (Event p n x1 x2 x3 x4) b = b ≡ 101
-Head Bad b = ⊥
+Head (Row ns) b = b ≡ 114
+Head (Event p n vs) b = b ≡ 101
 
 -- bytes that begin with a digit have it at place 0
 begins_at : (bytes : List ℕ) → Begins bytes → Digit (get_or bytes 0 0)
@@ -33,9 +32,8 @@ begins_at (b ∷ bytes) h = h
 pub text_head : (bytes : List ℕ) (l : Line) → Written bytes l → Head l (get_or bytes 0 0)
 unfolding text
 text_head bytes (Sizes k c) w = rw w.shown (begins_at (numeral k ++ spaced (c ∷ [])) (numeral_begins k (spaced (c ∷ []))))
-text_head bytes (Row x1 x2 x3 x4 x5 x6 x7 x8 x9) w = rw w.shown
-text_head bytes (Event p n x1 x2 x3 x4) w = rw w.shown
-text_head bytes Bad w = w.right
+text_head bytes (Row ns) w = rw w.shown
+text_head bytes (Event p n vs) w = rw w.shown
 
 -- no line is empty
 pub empty_none : {line : List ℕ} → length line ≡ 0 → NoLine line
@@ -46,6 +44,5 @@ empty_none {line} e = record { none = λ l w. go l (text_head line l w) }
 
     go : (l : Line) → Head l (get_or line 0 0) → ⊥
     go (Sizes k c) h = omega (arith, none)
-    go (Row x1 x2 x3 x4 x5 x6 x7 x8 x9) h = omega (arith, none)
-    go (Event p n x1 x2 x3 x4) h = omega (arith, none)
-    go Bad h = h
+    go (Row ns) h = omega (arith, none)
+    go (Event p n vs) h = omega (arith, none)

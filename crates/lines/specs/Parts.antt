@@ -1,9 +1,9 @@
 -- What the reader's parts promise: a number at a place, and the numbers from a place to the line's end. Assumes nothing.
-use Rattle.std.specs.Prelude.{ℕ, ◌<◌, ◌≤◌, ◌≡◌, Bool, true, false, List, [], ◌∷◌, ◌++◌, length, take, drop, get_or}
+use Rattle.std.specs.Prelude.{ℕ, ◌<◌, ◌≤◌, ◌≡◌, Option, None, Some, List, [], ◌∷◌, ◌++◌, length, take, drop, get_or}
 use Rattle.lines.specs.Numeral.{numeral}
 use Rattle.lines.specs.Format.{Fits, Every, spaced}
 use Rattle.lines.specs.declared.Token.{Token}
-use Rattle.lines.specs.declared.Token.TheVariants.{Number, Nothing}
+use Rattle.lines.specs.declared.Numbers.{Numbers}
 
 -- the byte is a decimal digit
 pub record Digit (b : ℕ) : Type 0 where
@@ -31,10 +31,10 @@ pub record Took (line : List ℕ) (at n next : ℕ) : Type 0 where
 pub record NoNumber (line : List ℕ) (at : ℕ) : Type 0 where
   pub none : (n : ℕ) (rest : List ℕ) → Opens (drop at line) n rest → ⊥
 
--- a token is the number at the place, or `Nothing` where no number stands
-abbrev pub IsToken : List ℕ → ℕ → Token → Type 0
-IsToken line at (Number n next) = Took line at n next
-IsToken line at Nothing = NoNumber line at
+-- a token is the number at the place, or none where no number stands
+abbrev pub IsToken : List ℕ → ℕ → Option Token → Type 0
+IsToken line at (Some t) = Took line at t.number t.next
+IsToken line at None = NoNumber line at
 
 -- the bytes are no run of at most nine numbers of the input
 pub record NoRun (bytes : List ℕ) : Type 0 where
@@ -48,10 +48,10 @@ pub record Run (bytes : List ℕ) (count : ℕ) (all : List ℕ) : Type 0 where
   pub rest : (i : ℕ) → count ≤ i → get_or all i 0 ≡ 0
   pub shown : bytes ≡ spaced (take count all)
 
--- what was found: a run, where it is whole, and else that there is none
-pub record Found (bytes : List ℕ) (whole : Bool) (count : ℕ) (all : List ℕ) : Type 0 where
-  pub run : whole ≡ true → Run bytes count all
-  pub none : whole ≡ false → NoRun bytes
+-- what was found: a run, or that there is none
+abbrev pub Found : List ℕ → Option Numbers → Type 0
+Found bytes (Some ns) = Run bytes ns.count ns.all
+Found bytes None = NoRun bytes
 
 -- the line's first byte is b
 pub record LedBy (line : List ℕ) (b : ℕ) : Type 0 where
