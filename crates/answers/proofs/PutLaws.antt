@@ -1,12 +1,13 @@
 -- Laws of `Put`: byte after byte, and one text behind another. Assumes nothing.
-use Prim.Native.Nat.{ℕ, suc, ◌+◌, ◌*◌, ◌/◌, ◌%◌, ◌≤◌, ◌<◌}
+use Prim.Native.Nat.{ℕ, suc, ◌+◌, ◌-◌, ◌*◌, ◌/◌, ◌%◌, ◌≤◌, ◌<◌}
 use native.Mathlib.Omega.{arith}
 use native.Mathlib.Nat.{add-zero}
 use native.Mathlib.Numerals.{add-one}
 use mathlib.Core.Path.{◌≡◌, refl, sym, ap, subst, ◌∙◌}
 use mathlib.Core.List.{List, [], ◌∷◌, ◌++◌, append_assoc, append-nil}
 use lib.ListN.{length, take, drop, set, get_or, length-append, length-set, take-append-drop}
-use lib.Seq.{take-suc, take-suc-set, take_all, drop-set-lt, drop-drop}
+use lib.Seq.{take-suc, take-suc-set, take_all, take_at, length-take-le, drop-set-lt, drop-drop}
+use borrow.Rule.Slice.PartMut.{put_mid, mid_len, same_len_mid, drop_put}
 use Rattle.lines.specs.Numeral.{numeral}
 use Rattle.lines.specs.Format.{spaced}
 use Rattle.lines.proofs.Numeral.{numeral_grows}
@@ -60,6 +61,22 @@ putting_all {before} {at} {text} {after} {i} room p h =
       inside = omega (arith, p.few, p.size);
       shown = p.shown ∙ ap (λ (l : List ℕ). take at before ++ l) (take_all i text h);
       rest = p.rest;
+    }
+
+-- a text that is copied over a part of the slice
+pub put_copied : {before : List ℕ} {at : ℕ} {text copy : List ℕ} → at + length text ≤ length before → copy ≡ text
+    → Put before at text (put_mid at ((at + length text) - at) before copy) (at + length text)
+put_copied {before} {at} {text} {copy} h e =
+    let many : length copy ≡ (at + length text) - at = ap length e ∙ omega arith in
+    let front : length (take at before ++ copy) ≡ at + length text =
+    omega (arith, length-append (take at before) copy, length-take-le at before (omega arith), ap length e) in
+    record {
+      past = refl;
+      inside = omega (arith, same_len_mid at ((at + length text) - at) before copy (many ∙ sym (mid_len at (at + length text) before h)));
+      shown = ap (take (at + length text)) (sym (append_assoc (take at before) copy _))
+          ∙ take_at (take at before ++ copy) _ (at + length text) front
+          ∙ ap (λ (l : List ℕ). take at before ++ l) e;
+      rest = drop_put at (at + length text) before copy (omega arith) h many;
     }
 
 -- no text

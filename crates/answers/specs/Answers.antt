@@ -1,11 +1,11 @@
 -- The lines of the output, as bytes, and what it is to put bytes into a slice. Assumes nothing: these are definitions.
-use Rattle.std.specs.Prelude.{ℕ, ◌+◌, ◌≤◌, ◌≡◌, Bool, true, false, List, [], ◌∷◌, ◌++◌, length, take, drop}
+use Rattle.std.specs.Prelude.{ℕ, ◌+◌, ◌≤◌, ◌≡◌, Bool, true, false, Option, None, Some, List, [], ◌∷◌, ◌++◌, length, take, drop}
 use Rattle.lines.specs.Numeral.{numeral}
 use Rattle.lines.specs.Format.{spaced}
 use Rattle.meaning.specs.declared.Answer.{Answer}
 use Rattle.meaning.specs.declared.Answer.TheVariants.{Started, Verdict, Refused}
 use Rattle.answers.specs.declared.Said.{Said}
-use Rattle.answers.specs.declared.Said.TheVariants.{Nothing, Bad, NoStart, Event}
+use Rattle.answers.specs.declared.Said.TheVariants.{Bad, NoStart, Event}
 use Rattle.answers.specs.declared.Told.{Told}
 
 -- the text was put from place `at` on: the bytes before it are as they were, it stands behind them, `next` is the place past it, and the bytes from
@@ -54,11 +54,11 @@ headed true = header
 headed false = []
 
 -- what is said of a line of the input
-unfoldable pub said_line : Said → List ℕ
-said_line Nothing = []
-said_line Bad = bad_line
-said_line (NoStart number place) = no_start number place
-said_line (Event ordinal answer) = answer_line ordinal answer
+unfoldable pub said_line : Option Said → List ℕ
+said_line None = []
+said_line (Some Bad) = bad_line
+said_line (Some (NoStart number place)) = no_start number place
+said_line (Some (Event ordinal answer)) = answer_line ordinal answer
 
 -- all that is put out for a line of the input
 unfoldable pub told_lines : Told → List ℕ

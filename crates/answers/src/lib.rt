@@ -7,24 +7,22 @@ ghost use Rattle.answers.specs.Answers.{Put, word_line, word, headed, answered, 
 
 use meaning::Answer;
 
-// What is put out for a line of the input, beside the header.
-#[derive(Drop)]
+// What is said of a line of the input.
+#[derive(Clone, Copy)]
 pub enum Said {
-    // Nothing.
-    Nothing,
     // That the line does not read.
     Bad,
-    // The number and the place of a start that is refused.
-    NoStart(u32, u32),
+    // That the start is refused.
+    NoStart { number: u32, place: u32 },
     // An event's ordinal and its answer.
-    Event(u64, Answer),
+    Event { ordinal: u64, answer: Answer },
 }
 
-// What is put out for a line of the input: the header where it starts the rule, and then what is said of the line.
-#[derive(Drop)]
+// What is put out for a line of the input: the header where it starts the rule, and then what is said of the line, if anything is.
+#[derive(Clone, Copy)]
 pub struct Told {
     pub header: bool,
-    pub said: Said,
+    pub said: Option<Said>,
 }
 
 // The bytes, from `at` on; the answer is the place past them.
@@ -32,12 +30,9 @@ fn put(out: &mut [u8], at: usize, bytes: &[u8]) -> usize
     requires { at + length bytes.now ≤ length out.old }
     ensures { Put out.old at bytes.now out.new result }
 {
-    let mut i = 0;
-    while i < bytes.len() {
-        out[at + i] = bytes[i];
-        i += 1;
-    }
-    at + i
+    let next = at + bytes.len();
+    out[at..next].copy_from_slice(bytes);
+    next
 }
 
 // A number's digits.
@@ -61,7 +56,7 @@ fn put_spaced(out: &mut [u8], at: usize, n: u32) -> usize
     ensures upper_bound { result ≤ at + 11 }
 {
     out[at] = b' ';
-    put_number(out, at + 1, n as u64)
+    put_number(out, at + 1, u64::from(n))
 }
 
 // A word, two numbers and a line end.
@@ -126,14 +121,13 @@ fn put_header(out: &mut [u8], at: usize, header: bool) -> usize
 // What is said of a line.
 fn put_said(out: &mut [u8], at: usize, said: Said) -> usize
     requires { at + 51 ≤ length out.old }
-    ensures put { Put out.old at (said_line said) out.new result }
+    ensures put { Put out.old at (said_line (Some said)) out.new result }
     ensures upper_bound { result ≤ at + 51 }
 {
     match said {
-        Said::Nothing => at,
         Said::Bad => put(out, at, b"bad line\n"),
-        Said::NoStart(number, place) => put_line(out, at, b"no start", number, place),
-        Said::Event(ordinal, answer) => put_answer(out, at, ordinal, answer),
+        Said::NoStart { number, place } => put_line(out, at, b"no start", number, place),
+        Said::Event { ordinal, answer } => put_answer(out, at, ordinal, answer),
     }
 }
 
@@ -143,7 +137,9 @@ pub fn put_told(out: &mut [u8], at: usize, told: Told) -> usize
     ensures put { Put out.old at (told_lines told) out.new result }
     ensures upper_bound { result ≤ at + 75 }
 {
-    let said = told.said;
     let next = put_header(out, at, told.header);
-    put_said(out, next, said)
+    match told.said {
+        Some(said) => put_said(out, next, said),
+        None => next,
+    }
 }

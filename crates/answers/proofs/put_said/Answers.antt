@@ -1,12 +1,7 @@
 -- `answers::put_said` meets its contract, by what is said. Assumes nothing.
 use native.Mathlib.Omega.{arith}
-use Rattle.answers.proofs.PutLaws.{put_none}
 use Rattle.answers.specs.Answers.{said_line, no_start}
 use Rattle.answers.proofs.put_said.Goals as goal
-
-pub returns-in-Nothing : goal.returns-in-Nothing
-unfolding said_line
-returns-in-Nothing c = rw c.in-Nothing.is (record { put = put_none (omega (arith, c.requires)); upper_bound = omega arith })
 
 pub returns-in-Bad : goal.returns-in-Bad
 unfolding said_line

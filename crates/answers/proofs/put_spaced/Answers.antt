@@ -7,11 +7,12 @@ use Rattle.answers.proofs.NumberLaws.{narrow_few}
 use Rattle.answers.proofs.put_spaced.Goals as goal
 
 pub put_number-requires : goal.put_number-requires
-put_number-requires c = simp length-set (omega (arith, c.requires, narrow_few c.args.n c.ranges.n.fits))
+put_number-requires c = rw c.from.ensures (simp length-set (omega (arith, c.requires, narrow_few c.args.n c.ranges.n.fits)))
 
 pub shape_of-out : goal.shape_of-out
 shape_of-out c = c.put_number.auto.out ∙ simp length-set
 
 pub returns : goal.returns
 returns c =
-    record { put = put_both (put_byte 32 (omega (arith, c.requires))) c.put_number.ensures; upper_bound = omega (arith, c.put_number.ensures.past, narrow_few c.args.n c.ranges.n.fits) }
+    let digits = rw c.from.ensures at c.put_number.ensures in
+    record { put = put_both (put_byte 32 (omega (arith, c.requires))) digits; upper_bound = omega (arith, digits.past, narrow_few c.args.n c.ranges.n.fits) }
