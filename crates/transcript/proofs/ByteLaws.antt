@@ -4,6 +4,7 @@ use mathlib.Core.Path.{◌≡◌, refl, sym, ap, ◌∙◌}
 use mathlib.Core.Bool.{Bool, true, false, cond}
 use mathlib.Core.List.{List, [], ◌∷◌, ◌++◌, append_assoc}
 use lib.Dec.{eqb}
+use Rattle.std.specs.Prelude.{Option, None, Some}
 use Rattle.transcript.specs.Reading.{line_of}
 use Rattle.lines.specs.declared.Line.{Line}
 use Rattle.lines.specs.declared.Line.TheVariants as line
@@ -65,12 +66,12 @@ unfolding output
 output_by_bytes input = by_bytes (record { stand = opening; begun = [] }) input
 
 -- past the last line nothing is printed
-tell_ended : (l : Line) → tell ended l ≡ silent ended
+tell_ended : (l : Option Line) → tell ended l ≡ silent ended
 unfolding tell tell_sizes tell_row tell_event tell_bad due judged silent
-tell_ended (line.Sizes k C) = refl
-tell_ended (line.Row a b c d e f g h i) = refl
-tell_ended (line.Event p n a b c d) = refl
-tell_ended line.Bad = refl
+tell_ended (Some (line.Sizes k C)) = refl
+tell_ended (Some (line.Row nine)) = refl
+tell_ended (Some (line.Event p n values)) = refl
+tell_ended None = refl
 
 byte_ended : (begun : List ℕ) (b : ℕ) → ((byte_leaves (record { stand = ended; begun = begun }) b).stand ≡ ended) × (byte_prints (record { stand = ended; begun = begun }) b ≡ [])
 unfolding byte_leaves byte_prints silent

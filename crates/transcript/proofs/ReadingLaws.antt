@@ -5,15 +5,17 @@ use mathlib.Core.Path.{◌≡◌, refl, sym, ap, ◌∙◌}
 use mathlib.Core.Bool.{Bool, true, false, cond, ◌&&◌, true≢false}
 use mathlib.Core.List.{List, [], ◌∷◌, ◌++◌, append_assoc}
 use lib.Dec.{eqb, ltb, leb}
+use Rattle.std.specs.Prelude.{Option, None, Some}
 use lib.ListN.{length, take, drop, get_or, length-take, get_or-eq_default}
 use lib.Seq.{get_or-take, get_or-drop}
 use borrow.Author.Tests.{ltb-true, ltb-false, leb-true, eqb-true, lt-ltb, le-leb, eq-eqb, ne_eqb}
 use Rattle.lines.specs.Numeral.{numeral}
 use Rattle.lines.specs.Format.{Fits, Every, spaced, text, Right, Written, Reads}
 use Rattle.lines.specs.declared.Line.{Line}
-use Rattle.lines.specs.declared.Line.TheVariants.{Sizes, Row, Event, Bad}
+use Rattle.lines.specs.declared.Line.TheVariants.{Sizes, Row, Event}
 use Rattle.lines.proofs.Numeral.{numeral_every}
 use Rattle.lines.proofs.Text.{text_head}
+use Rattle.lines.proofs.Run.{nine_places, four_places}
 use Rattle.lines.proofs.Readings.{same_reading}
 use Rattle.transcript.specs.Reading.{numbers_from, row_with, event_with, sizes_with, candidate, all_fit, all_zero, right_line, same_bytes, line_of}
 
@@ -63,13 +65,13 @@ candidate_text (Sizes k c) r =
     let head = text_head (text (Sizes k c)) (Sizes k c) (record { right = r; shown = refl }) in
     rw (ne_eqb (get_or (numeral k ++ spaced (c ∷ [])) 0 0) 114 (λ e. omega (arith, e, head.high)), ne_eqb (get_or (numeral k ++ spaced (c ∷ [])) 0 0) 101 (λ e. omega (arith, e, head.high)))
     (ap sizes_with (numeral_number k (spaced (c ∷ [])) ∙ spaced_numbers k (c ∷ [])))
-candidate_text (Row a b c d e f g h i) r = ap row_with (spaced_numbers 0 (a ∷ b ∷ c ∷ d ∷ e ∷ f ∷ g ∷ h ∷ i ∷ []))
-candidate_text (Event p n a b c d) r =
-    let values : List ℕ = a ∷ b ∷ c ∷ d ∷ [] in
+candidate_text (Row nine) r = ap row_with (spaced_numbers 0 nine) ∙ ap Row (sym (nine_places nine r.nine))
+candidate_text (Event p n values) r =
     let count : length (0 ∷ p ∷ take n values) - 2 ≡ n = omega (arith, length-take n values, r.few) in
     let at : (i : ℕ) → get_or (take n values) i 0 ≡ get_or values i 0 = λ i. take_reads n values i r.rest in
-    ap event_with (spaced_numbers 0 (p ∷ take n values)) ∙ (λ i. Event p (count i) (at 0 i) (at 1 i) (at 2 i) (at 3 i))
-candidate_text Bad r = absurd r
+    ap event_with (spaced_numbers 0 (p ∷ take n values))
+    ∙ (λ i. Event p (count i) (at 0 i ∷ at 1 i ∷ at 2 i ∷ at 3 i ∷ []))
+    ∙ ap (Event p n) (sym (four_places values r.four))
 
 -- numbers that fit pass the test, and numbers that pass it fit
 fit_passes : (ns : List ℕ) → Every Fits ns → all_fit ns ≡ true
@@ -109,24 +111,28 @@ drops_rest n values zeros j h =
 right_passes : (l : Line) → Right l → right_line l ≡ true
 unfolding right_line
 right_passes (Sizes k c) r = rw (fit_passes (k ∷ []) (r.0, tt), le-leb c 512 r.1)
-right_passes (Row a b c d e f g h i) r = fit_passes (a ∷ b ∷ c ∷ d ∷ e ∷ f ∷ g ∷ h ∷ i ∷ []) r
-right_passes (Event p n a b c d) r =
-    rw (fit_passes (p ∷ a ∷ b ∷ c ∷ d ∷ []) r.fit, le-leb n 4 r.few)
-    (zero_passes (drop n (a ∷ b ∷ c ∷ d ∷ [])) (rest_drops n (a ∷ b ∷ c ∷ d ∷ []) r.rest))
-right_passes Bad r = absurd r
+right_passes (Row nine) r = rw (eq-eqb (length nine) 9 r.nine) (fit_passes nine r.fit)
+right_passes (Event p n values) r =
+    rw (fit_passes (p ∷ values) r.fit, eq-eqb (length values) 4 r.four, le-leb n 4 r.few) (zero_passes (drop n values) (rest_drops n values r.rest))
 
 passes_right : (l : Line) → right_line l ≡ true → Right l
 unfolding right_line
 passes_right (Sizes k c) e =
     let both = both_true (all_fit (k ∷ [])) (leb c 512) e in
     ((passes_fit (k ∷ []) both.0).0, leb-true c 512 both.1)
-passes_right (Row a b c d e f g h i) t = passes_fit (a ∷ b ∷ c ∷ d ∷ e ∷ f ∷ g ∷ h ∷ i ∷ []) t
-passes_right (Event p n a b c d) e =
-    let values : List ℕ = a ∷ b ∷ c ∷ d ∷ [] in
-    let both = both_true (all_fit (p ∷ values)) (leb n 4 && all_zero (drop n values)) e in
-    let more = both_true (leb n 4) (all_zero (drop n values)) both.1 in
-    record { fit = passes_fit (p ∷ values) both.0; few = leb-true n 4 more.0; rest = drops_rest n values (passes_zero (drop n values) more.1) }
-passes_right Bad e = absurd (true≢false (sym e))
+passes_right (Row nine) e =
+    let both = both_true (eqb (length nine) 9) (all_fit nine) e in
+    record { nine = eqb-true (length nine) 9 both.0; fit = passes_fit nine both.1 }
+passes_right (Event p n values) e =
+    let both = both_true (all_fit (p ∷ values)) (eqb (length values) 4 && (leb n 4 && all_zero (drop n values))) e in
+    let long = both_true (eqb (length values) 4) (leb n 4 && all_zero (drop n values)) both.1 in
+    let more = both_true (leb n 4) (all_zero (drop n values)) long.1 in
+    record {
+      fit = passes_fit (p ∷ values) both.0;
+      four = eqb-true (length values) 4 long.0;
+      few = leb-true n 4 more.0;
+      rest = drops_rest n values (passes_zero (drop n values) more.1);
+    }
 
 same_passes : (xs : List ℕ) → same_bytes xs xs ≡ true
 unfolding same_bytes
@@ -144,13 +150,6 @@ passes_same (x ∷ xs) (y ∷ ys) e =
     let more : xs ≡ ys = passes_same xs ys both.1 in
     cc
 
--- the bytes of a right line read as it
-written_reads : (bytes : List ℕ) (l : Line) → Written bytes l → Reads bytes l
-written_reads bytes (Sizes k c) w = w
-written_reads bytes (Row a b c d e f g h i) w = w
-written_reads bytes (Event p n a b c d) w = w
-written_reads bytes Bad w = absurd w.right
-
 -- the candidate of a right line's bytes passes both tests
 written_passes : (bytes : List ℕ) (l : Line) → Written bytes l → (right_line (candidate bytes) && same_bytes (text (candidate bytes)) bytes) ≡ true
 written_passes bytes l w =
@@ -161,13 +160,12 @@ pub line_reads : (bytes : List ℕ) → Reads bytes (line_of bytes)
 unfolding line_of
 line_reads bytes = go (right_line (candidate bytes) && same_bytes (text (candidate bytes)) bytes) refl
   where
-    go : (q : Bool) → (right_line (candidate bytes) && same_bytes (text (candidate bytes)) bytes) ≡ q → Reads bytes (cond q (candidate bytes) Bad)
+    go : (q : Bool) → (right_line (candidate bytes) && same_bytes (text (candidate bytes)) bytes) ≡ q → Reads bytes (cond q (Some (candidate bytes)) None)
     go true e =
         let both = both_true (right_line (candidate bytes)) (same_bytes (text (candidate bytes)) bytes) e in
-        written_reads bytes (candidate bytes)
-        (record { right = passes_right (candidate bytes) both.0; shown = sym (passes_same (text (candidate bytes)) bytes both.1) })
+        record { right = passes_right (candidate bytes) both.0; shown = sym (passes_same (text (candidate bytes)) bytes both.1) }
     go false e = record { none = λ l w. absurd (true≢false (sym (written_passes bytes l w) ∙ e)) }
 
 -- and as nothing else
-pub reads_as : (bytes : List ℕ) (l : Line) → Reads bytes l → l ≡ line_of bytes
+pub reads_as : (bytes : List ℕ) (l : Option Line) → Reads bytes l → l ≡ line_of bytes
 reads_as bytes l r = same_reading bytes l (line_of bytes) r (line_reads bytes)

@@ -1,6 +1,6 @@
 -- What the program prints for an input, whatever its bytes: line after line, by the format of a line and by the outcomes of start and event.
 -- Nothing here knows of blocks or buffers. Assumes nothing: these are definitions.
-use Rattle.std.specs.Prelude.{ℕ, ◌+◌, ◌*◌, cond, List, [], ◌∷◌, ◌++◌, eqb, ltb, leb, length, replicate}
+use Rattle.std.specs.Prelude.{ℕ, ◌+◌, ◌*◌, cond, Option, None, Some, List, [], ◌∷◌, ◌++◌, eqb, ltb, leb, length, replicate, get_or}
 use Rattle.meaning.specs.declared.Event.{Event}
 use Rattle.meaning.specs.declared.Answer.{Answer}
 use Rattle.meaning.specs.declared.Answer.TheVariants.{Started, Verdict, Refused}
@@ -85,19 +85,20 @@ unfoldable pub tell_event : Stand → Event → Reply
 tell_event st e = judged e (due st).bytes (due st).stand
 
 -- the event of a line is one fact, which stands at all eight places; its fourth value only makes the count 4, which is refused
-unfoldable pub event_of : ℕ → ℕ → ℕ → ℕ → ℕ → Event
-event_of p n a b c =
+unfoldable pub event_of : ℕ → ℕ → List ℕ → Event
+event_of p n values =
     record {
       count = 1;
-      facts = replicate 8 (record { predicate = p; count = n; values = record { 0 = a } ∷ record { 0 = b } ∷ record { 0 = c } ∷ [] });
+      facts = replicate 8
+          (record { predicate = p; count = n; values = record { 0 = get_or values 0 0 } ∷ record { 0 = get_or values 1 0 } ∷ record { 0 = get_or values 2 0 } ∷ [] });
     }
 
--- one line
-unfoldable pub tell : Stand → Line → Reply
-tell st (line.Sizes k C) = tell_sizes st k C
-tell st (line.Row a b c d e f g h i) = tell_row st (a ∷ b ∷ c ∷ d ∷ e ∷ f ∷ g ∷ h ∷ i ∷ [])
-tell st (line.Event p n a b c d) = tell_event st (event_of p n a b c)
-tell st line.Bad = tell_bad st
+-- one line, or what reads as none
+unfoldable pub tell : Stand → Option Line → Reply
+tell st (Some (line.Sizes k C)) = tell_sizes st k C
+tell st (Some (line.Row nine)) = tell_row st nine
+tell st (Some (line.Event p n values)) = tell_event st (event_of p n values)
+tell st None = tell_bad st
 
 -- the lines, one after the other, and the end
 unfoldable pub told : Stand → List (List ℕ) → List ℕ

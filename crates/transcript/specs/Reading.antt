@@ -1,9 +1,9 @@
 -- The line that some bytes are, computed: the one candidate is taken if it is right and the bytes are its text. That this is the reading of the
 -- line format (`Reads`) is a theorem. Assumes nothing: these are definitions.
-use Rattle.std.specs.Prelude.{ℕ, ◌+◌, ◌-◌, ◌*◌, Bool, true, false, cond, ◌&&◌, List, [], ◌∷◌, eqb, ltb, leb, length, drop, get_or}
+use Rattle.std.specs.Prelude.{ℕ, ◌+◌, ◌-◌, ◌*◌, Bool, true, false, cond, ◌&&◌, Option, None, Some, List, [], ◌∷◌, eqb, ltb, leb, length, drop, get_or}
 use Rattle.lines.specs.Format.{text}
 use Rattle.lines.specs.declared.Line.{Line}
-use Rattle.lines.specs.declared.Line.TheVariants.{Sizes, Row, Event, Bad}
+use Rattle.lines.specs.declared.Line.TheVariants.{Sizes, Row, Event}
 
 -- the numbers of the bytes, after the digits of n: a space ends a number, and any other byte counts as a digit
 unfoldable pub numbers_from : ℕ → List ℕ → List ℕ
@@ -13,10 +13,11 @@ numbers_from n (b ∷ bs) = cond (eqb b 32) (n ∷ numbers_from 0 bs) (numbers_f
 -- the line of each kind that has these numbers; before the first space of a row or an event stands none, which counts as 0
 unfoldable pub row_with : List ℕ → Line
 row_with ns =
-    Row (get_or ns 1 0) (get_or ns 2 0) (get_or ns 3 0) (get_or ns 4 0) (get_or ns 5 0) (get_or ns 6 0) (get_or ns 7 0) (get_or ns 8 0) (get_or ns 9 0)
+    Row
+    (get_or ns 1 0 ∷ get_or ns 2 0 ∷ get_or ns 3 0 ∷ get_or ns 4 0 ∷ get_or ns 5 0 ∷ get_or ns 6 0 ∷ get_or ns 7 0 ∷ get_or ns 8 0 ∷ get_or ns 9 0 ∷ [])
 
 unfoldable pub event_with : List ℕ → Line
-event_with ns = Event (get_or ns 1 0) (length ns - 2) (get_or ns 2 0) (get_or ns 3 0) (get_or ns 4 0) (get_or ns 5 0)
+event_with ns = Event (get_or ns 1 0) (length ns - 2) (get_or ns 2 0 ∷ get_or ns 3 0 ∷ get_or ns 4 0 ∷ get_or ns 5 0 ∷ [])
 
 unfoldable pub sizes_with : List ℕ → Line
 sizes_with ns = Sizes (get_or ns 0 0) (get_or ns 1 0)
@@ -41,9 +42,8 @@ all_zero (n ∷ ns) = eqb n 0 && all_zero ns
 -- the test of `Right`
 unfoldable pub right_line : Line → Bool
 right_line (Sizes k c) = all_fit (k ∷ []) && leb c 512
-right_line (Row a b c d e f g h i) = all_fit (a ∷ b ∷ c ∷ d ∷ e ∷ f ∷ g ∷ h ∷ i ∷ [])
-right_line (Event p n a b c d) = all_fit (p ∷ a ∷ b ∷ c ∷ d ∷ []) && (leb n 4 && all_zero (drop n (a ∷ b ∷ c ∷ d ∷ [])))
-right_line Bad = false
+right_line (Row numbers) = eqb (length numbers) 9 && all_fit numbers
+right_line (Event p n values) = all_fit (p ∷ values) && (eqb (length values) 4 && (leb n 4 && all_zero (drop n values)))
 
 unfoldable pub same_bytes : List ℕ → List ℕ → Bool
 same_bytes [] [] = true
@@ -51,6 +51,6 @@ same_bytes [] (y ∷ ys) = false
 same_bytes (x ∷ xs) [] = false
 same_bytes (x ∷ xs) (y ∷ ys) = eqb x y && same_bytes xs ys
 
--- the line that the bytes are, or `Bad`
-unfoldable pub line_of : List ℕ → Line
-line_of bytes = cond (right_line (candidate bytes) && same_bytes (text (candidate bytes)) bytes) (candidate bytes) Bad
+-- the line that the bytes are, or none
+unfoldable pub line_of : List ℕ → Option Line
+line_of bytes = cond (right_line (candidate bytes) && same_bytes (text (candidate bytes)) bytes) (Some (candidate bytes)) None
