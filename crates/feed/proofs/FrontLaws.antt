@@ -11,6 +11,7 @@ use lib.Seq.{take_all, take-append-le, take-suc-set}
 use borrow.Author.Tests.{ltb-true, ltb-false}
 use Rattle.lines.specs.Format.{Reads}
 use Rattle.lines.specs.declared.Line.{Line}
+use Rattle.std.specs.Prelude.{Option}
 use Rattle.feed.specs.Feeds.{Held, holding, hold_byte}
 use Rattle.feed.proofs.HeldLaws.{held_reads, hold_in, hold_out}
 
@@ -55,5 +56,5 @@ fronts_more h bytes b p = go (ltb h.count 101) refl
         })
 
 -- the line is read by what is held of it
-pub fronts_read : (h : Held) (bytes : List ℕ) (l : Line) → Fronts h bytes → Reads (take h.count h.line) l → Reads bytes l
+pub fronts_read : (h : Held) (bytes : List ℕ) (l : Option Line) → Fronts h bytes → Reads (take h.count h.line) l → Reads bytes l
 fronts_read h bytes l p r = held_reads bytes l (subst (λ (bs : List ℕ). Reads bs l) p.front r)

@@ -1,31 +1,32 @@
 -- What is held of a line, byte by byte; and a line is read right by its first 101 bytes, since no right line is longer than 100: a longer one is
 -- bad, and so is what is held of it. Assumes nothing.
-use Prim.Native.Nat.{ℕ, ◌+◌, ◌≤◌, ◌<◌}
+use Prim.Native.Nat.{ℕ, ◌+◌, ◌-◌, min, ◌≤◌, ◌<◌}
 use native.Mathlib.Omega.{arith}
 use native.Mathlib.Numerals.{add-one}
 use mathlib.Core.Path.{◌≡◌, refl, sym, ap, subst, ◌∙◌}
 use mathlib.Core.Bool.{Bool, true, false}
-use mathlib.Core.List.{List, [], ◌∷◌, ◌++◌}
+use mathlib.Core.List.{List, [], ◌∷◌, ◌++◌, append_assoc}
 use lib.Dec.{ltb}
-use lib.ListN.{length, take, drop, set, get_or, length-set, take-append-drop}
-use lib.Seq.{take_all, take-suc, length-take-le}
+use lib.ListN.{length, take, drop, set, length-append, length-drop, length-set, take-append-drop, drop_of_length-le}
+use borrow.Rule.Slice.PartMut.{put_mid, Post-is}
+use lib.Seq.{take_all, take-suc-set, length-take-le, drop-set-lt}
 use borrow.Author.Tests.{ltb-true, ltb-false, lt-ltb, le-ltb}
 use Rattle.lines.specs.Format.{Reads}
 use Rattle.lines.specs.declared.Line.{Line}
-use Rattle.lines.specs.declared.Line.TheVariants.{Bad}
+use Rattle.std.specs.Prelude.{Option, None}
 use Rattle.lines.proofs.Readings.{same_reading}
 use Rattle.lines.proofs.Long.{long_line_bad}
 use Rattle.feed.specs.Feeds.{Held, holding, hold_byte, hold_bytes}
 
-pub held_reads : (bytes : List ℕ) (l : Line) → Reads (take 101 bytes) l → Reads bytes l
+pub held_reads : (bytes : List ℕ) (l : Option Line) → Reads (take 101 bytes) l → Reads bytes l
 held_reads bytes l r = go (ltb 101 (length bytes)) refl
   where
     go : (q : Bool) → ltb 101 (length bytes) ≡ q → Reads bytes l
     go true e =
         let h : 101 < length bytes = ltb-true 101 (length bytes) e in
         let cut : length (take 101 bytes) ≡ 101 = length-take-le 101 bytes (omega arith) in
-        let bad : l ≡ Bad = same_reading (take 101 bytes) l Bad r (long_line_bad (take 101 bytes) (omega arith)) in
-        subst (λ (x : Line). Reads bytes x) (sym bad) (long_line_bad bytes (omega arith))
+        let bad : l ≡ None = same_reading (take 101 bytes) l None r (long_line_bad (take 101 bytes) (omega arith)) in
+        subst (λ (x : Option Line). Reads bytes x) (sym bad) (long_line_bad bytes (omega arith))
     go false e = subst (λ (bs : List ℕ). Reads bs l) (take_all 101 bytes (ltb-false 101 (length bytes) e)) r
 
 -- some bytes and then some more
@@ -49,43 +50,50 @@ unfolding hold_bytes
 hold_full h [] full = refl
 hold_full h (b ∷ bs) full = ap (λ (g : Held). hold_bytes g bs) (hold_out h b full) ∙ hold_full h bs full
 
--- the first i of the bytes are held
-pub record Holding (held : ℕ) (before bytes : List ℕ) (line : List ℕ) (n i : ℕ) : Type 0 where
-  pub are : holding n line ≡ hold_bytes (holding held before) (take i bytes)
-  pub size : length line ≡ length before
-  pub few : n ≤ length before
-  pub on : i ≤ length bytes
-
--- none yet
-pub hold_none : (held : ℕ) (before bytes : List ℕ) → held ≤ length before → Holding held before bytes before held 0
+-- bytes for which there is room are held behind those that are there
+hold_room : (h : Held) (bytes : List ℕ) → h.count + length bytes ≤ length h.line
+    → hold_bytes h bytes ≡ holding (h.count + length bytes) (take h.count h.line ++ (bytes ++ drop (h.count + length bytes) h.line))
 unfolding hold_bytes
-hold_none held before bytes h = record { are = refl; size = refl; few = h; on = omega arith }
+hold_room h [] room =
+    let none : h.count + 0 ≡ h.count = omega arith in
+    λ i. holding (sym none i) ((sym (take-append-drop h.count h.line) ∙ ap (λ (n : ℕ). take h.count h.line ++ drop n h.line) (sym none)) i)
+hold_room h (b ∷ bs) room =
+    let next : (h.count + 1) + length bs ≡ h.count + length (b ∷ bs) = omega arith in
+    let later = hold_room (holding (h.count + 1) (set h.line h.count b)) bs (omega (arith, length-set h.line h.count b)) in
+    let front : take (h.count + 1) (set h.line h.count b) ≡ take h.count h.line ++ (b ∷ []) = rw add-one (take-suc-set h.line h.count b (omega arith)) in
+    let back : drop ((h.count + 1) + length bs) (set h.line h.count b) ≡ drop ((h.count + 1) + length bs) h.line =
+    drop-set-lt ((h.count + 1) + length bs) h.line h.count b (omega arith) in
+    let middle : List ℕ = bs ++ drop ((h.count + 1) + length bs) h.line in
+    ap (λ (g : Held). hold_bytes g bs) (hold_in h b (omega arith))
+    ∙ later
+    ∙ (λ i. holding (next i) (front i ++ (bs ++ back i)))
+    ∙ ap (holding (h.count + length (b ∷ bs)))
+    (append_assoc (take h.count h.line) (b ∷ []) middle ∙ ap (λ (n : ℕ). take h.count h.line ++ (b ∷ (bs ++ drop n h.line))) next)
 
--- one more
-pub hold_more : {held : ℕ} {before bytes line : List ℕ} {n i : ℕ} → Holding held before bytes line n i → i < length bytes → n < length before
-    → Holding held before bytes (set line n (get_or bytes i 0)) (n + 1) (i + 1)
-unfolding hold_bytes
-hold_more {held} {before} {bytes} {line} {n} {i} p some room =
-    record {
-      are = sym (hold_in (holding n line) (get_or bytes i 0) (omega (arith, p.size)))
-          ∙ ap (λ (g : Held). hold_byte g (get_or bytes i 0)) p.are
-          ∙ sym (hold_append (holding held before) (take i bytes) (get_or bytes i 0 ∷ []))
-          ∙ ap (hold_bytes (holding held before)) (sym (take-suc bytes i 0 some) ∙ ap (λ (m : ℕ). take m bytes) (sym (add-one i)));
-      size = length-set line n (get_or bytes i 0) ∙ p.size;
-      few = omega arith;
-      on = omega arith;
-    }
+-- as many bytes as there is room for are all that are held
+module _ (h : Held) (bytes : List ℕ) (taken : ℕ) (is : taken ≡ min (length h.line - h.count) (length bytes)) (few : h.count ≤ length h.line) where
+  many : length (take taken bytes) ≡ taken
+  many = length-take-le taken bytes (omega (arith, is))
 
--- the rest finds no room
-pub hold_rest : {held : ℕ} {before bytes line : List ℕ} {n i : ℕ} → Holding held before bytes line n i → length before ≤ n
-    → holding n line ≡ hold_bytes (holding held before) bytes
-hold_rest {held} {before} {bytes} {line} {n} {i} p full =
-    sym (hold_full (holding n line) (drop i bytes) (omega (arith, p.size)))
-    ∙ ap (λ (g : Held). hold_bytes g (drop i bytes)) p.are
-    ∙ sym (hold_append (holding held before) (take i bytes) (drop i bytes))
-    ∙ ap (hold_bytes (holding held before)) (take-append-drop i bytes)
+  front : hold_bytes h (take taken bytes) ≡ holding (h.count + taken) (take h.count h.line ++ (take taken bytes ++ drop (h.count + taken) h.line))
+  front =
+      hold_room h (take taken bytes) (omega (arith, is, many, few))
+      ∙ ap (λ (n : ℕ). holding (h.count + n) (take h.count h.line ++ (take taken bytes ++ drop (h.count + n) h.line))) many
 
--- no byte is left
-pub hold_all : {held : ℕ} {before bytes line : List ℕ} {n i : ℕ} → Holding held before bytes line n i → length bytes ≤ i
-    → holding n line ≡ hold_bytes (holding held before) bytes
-hold_all {held} {before} {bytes} {line} {n} {i} p done = p.are ∙ ap (hold_bytes (holding held before)) (take_all i bytes done)
+  rest : (q : Bool) → ltb taken (length bytes) ≡ q → hold_bytes h (take taken bytes) ≡ hold_bytes (hold_bytes h (take taken bytes)) (drop taken bytes)
+  rest true e =
+      let more : taken < length bytes = ltb-true taken (length bytes) e in
+      let full : length (take h.count h.line ++ (take taken bytes ++ drop (h.count + taken) h.line)) ≤ h.count + taken =
+      omega (arith, is, few, many, length-append (take h.count h.line) (take taken bytes ++ drop (h.count + taken) h.line), length-append (take taken bytes) (drop (h.count + taken) h.line), length-take-le h.count h.line few, length-drop (h.count + taken) h.line) in
+      sym (hold_full (hold_bytes h (take taken bytes)) (drop taken bytes) (subst (λ (g : Held). length g.line ≤ g.count) (sym front) full))
+  rest false e =
+      unfold hold_bytes in ap (hold_bytes (hold_bytes h (take taken bytes))) (sym (drop_of_length-le bytes (ltb-false taken (length bytes) e)))
+
+  pub hold_taken : {copy : List ℕ} → copy ≡ take taken bytes
+      → holding (h.count + taken) (put_mid h.count ((h.count + taken) - h.count) h.line copy) ≡ hold_bytes h bytes
+  hold_taken e =
+      (λ i. holding (h.count + taken) (take h.count h.line ++ (e i ++ Post-is h.count (h.count + taken) h.line (omega arith) i)))
+      ∙ sym front
+      ∙ rest (ltb taken (length bytes)) refl
+      ∙ sym (hold_append h (take taken bytes) (drop taken bytes))
+      ∙ ap (hold_bytes h) (take-append-drop taken bytes)

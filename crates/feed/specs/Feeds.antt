@@ -1,7 +1,5 @@
 -- What is held of a line, and what a part of a block leaves. Assumes nothing: these are definitions.
-use Rattle.std.specs.Prelude.{ℕ, ◌+◌, ◌≤◌, ◌<◌, ◌≡◌, cond, List, [], ◌∷◌, eqb, ltb, length, take, set}
-use Rattle.std.proofs.Math.Seq.{slice}
-use Rattle.feed.specs.declared.Piece.{Piece}
+use Rattle.std.specs.Prelude.{ℕ, ◌+◌, ◌≡◌, cond, Option, None, Some, List, [], ◌∷◌, eqb, ltb, length, take, set}
 
 -- how many bytes are held, and the slice at whose front they stand
 pub record Held : Type 0 where
@@ -25,11 +23,7 @@ unfoldable pub before : List ℕ → ℕ
 before [] = 0
 before (b ∷ bs) = cond (eqb b 10) 0 (before bs + 1)
 
--- the bytes from `from` on up to the first line end are held, or all up to n if there is none; the next line begins past the line end, or at n
-pub record Passed (from n : ℕ) (block : List ℕ) (held : ℕ) (line : List ℕ) (p : Piece) (line' : List ℕ) : Type 0 where
-  pub whole_is : p.whole ≡ ltb (before (slice from n block)) (length (slice from n block))
-  pub from_is : p.from ≡ cond p.whole (from + before (slice from n block) + 1) n
-  pub held_is : holding p.held line' ≡ hold_bytes (holding held line) (take (before (slice from n block)) (slice from n block))
-  pub few : p.held ≤ 101
-  pub on : from < p.from
-  pub inside : p.from ≤ n
+-- the bytes up to the first line end are held, or all if there is none; the next line begins past the line end, if there is one
+pub record Passed (bytes : List ℕ) (h : Held) (next : Option ℕ) (h' : Held) : Type 0 where
+  pub next_is : next ≡ cond (ltb (before bytes) (length bytes)) (Some (before bytes + 1)) None
+  pub held_is : h' ≡ hold_bytes h (take (before bytes) bytes)

@@ -2,81 +2,76 @@
 // No right line is longer than 100 bytes, so a longer one is known to be bad by its first 101 bytes, and the rest is not held.
 #![tactic(auto)]
 
-ghost use Rattle.std.specs.Prelude.{◌≡◌, ◌+◌, ◌≤◌, ◌<◌, length, take};
-ghost use Rattle.std.proofs.Math.Seq.{slice};
+ghost use Rattle.std.specs.Prelude.{◌≡◌, ◌≤◌, ◌==◌, take, position, replicate};
 ghost use Rattle.lines.specs.Format.{Reads};
-ghost use Rattle.feed.specs.Feeds.{holding, hold_bytes, before, Passed};
+ghost use Rattle.feed.specs.Feeds.{holding, hold_bytes, Passed};
 
 use lines::Line;
 
-// The bytes up to a line end or to the end of the block: how many are held now, where the next line begins, and whether the line is whole.
-#[derive(Drop)]
-pub struct Piece {
-    pub held: usize,
-    pub from: usize,
-    pub whole: bool,
+// The bytes of a line that has begun, as far as they are held: the first `count` of `line`.
+#[derive(Clone, Copy)]
+pub struct Held {
+    pub line: [u8; 101],
+    pub count: usize,
+    ghost few: { count ≤ 101 },
 }
 
-// The place of the first line end from `from` on, or n where there is none before n.
-fn line_end(block: &[u8], from: usize, n: usize) -> usize
-    requires { (from ≤ n) × (n ≤ length block.now) }
-    ensures value { result ≡ from + before (slice from n block.now) }
-    ensures upper_bound { result ≤ n }
+// The place of the first line end.
+fn line_end(bytes: &[u8]) -> Option<usize>
+    ensures { result ≡ position (λ b. b == 10) bytes.now }
 {
-    let mut i = from;
-    while i < n {
-        if block[i] == b'\n' {
-            return i;
+    bytes.iter().position(|b| *b == b'\n')
+}
+
+impl Held {
+    // No byte of a line.
+    pub fn new() -> Self
+        ensures { holding result.count result.line ≡ holding 0 (replicate 101 0) }
+    {
+        Held {
+            line: [0; 101],
+            count: 0,
         }
-        i += 1;
     }
-    i
-}
 
-// Holds the bytes, as far as there is room, behind the `held` that are there; the answer is how many are held then.
-fn hold(held: usize, bytes: &[u8], line: &mut [u8]) -> usize
-    requires { held ≤ length line.old }
-    ensures upper_bound { result ≤ length line.old }
-    ensures line_after { holding result line.new ≡ hold_bytes (holding held line.old) bytes.now }
-{
-    let mut n = held;
-    let mut i = 0;
-    while i < bytes.len() {
-        if line.len() <= n {
-            return n;
+    // The next line begins.
+    pub fn clear(&mut self)
+        ensures { holding self.new.count self.new.line ≡ holding 0 self.old.line }
+    {
+        self.count = 0;
+    }
+
+    // Holds the bytes, as far as there is room.
+    fn hold(&mut self, bytes: &[u8])
+        ensures { holding self.new.count self.new.line ≡ hold_bytes (holding self.old.count self.old.line) bytes.now }
+    {
+        let room = self.line.len() - self.count;
+        let taken = room.min(bytes.len());
+        let next = self.count + taken;
+        self.line[self.count..next].copy_from_slice(&bytes[..taken]);
+        self.count = next;
+    }
+
+    // Holds the bytes up to the first line end, and gives the place past it; or all of them, where none of them is a line end.
+    pub fn next(&mut self, bytes: &[u8]) -> Option<usize>
+        ensures { Passed bytes.now (holding self.old.count self.old.line) result (holding self.new.count self.new.line) }
+    {
+        match line_end(bytes) {
+            Some(end) => {
+                self.hold(&bytes[..end]);
+                Some(end + 1)
+            }
+            None => {
+                self.hold(bytes);
+                None
+            }
         }
-        line[n] = bytes[i];
-        n += 1;
-        i += 1;
     }
-    n
-}
 
-// Holds the bytes from `from` up to the next line end.
-pub fn next(held: usize, block: &[u8], from: usize, n: usize, line: &mut [u8; 101]) -> Piece
-    requires { (held ≤ 101) × (from < n) × (n ≤ length block.now) }
-    ensures { Passed from n block.now held line.old result line.new }
-{
-    let end = line_end(block, from, n);
-    let now_held = hold(held, &block[from..end], line);
-    if end == n {
-        return Piece {
-            held: now_held,
-            from: n,
-            whole: false,
-        };
+    // The line that is held, read.
+    pub fn read(&self) -> Option<Line>
+        ensures { Reads (take self.now.count self.now.line) result }
+    {
+        lines::read_line(&self.line[..self.count])
     }
-    Piece {
-        held: now_held,
-        from: end + 1,
-        whole: true,
-    }
-}
-
-// The line that is held, read.
-pub fn read(line: &[u8], held: usize) -> Line
-    requires { held ≤ length line.now }
-    ensures { Reads (take held line.now) result }
-{
-    lines::read_line(&line[..held])
 }
