@@ -3,8 +3,10 @@ use Prim.Native.Nat.{ℕ, ◌+◌, ◌≤◌}
 use native.Mathlib.Omega.{arith}
 use mathlib.Core.Path.{◌≡◌, refl}
 use mathlib.Core.Bool.{Bool, true, false}
-use mathlib.Core.List.{List, [], ◌∷◌}
+use mathlib.Core.List.{List}
+use Rattle.std.specs.Prelude.{Option, None, Some}
 use lib.Dec.{ltb}
+use lib.ListN.{length}
 use borrow.Author.Tests.{ltb-false}
 use Rattle.lines.specs.Format.{Reads}
 use Rattle.lines.specs.declared.Line.{Line}
@@ -20,18 +22,18 @@ use Rattle.session.specs.declared.After.{After}
 use Rattle.session.specs.Sessions.{Sound}
 use Rattle.session.specs.Lefts.{bad_as, sizes_as, row_as, begun_as, begin_left, Begun, ready_as, happen_left, happened, event_as, event_left, line_left}
 
--- a line that reads has a C of at most 512
-abbrev pub Small : Line → Type 0
-Small (line.Sizes k c) = c ≤ 512
-Small (line.Row a b c d e f g h i) = Unit {0}
-Small (line.Event p n a b c d) = Unit {0}
-Small line.Bad = Unit {0}
+-- a line that reads has a C of at most 512, or a row's nine numbers
+abbrev pub Small : Option Line → Type 0
+Small (Some (line.Sizes k c)) = c ≤ 512
+Small (Some (line.Row nine)) = length nine ≡ 9
+Small (Some (line.Event p n four)) = Unit {0}
+Small None = Unit {0}
 
-pub reads_small : (bytes : List ℕ) (l : Line) → Reads bytes l → Small l
-reads_small bytes (line.Sizes k c) r = r.right.1
-reads_small bytes (line.Row a b c d e f g h i) r = tt
-reads_small bytes (line.Event p n a b c d) r = tt
-reads_small bytes line.Bad r = tt
+pub reads_small : (bytes : List ℕ) (l : Option Line) → Reads bytes l → Small l
+reads_small bytes (Some (line.Sizes k c)) r = r.right.1
+reads_small bytes (Some (line.Row nine)) r = r.right.nine
+reads_small bytes (Some (line.Event p n four)) r = tt
+reads_small bytes None r = tt
 
 -- what is no event leaves a sound session, and counts none
 pub record Stays (s : Session) (r : After) : Type 0 where
@@ -93,10 +95,9 @@ event_leaves Events s b e rows work h =
     record { sound = record { nodes_few = h.sound.nodes_few; rows_few = h.sound.rows_few }; counted = omega (arith, h.same) }
 event_leaves Over s b e rows work h = stays_leaves h
 
-pub line_leaves : (s : Session) (l : Line) (rows nodes values work : List ℕ) → Sound s → Small l → Leaves s (line_left s l rows nodes values work).after
+pub line_leaves : (s : Session) (l : Option Line) (rows nodes values work : List ℕ) → Sound s → Small l → Leaves s (line_left s l rows nodes values work).after
 unfolding line_left event_left
-line_leaves s (line.Sizes k c) rows nodes values work h small = stays_leaves (sizes_stays s.part s k c h small)
-line_leaves s (line.Row a b c d e f g x i) rows nodes values work h small =
-    stays_leaves (row_stays s.part s (a ∷ b ∷ c ∷ d ∷ e ∷ f ∷ g ∷ x ∷ i ∷ []) rows h)
-line_leaves s (line.Event p n a b c d) rows nodes values work h small = event_leaves _ s _ _ rows work (ready_stays s.part s rows nodes values h)
-line_leaves s line.Bad rows nodes values work h small = stays_leaves (bad_stays s.part s h)
+line_leaves s (Some (line.Sizes k c)) rows nodes values work h small = stays_leaves (sizes_stays s.part s k c h small)
+line_leaves s (Some (line.Row nine)) rows nodes values work h small = stays_leaves (row_stays s.part s nine rows h)
+line_leaves s (Some (line.Event p n four)) rows nodes values work h small = event_leaves _ s _ _ rows work (ready_stays s.part s rows nodes values h)
+line_leaves s None rows nodes values work h small = stays_leaves (bad_stays s.part s h)

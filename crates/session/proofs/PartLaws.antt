@@ -2,7 +2,9 @@
 use Prim.Native.Nat.{ℕ, ◌+◌, ◌≤◌, ◌<◌}
 use mathlib.Core.Path.{◌≡◌, refl, sym, ap, subst, ◌∙◌}
 use mathlib.Core.Bool.{false}
+use mathlib.Core.Logic.{◌⊎◌, inl, inr}
 use mathlib.Core.List.{List, [], ◌∷◌, ◌++◌}
+use Rattle.std.specs.Prelude.{Some}
 use lib.ListN.{take, drop}
 use borrow.Author.Tests.{lt-ltb, le-ltb}
 use denote.Enum.Declared.{tag_of}
@@ -14,7 +16,7 @@ use Rattle.session.specs.declared.Part.{Part}
 use Rattle.session.specs.declared.Part.TheVariants.{First, Rows, Events, Over}
 use Rattle.session.specs.declared.Session.{Session}
 use Rattle.session.specs.declared.After.{After}
-use Rattle.session.specs.Lefts.{is_over, turned_to, saying, quiet_of, bad_as, sizes_as, Rowed, row_as, Begun, started, begin_left, ready_as, Happened, happened, event_as, event_left, Begins, Judges}
+use Rattle.session.specs.Lefts.{turned_to, saying, quiet_of, bad_as, sizes_as, Rowed, row_as, Begun, started, begin_left, ready_as, Happened, happened, event_as, event_left, Begins, Judges}
 
 -- a part that is not one of them is one of the others
 pub but_first : (p : Part) → (p ≡ First → ⊥) → OneOf (1 ∷ 2 ∷ 3 ∷ []) (tag_of the_type p)
@@ -42,13 +44,7 @@ but_over Events n = hit (0 ∷ 1 ∷ 2 ∷ []) 2 tt
 but_over Over n = absurd (n refl)
 
 -- any part but `Over`
-pub not_over : (p : Part) → OneOf (0 ∷ 1 ∷ 2 ∷ []) (tag_of the_type p) → false ≡ is_over p
-not_over First m = refl
-not_over Rows m = refl
-not_over Events m = refl
-not_over Over m = absurd (miss (0 ∷ 1 ∷ 2 ∷ []) 3 tt m)
-
-pub bad_other : (p : Part) (s : Session) → OneOf (0 ∷ 1 ∷ 2 ∷ []) (tag_of the_type p) → saying (turned_to s Over) false Bad ≡ bad_as p s
+pub bad_other : (p : Part) (s : Session) → OneOf (0 ∷ 1 ∷ 2 ∷ []) (tag_of the_type p) → saying (turned_to s Over) false (Some Bad) ≡ bad_as p s
 unfolding bad_as
 bad_other First s m = refl
 bad_other Rows s m = refl
@@ -92,13 +88,13 @@ row_full_after p s nine rows e h = sym (ap (λ (r : Rowed). r.after) (row_many p
 pub row_full_rows : (p : Part) (s : Session) (nine rows : List ℕ) → p ≡ Rows → 576 < s.rows → (row_as p s nine rows).rows ≡ rows
 row_full_rows p s nine rows e h = sym (ap (λ (r : Rowed). r.rows) (row_many p s nine rows e h))
 
-pub row_more : (p : Part) (s : Session) (nine rows : List ℕ) → p ≡ Rows → s.rows ≤ 576
+pub row_more : (s : Session) (nine rows : List ℕ) → s.part ≡ Rows → s.rows ≤ 576
     → ◌≡◌ {A = Rowed} (record {
-      after = quiet_of (record { part = Rows; k = s.k; c = s.c; rows = s.rows + 9; ordinal = s.ordinal; state = s.state });
+      after = quiet_of (record { part = s.part; k = s.k; c = s.c; rows = s.rows + 9; ordinal = s.ordinal; state = s.state });
       rows = take s.rows rows ++ (nine ++ drop (s.rows + 9) rows);
-    }) (row_as p s nine rows)
+    }) (row_as s.part s nine rows)
 unfolding row_as
-row_more p s nine rows e h = rw (e, le-ltb 576 s.rows h)
+row_more s nine rows e h = rw (e, le-ltb 576 s.rows h)
 
 -- what is due, by the part
 pub ready_first : (p : Part) (s : Session) (rows nodes values : List ℕ) → p ≡ First
@@ -111,15 +107,11 @@ pub ready_rows : (p : Part) (s : Session) (rows nodes values : List ℕ) → p �
 unfolding ready_as
 ready_rows p s rows nodes values e = rw e
 
-pub ready_events : (p : Part) (s : Session) (rows nodes values : List ℕ) → p ≡ Events
+pub ready_later : (p : Part) (s : Session) (rows nodes values : List ℕ) → (p ≡ Events) ⊎ (p ≡ Over)
     → ◌≡◌ {A = Begun} (record { after = quiet_of s; nodes = nodes; values = values }) (ready_as p s rows nodes values)
 unfolding ready_as
-ready_events p s rows nodes values e = rw e
-
-pub ready_over : (p : Part) (s : Session) (rows nodes values : List ℕ) → p ≡ Over
-    → ◌≡◌ {A = Begun} (record { after = quiet_of s; nodes = nodes; values = values }) (ready_as p s rows nodes values)
-unfolding ready_as
-ready_over p s rows nodes values e = rw e
+ready_later p s rows nodes values (inl e) = rw e
+ready_later p s rows nodes values (inr e) = rw e
 
 -- any part but `Events`
 pub event_other : (p : Part) (b : Begun) (e : Event) (rows work : List ℕ) → OneOf (0 ∷ 1 ∷ 3 ∷ []) (tag_of the_type p)
@@ -135,29 +127,31 @@ pub event_started : (p : Part) (b : Begun) (e : Event) (rows work : List ℕ) �
 unfolding event_as
 event_started p b e rows work q = rw q
 
--- an event, by the part that what was due leaves
-pub event_left_other : (s : Session) (e : Event) (rows nodes values work : List ℕ) (r : After) (ns vs : List ℕ)
-    → Begins (ready_as s.part s rows nodes values) r ns vs → OneOf (0 ∷ 1 ∷ 3 ∷ []) (tag_of the_type r.session.part)
-    → Judges (event_left s e rows nodes values work) r ns vs work
+-- an event, by the part that what was due leaves; that leaves the rows and the work as they were
+pub event_left_other : (s : Session) (e : Event) (rows nodes values work : List ℕ) (r : After) (ns vs : List ℕ) {ws : List ℕ}
+    → Begins (ready_as s.part s rows nodes values) r ns vs → ws ≡ work → OneOf (0 ∷ 1 ∷ 3 ∷ []) (tag_of the_type r.session.part)
+    → Judges (event_left s e rows nodes values work) r ns vs ws
 unfolding event_left
-event_left_other s e rows nodes values work r ns vs b m =
+event_left_other s e rows nodes values work r ns vs b w m =
     let q = event_other (ready_as s.part s rows nodes values).after.session.part (ready_as s.part s rows nodes values) e rows work (subst (λ (a : After). OneOf (0 ∷ 1 ∷ 3 ∷ []) (tag_of the_type a.session.part)) b.after_is m) in
     record {
       after_is = b.after_is ∙ ap (λ (h : Happened). h.after) q;
       nodes_are = b.nodes_are ∙ ap (λ (h : Happened). h.nodes) q;
       values_are = b.values_are ∙ ap (λ (h : Happened). h.values) q;
-      work_is = ap (λ (h : Happened). h.work) q;
+      work_is = w ∙ ap (λ (h : Happened). h.work) q;
     }
 
-pub event_left_started : (s : Session) (e : Event) (rows nodes values work : List ℕ) (r : After) (ns vs : List ℕ)
-    → Begins (ready_as s.part s rows nodes values) r ns vs → r.session.part ≡ Events
-    → happened r.session r.told.header e rows ns vs work ≡ event_left s e rows nodes values work
+pub event_left_started : (s : Session) (e : Event) (rows nodes values work : List ℕ) (r : After) (rs ns vs ws : List ℕ)
+    → Begins (ready_as s.part s rows nodes values) r ns vs → (rs ≡ rows) × (ws ≡ work) → r.session.part ≡ Events
+    → happened r.session r.told.header e rs ns vs ws ≡ event_left s e rows nodes values work
 unfolding event_left
-event_left_started s e rows nodes values work r ns vs b q =
+event_left_started s e rows nodes values work r rs ns vs ws b kept q =
     let f = b.after_is in
     let n = b.nodes_are in
     let v = b.values_are in
-    (λ i. happened (f i).session (f i).told.header e rows (n i) (v i) work)
+    let t = kept.0 in
+    let w = kept.1 in
+    (λ i. happened (f i).session (f i).told.header e (t i) (n i) (v i) (w i))
     ∙ event_started (ready_as s.part s rows nodes values).after.session.part (ready_as s.part s rows nodes values) e rows work
     (ap (λ (a : After). a.session.part) (sym f) ∙ q)
 

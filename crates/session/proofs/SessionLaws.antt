@@ -1,52 +1,37 @@
 -- Laws of what a session keeps. Assumes nothing.
-use Prim.Native.Nat.{ℕ, zero, suc, ◌+◌, ◌≤◌, ◌<◌}
+use Prim.Native.Nat.{ℕ, zero, suc, ◌+◌, ◌-◌, ◌*◌, ◌%◌, ◌^◌, ◌≤◌, ◌<◌}
 use native.Mathlib.Omega.{arith}
-use mathlib.Core.Path.{◌≡◌, refl, sym, ap, subst, ◌∙◌}
-use mathlib.Core.List.{List, [], ◌∷◌, ◌++◌, append_assoc}
-use lib.ListN.{length, get_or, take, drop, take-append-drop}
-use lib.Seq.{take_all}
+use mathlib.Core.Path.{◌≡◌, refl}
+use mathlib.Core.List.{List, ◌++◌}
+use lib.ListN.{take, drop}
 use borrow.Author.Tests.{lt-ltb}
+use borrow.Rule.Slice.PartMut.{post_of, Post-is}
 use Rattle.meaning.specs.Tables.{most}
 use Rattle.transcript.specs.Output.{values_asked}
-use Rattle.answers.proofs.PutLaws.{Putting}
 
 -- a k past 10 asks for no values
 pub listed_none : (k : ℕ) → 10 < k → 0 ≡ values_asked k
 unfolding values_asked
 listed_none k h = rw (lt-ltb 10 k h) refl
 
--- the table of the source
-pub listed_entry : (k : ℕ) → k ≤ 10
-    → (get_or (0 ∷ 4 ∷ 12 ∷ 28 ∷ 60 ∷ 124 ∷ 252 ∷ 508 ∷ 1020 ∷ 2044 ∷ 4092 ∷ []) k 0 ≡ values_asked k)
-    × (get_or (0 ∷ 4 ∷ 12 ∷ 28 ∷ 60 ∷ 124 ∷ 252 ∷ 508 ∷ 1020 ∷ 2044 ∷ 4092 ∷ []) k 0 ≤ 4092)
+-- any other asks for 4 × (2^k − 1), and that is at most 4092
+pub listed_shift : (k : ℕ) → k ≤ 10
+    → (4 * (1 * 2 ^ k % 18446744073709551616 - 1) ≡ values_asked k) × (4 * (1 * 2 ^ k % 18446744073709551616 - 1) ≤ 4092)
 unfolding values_asked most
-listed_entry zero h = (refl, omega arith)
-listed_entry (suc zero) h = (refl, omega arith)
-listed_entry (suc (suc zero)) h = (refl, omega arith)
-listed_entry (suc (suc (suc zero))) h = (refl, omega arith)
-listed_entry (suc (suc (suc (suc zero)))) h = (refl, omega arith)
-listed_entry (suc (suc (suc (suc (suc zero))))) h = (refl, omega arith)
-listed_entry (suc (suc (suc (suc (suc (suc zero)))))) h = (refl, omega arith)
-listed_entry (suc (suc (suc (suc (suc (suc (suc zero))))))) h = (refl, omega arith)
-listed_entry (suc (suc (suc (suc (suc (suc (suc (suc zero)))))))) h = (refl, omega arith)
-listed_entry (suc (suc (suc (suc (suc (suc (suc (suc (suc zero))))))))) h = (refl, omega arith)
-listed_entry (suc (suc (suc (suc (suc (suc (suc (suc (suc (suc zero)))))))))) h = (refl, omega arith)
-listed_entry (suc (suc (suc (suc (suc (suc (suc (suc (suc (suc (suc k))))))))))) h = absurd (omega arith)
+listed_shift zero h = (refl, omega arith)
+listed_shift (suc zero) h = (refl, omega arith)
+listed_shift (suc (suc zero)) h = (refl, omega arith)
+listed_shift (suc (suc (suc zero))) h = (refl, omega arith)
+listed_shift (suc (suc (suc (suc zero)))) h = (refl, omega arith)
+listed_shift (suc (suc (suc (suc (suc zero))))) h = (refl, omega arith)
+listed_shift (suc (suc (suc (suc (suc (suc zero)))))) h = (refl, omega arith)
+listed_shift (suc (suc (suc (suc (suc (suc (suc zero))))))) h = (refl, omega arith)
+listed_shift (suc (suc (suc (suc (suc (suc (suc (suc zero)))))))) h = (refl, omega arith)
+listed_shift (suc (suc (suc (suc (suc (suc (suc (suc (suc zero))))))))) h = (refl, omega arith)
+listed_shift (suc (suc (suc (suc (suc (suc (suc (suc (suc (suc zero)))))))))) h = (refl, omega arith)
+listed_shift (suc (suc (suc (suc (suc (suc (suc (suc (suc (suc (suc k))))))))))) h = absurd (omega arith)
 
--- nine numbers are there
-pub row_put : {before : List ℕ} {at : ℕ} {nine after : List ℕ} {i : ℕ} → length nine ≡ 9 → Putting before at nine after i → 9 ≤ i
-    → after ≡ take at before ++ (nine ++ drop (at + 9) before)
-row_put {before} {at} {nine} {after} {i} e p h =
-    let s : i ≡ 9 = omega (arith, p.few, e) in
-    sym (take-append-drop (at + 9) after)
-    ∙ (λ j. shown s j ++ rest s j)
-    ∙ append_assoc (take at before) nine (drop (at + 9) before)
-  where
-    shown : i ≡ 9 → take (at + 9) after ≡ take at before ++ nine
-    shown s =
-        ap (λ (n : ℕ). take (at + n) after) (sym s)
-        ∙ p.shown
-        ∙ ap (λ (l : List ℕ). take at before ++ l) (take_all i nine (omega (arith, e, s)))
-
-    rest : i ≡ 9 → drop (at + 9) after ≡ drop (at + 9) before
-    rest s = subst (λ (n : ℕ). drop (at + n) after ≡ drop (at + n) before) s p.rest
+-- nine numbers that are copied over a part of the rule's table
+pub row_copied : (n : ℕ) (rows : List ℕ) {nine copy : List ℕ} → copy ≡ nine
+    → take n rows ++ (copy ++ post_of n ((n + 9) - n) rows) ≡ take n rows ++ (nine ++ drop (n + 9) rows)
+row_copied n rows e = λ i. take n rows ++ (e i ++ Post-is n (n + 9) rows (omega arith) i)

@@ -1,5 +1,5 @@
 -- What each call leaves, wholly: the session, what is put out, and every lent table. Assumes nothing: these are definitions.
-use Rattle.std.specs.Prelude.{ℕ, ◌+◌, ◌*◌, ◌≡◌, Bool, true, false, cond, List, [], ◌∷◌, ◌++◌, ltb, take, drop}
+use Rattle.std.specs.Prelude.{ℕ, ◌+◌, ◌*◌, ◌≡◌, Bool, true, false, cond, Option, None, Some, List, ◌++◌, ltb, take, drop}
 use Rattle.lines.specs.declared.Line.{Line}
 use Rattle.lines.specs.declared.Line.TheVariants as line
 use Rattle.meaning.specs.declared.Event.{Event}
@@ -31,18 +31,18 @@ abbrev pub turned_to : Session → Part → Session
 turned_to s p = record { part = p; k = s.k; c = s.c; rows = s.rows; ordinal = s.ordinal; state = s.state }
 
 -- a session, with or without the header, and with what is said
-abbrev pub saying : Session → Bool → Said → After
+abbrev pub saying : Session → Bool → Option Said → After
 saying s h said = record { session = s; told = record { header = h; said = said } }
 
 -- nothing is put out
 abbrev pub quiet_of : Session → After
-quiet_of s = saying s false said.Nothing
+quiet_of s = saying s false None
 
 -- a line that does not read, by the part
 unfoldable pub bad_as : Part → Session → After
-bad_as First s = saying (turned_to s Over) false said.Bad
-bad_as Rows s = saying (turned_to s Over) false said.Bad
-bad_as Events s = saying (turned_to s Over) false said.Bad
+bad_as First s = saying (turned_to s Over) false (Some said.Bad)
+bad_as Rows s = saying (turned_to s Over) false (Some said.Bad)
+bad_as Events s = saying (turned_to s Over) false (Some said.Bad)
 bad_as Over s = quiet_of s
 
 -- the sizes, by the part
@@ -83,11 +83,11 @@ started s rows nodes values = start_outcome s.k (take s.rows rows) (take (3 * s.
 
 -- the header, or the line that says why not
 unfoldable pub begun_as : Answer → Session → StartOutcome → After
-begun_as (Refused number place) s o = saying (turned_to s Over) false (said.NoStart number place)
+begun_as (Refused number place) s o = saying (turned_to s Over) false (Some (said.NoStart number place))
 begun_as Started s o =
-    saying (record { part = Events; k = s.k; c = s.c; rows = s.rows; ordinal = s.ordinal; state = o.state }) true said.Nothing
+    saying (record { part = Events; k = s.k; c = s.c; rows = s.rows; ordinal = s.ordinal; state = o.state }) true None
 begun_as (Verdict holds kept room) s o =
-    saying (record { part = Events; k = s.k; c = s.c; rows = s.rows; ordinal = s.ordinal; state = o.state }) true said.Nothing
+    saying (record { part = Events; k = s.k; c = s.c; rows = s.rows; ordinal = s.ordinal; state = o.state }) true None
 
 unfoldable pub begin_left : Session → StartOutcome → List ℕ → List ℕ → Begun
 begin_left s o nodes values =
@@ -114,7 +114,7 @@ happen_left s h o nodes values work =
       after = saying
           (record { part = Events; k = s.k; c = s.c; rows = s.rows; ordinal = s.ordinal + 1; state = o.left.state })
           h
-          (said.Event (s.ordinal + 1) o.answer);
+          (Some (said.Event (s.ordinal + 1) o.answer));
       nodes = o.left.nodes ++ drop (3 * s.c) nodes;
       values = o.left.values ++ drop (values_asked s.k) values;
       work = o.left.work ++ drop (16 * s.c + 1024) work;
@@ -142,15 +142,15 @@ pub record Left : Type 0 where
   pub values : List ℕ
   pub work : List ℕ
 
-unfoldable pub line_left : Session → Line → List ℕ → List ℕ → List ℕ → List ℕ → Left
-line_left s (line.Sizes k c) rows nodes values work = record { after = sizes_as s.part s k c; rows = rows; nodes = nodes; values = values; work = work }
-line_left s (line.Row a b c d e f g h i) rows nodes values work =
-    let r = row_as s.part s (a ∷ b ∷ c ∷ d ∷ e ∷ f ∷ g ∷ h ∷ i ∷ []) rows in
+unfoldable pub line_left : Session → Option Line → List ℕ → List ℕ → List ℕ → List ℕ → Left
+line_left s (Some (line.Sizes k c)) rows nodes values work = record { after = sizes_as s.part s k c; rows = rows; nodes = nodes; values = values; work = work }
+line_left s (Some (line.Row nine)) rows nodes values work =
+    let r = row_as s.part s nine rows in
     record { after = r.after; rows = r.rows; nodes = nodes; values = values; work = work }
-line_left s (line.Event p n a b c d) rows nodes values work =
-    let h = event_left s (event_of p n a b c) rows nodes values work in
+line_left s (Some (line.Event p n four)) rows nodes values work =
+    let h = event_left s (event_of p n four) rows nodes values work in
     record { after = h.after; rows = rows; nodes = h.nodes; values = h.values; work = h.work }
-line_left s line.Bad rows nodes values work = record { after = bad_as s.part s; rows = rows; nodes = nodes; values = values; work = work }
+line_left s None rows nodes values work = record { after = bad_as s.part s; rows = rows; nodes = nodes; values = values; work = work }
 
 -- a call gave this back and left these tables
 pub record Begins (b : Begun) (r : After) (nodes values : List ℕ) : Type 0 where

@@ -12,7 +12,7 @@ pub record Sound (s : Session) : Type 0 where
   pub rows_few : s.rows ≤ 585
 
 -- the tables have room for the largest sizes
-pub record Tables (rows nodes values work : List ℕ) : Type 0 where
+pub record Long (rows nodes values work : List ℕ) : Type 0 where
   pub rows_long : length rows ≡ 585
   pub nodes_long : length nodes ≡ 1536
   pub values_long : length values ≡ 4092

@@ -2,10 +2,10 @@
 // What a line leaves, and what is put out for it, is in specs/Lefts.antt.
 #![tactic(auto)]
 
-ghost use Rattle.std.specs.Prelude.{◌≡◌, ◌+◌, ◌≤◌, ◌<◌, ◌++◌, length, take, drop};
+ghost use Rattle.std.specs.Prelude.{◌≡◌, ◌+◌, ◌≤◌, ◌<◌, length};
 ghost use Rattle.transcript.specs.Output.{event_of, values_asked};
-ghost use Rattle.session.specs.Sessions.{Sound, Sized, Tables};
-ghost use Rattle.session.specs.Lefts.{opened_session, is_over, turned_to, quiet_of, bad_as, sizes_as, row_as, started, begin_left, ready_as, happened, event_left, line_left, Begins, Judges, Does};
+ghost use Rattle.session.specs.Sessions.{Sound, Sized, Long};
+ghost use Rattle.session.specs.Lefts.{opened_session, is_over, quiet_of, bad_as, sizes_as, row_as, started, begin_left, ready_as, happened, event_left, line_left, Begins, Judges, Does};
 
 use answers::{Said, Told};
 use lines::Line;
@@ -38,17 +38,23 @@ pub struct Session {
     pub state: State,
 }
 
-// A session, and what is put out.
+// The tables that a run is judged in, with room for the largest sizes.
 #[derive(Drop)]
+pub struct Tables {
+    pub rows: [u32; 585],
+    pub nodes: [u32; 1536],
+    pub values: [u32; 4092],
+    pub work: [u32; 9216],
+}
+
+// A session, and what is put out.
+#[derive(Clone, Copy)]
 pub struct After {
     pub session: Session,
     pub told: Told,
 }
 
-// 4 × (2^k − 1) for each k from 0 to 10.
-const LISTED: [usize; 11] = [0, 4, 12, 28, 60, 124, 252, 508, 1020, 2044, 4092];
-
-// The length of the value slice. A k past 10 is refused before the slice is looked at.
+// The length of the value slice, 4 × (2^k − 1). A k past 10 is refused before the slice is looked at.
 fn listed(k: u32) -> usize
     ensures value { result ≡ values_asked k }
     ensures upper_bound { result ≤ 4092 }
@@ -56,12 +62,11 @@ fn listed(k: u32) -> usize
     if 10 < k {
         return 0;
     }
-    let i = k as usize;
-    LISTED[i]
+    4 * ((1 << k) - 1)
 }
 
 // How much of each table the sizes and the rule ask for.
-#[derive(Drop)]
+#[derive(Clone, Copy)]
 struct Lent {
     rows: usize,
     nodes: usize,
@@ -107,26 +112,7 @@ pub fn opened() -> Session
 pub fn over(s: Session) -> bool
     ensures { result ≡ is_over s.part }
 {
-    let part = s.part;
-    if let Part::Over = part {
-        return true;
-    }
-    false
-}
-
-// The session with another part.
-fn turned(s: Session, part: Part) -> Session
-    ensures { result ≡ turned_to s part }
-{
-    let state = s.state;
-    Session {
-        part,
-        k: s.k,
-        c: s.c,
-        rows: s.rows,
-        ordinal: s.ordinal,
-        state,
-    }
+    matches!(s.part, Part::Over)
 }
 
 // Nothing is put out.
@@ -137,7 +123,7 @@ fn quiet(s: Session) -> After
         session: s,
         told: Told {
             header: false,
-            said: Said::Nothing,
+            said: None,
         },
     }
 }
@@ -146,15 +132,17 @@ fn quiet(s: Session) -> After
 fn bad(s: Session) -> After
     ensures { result ≡ bad_as s.part s }
 {
-    let part = s.part;
-    if let Part::Over = part {
-        return quiet(s);
-    }
-    After {
-        session: turned(s, Part::Over),
-        told: Told {
-            header: false,
-            said: Said::Bad,
+    match s.part {
+        Part::Over => quiet(s),
+        _ => After {
+            session: Session {
+                part: Part::Over,
+                ..s
+            },
+            told: Told {
+                header: false,
+                said: Some(Said::Bad),
+            },
         },
     }
 }
@@ -163,30 +151,15 @@ fn bad(s: Session) -> After
 fn sizes(s: Session, k: u32, c: u32) -> After
     ensures { result ≡ sizes_as s.part s k c }
 {
-    let part = s.part;
-    let Part::First = part else {
-        return bad(s);
-    };
-    let state = s.state;
-    quiet(Session {
-        part: Part::Rows,
-        k,
-        c,
-        rows: 0,
-        ordinal: s.ordinal,
-        state,
-    })
-}
-
-// The nine numbers of a row, from `at` on.
-fn put_row(rows: &mut [u32], at: usize, nine: [u32; 9])
-    requires { at + 9 ≤ length rows.old }
-    ensures { rows.new ≡ take at rows.old ++ (nine ++ drop (at + 9) rows.old) }
-{
-    let mut i = 0;
-    while i < 9 {
-        rows[at + i] = nine[i];
-        i += 1;
+    match s.part {
+        Part::First => quiet(Session {
+            part: Part::Rows,
+            k,
+            c,
+            rows: 0,
+            ..s
+        }),
+        _ => bad(s),
     }
 }
 
@@ -195,80 +168,65 @@ fn put_row(rows: &mut [u32], at: usize, nine: [u32; 9])
 fn row(s: Session, nine: [u32; 9], rows: &mut [u32; 585]) -> After
     ensures { (result ≡ (row_as s.part s nine rows.old).after) × (rows.new ≡ (row_as s.part s nine rows.old).rows) }
 {
-    let part = s.part;
-    let Part::Rows = part else {
+    let Part::Rows = s.part else {
         return bad(s);
     };
-    let n = s.rows;
-    if 576 < n {
+    if 576 < s.rows {
         return bad(s);
     }
-    put_row(rows, n, nine);
-    let state = s.state;
-    quiet(Session {
-        part: Part::Rows,
-        k: s.k,
-        c: s.c,
-        rows: n + 9,
-        ordinal: s.ordinal,
-        state,
-    })
+    let next = s.rows + 9;
+    rows[s.rows..next].copy_from_slice(&nine);
+    quiet(Session { rows: next, ..s })
 }
 
 // Start, with the header, or with the line that says why not.
 fn begin(s: Session, rows: &[u32], nodes: &mut [u32], values: &mut [u32]) -> After
     requires sound { Sound s }
-    requires rows_len { (length rows.now ≡ 585) × (length nodes.old ≡ 1536) × (length values.old ≡ 4092) }
+    requires long { (length rows.now ≡ 585) × (length nodes.old ≡ 1536) × (length values.old ≡ 4092) }
     ensures { Begins (begin_left s (started s rows.now nodes.old values.old) nodes.old values.old) result nodes.new values.new }
 {
     let lent = lend(s);
-    let n = lent.rows;
-    let c = lent.nodes;
-    let v = lent.values;
-    let turn = monitor::start(s.k, &rows[0..n], &mut nodes[0..c], &mut values[0..v]);
-    let answer = turn.answer;
-    if let Answer::Refused(number, place) = answer {
+    let turn = monitor::start(
+        s.k,
+        &rows[..lent.rows],
+        &mut nodes[..lent.nodes],
+        &mut values[..lent.values],
+    );
+    if let Answer::Refused(number, place) = turn.answer {
         return After {
-            session: turned(s, Part::Over),
+            session: Session {
+                part: Part::Over,
+                ..s
+            },
             told: Told {
                 header: false,
-                said: Said::NoStart(number, place),
+                said: Some(Said::NoStart { number, place }),
             },
         };
     }
-    let state = turn.state;
     After {
         session: Session {
             part: Part::Events,
-            k: s.k,
-            c: s.c,
-            rows: n,
-            ordinal: s.ordinal,
-            state,
+            state: turn.state,
+            ..s
         },
         told: Told {
             header: true,
-            said: Said::Nothing,
+            said: None,
         },
     }
 }
 
 // What is due before an event and at the end of the input: a missing first line is a bad line, and a rule that has come is started.
-pub fn ready(
-    s: Session,
-    rows: &[u32; 585],
-    nodes: &mut [u32; 1536],
-    values: &mut [u32; 4092],
-) -> After
+pub fn ready(s: Session, tables: &mut Tables) -> After
     requires { Sound s }
-    ensures { Begins (ready_as s.part s rows.now nodes.old values.old) result nodes.new values.new }
+    ensures begins { Begins (ready_as s.part s tables.old.rows tables.old.nodes tables.old.values) result tables.new.nodes tables.new.values }
+    ensures kept { (tables.new.rows ≡ tables.old.rows) × (tables.new.work ≡ tables.old.work) }
 {
-    let part = s.part;
-    match part {
+    match s.part {
         Part::First => bad(s),
-        Part::Rows => begin(s, rows, nodes, values),
-        Part::Events => quiet(s),
-        Part::Over => quiet(s),
+        Part::Rows => begin(s, &tables.rows, &mut tables.nodes, &mut tables.values),
+        Part::Events | Part::Over => quiet(s),
     }
 }
 
@@ -283,46 +241,42 @@ fn happen(
     work: &mut [u32],
 ) -> After
     requires sound { Sound s × (s.ordinal < 18446744073709551615) }
-    requires tables { Tables rows.now nodes.old values.old work.old }
+    requires long { Long rows.now nodes.old values.old work.old }
     ensures { Judges (happened s header event rows.now nodes.old values.old work.old) result nodes.new values.new work.new }
 {
     let lent = lend(s);
-    let n = lent.rows;
-    let c = lent.nodes;
-    let v = lent.values;
-    let w = lent.work;
-    let before = s.state;
     let turn = monitor::event(
-        before,
-        &rows[0..n],
-        &mut nodes[0..c],
-        &mut values[0..v],
-        &mut work[0..w],
+        s.state,
+        &rows[..lent.rows],
+        &mut nodes[..lent.nodes],
+        &mut values[..lent.values],
+        &mut work[..lent.work],
         event,
     );
     let ordinal = s.ordinal + 1;
-    let answer = turn.answer;
     let after = turn.state;
     After {
         session: Session {
             part: Part::Events,
-            k: s.k,
-            c: s.c,
-            rows: n,
             ordinal,
             state: after,
+            ..s
         },
         told: Told {
             header,
-            said: Said::Event(ordinal, answer),
+            said: Some(Said::Event {
+                ordinal,
+                answer: turn.answer,
+            }),
         },
     }
 }
 
 // The event of a line: one fact. The fourth value only makes the count 4, which is refused.
-fn event_of(predicate: u32, count: u32, a: u32, b: u32, c: u32) -> Event
-    ensures { result ≡ event_of predicate count a b c }
+fn event_of(predicate: u32, count: u32, values: [u32; 4]) -> Event
+    ensures { result ≡ event_of predicate count values }
 {
+    let [a, b, c, _] = values;
     let fact = Fact {
         predicate,
         count,
@@ -335,50 +289,41 @@ fn event_of(predicate: u32, count: u32, a: u32, b: u32, c: u32) -> Event
 }
 
 // A line that is an event.
-fn event(
-    s: Session,
-    event: Event,
-    rows: &[u32; 585],
-    nodes: &mut [u32; 1536],
-    values: &mut [u32; 4092],
-    work: &mut [u32; 9216],
-) -> After
+fn event(s: Session, event: Event, tables: &mut Tables) -> After
     requires { Sound s × (s.ordinal < 18446744073709551615) }
-    ensures { Judges (event_left s event rows.now nodes.old values.old work.old) result nodes.new values.new work.new }
+    ensures judges { Judges (event_left s event tables.old.rows tables.old.nodes tables.old.values tables.old.work) result tables.new.nodes tables.new.values tables.new.work }
+    ensures kept { tables.new.rows ≡ tables.old.rows }
 {
-    let begun = ready(s, rows, nodes, values);
-    let started = begun.session;
-    let part = started.part;
-    let Part::Events = part else {
-        return begun;
-    };
-    let told = begun.told;
-    happen(started, told.header, event, rows, nodes, values, work)
+    let begun = ready(s, tables);
+    match begun.session.part {
+        Part::Events => happen(
+            begun.session,
+            begun.told.header,
+            event,
+            &tables.rows,
+            &mut tables.nodes,
+            &mut tables.values,
+            &mut tables.work,
+        ),
+        _ => begun,
+    }
 }
 
-// One line.
-pub fn line(
-    s: Session,
-    found: Line,
-    rows: &mut [u32; 585],
-    nodes: &mut [u32; 1536],
-    values: &mut [u32; 4092],
-    work: &mut [u32; 9216],
-) -> After
+// One line, or what reads as none.
+pub fn line(s: Session, found: Option<Line>, tables: &mut Tables) -> After
     requires { Sound s × (s.ordinal < 18446744073709551615) }
-    ensures { Does (line_left s found rows.old nodes.old values.old work.old) result rows.new nodes.new values.new work.new }
+    ensures { Does (line_left s found tables.old.rows tables.old.nodes tables.old.values tables.old.work) result tables.new.rows tables.new.nodes tables.new.values tables.new.work }
 {
+    let Some(found) = found else {
+        return bad(s);
+    };
     match found {
-        Line::Sizes(k, c) => sizes(s, k, c),
-        Line::Row(a, b, c, d, e, f, g, h, i) => row(s, [a, b, c, d, e, f, g, h, i], rows),
-        Line::Event(predicate, count, a, b, c, _) => event(
-            s,
-            event_of(predicate, count, a, b, c),
-            rows,
-            nodes,
+        Line::Sizes { k, c } => sizes(s, k, c),
+        Line::Row(nine) => row(s, nine, &mut tables.rows),
+        Line::Event {
+            predicate,
+            count,
             values,
-            work,
-        ),
-        Line::Bad => bad(s),
+        } => event(s, event_of(predicate, count, values), tables),
     }
 }

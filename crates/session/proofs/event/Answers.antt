@@ -7,18 +7,25 @@ use Rattle.session.proofs.KeepLaws.{Stays, ready_stays}
 use Rattle.session.proofs.PartLaws.{but_events, event_left_other, event_left_started, judges_same}
 use Rattle.session.proofs.event.Goals as goal
 
-pub returns-in_default : goal.returns-in_default
-returns-in_default c =
-    let s = c in
-    event_left_other s.args.s s.args.event s.args.rows.now s.args.nodes.now s.args.values.now s.args.work.now _ _ _ c.ready-begun.ensures (but_events _ c.in_default.not-Events)
-
 pub happen-requires : goal.happen-requires
 happen-requires c =
-    let s = c in
-    let stays = subst (λ (r : After). Stays s.args.s r) (sym c.ready-begun.ensures.after_is) (ready_stays _ s.args.s _ _ _ s.requires.0) in
-    record { sound = (stays.sound, omega (arith, stays.same, s.requires.1)); tables = record { rows_long = search rules; nodes_long = search rules; values_long = search rules; work_long = search rules } }
+    let stays = subst (λ (r : After). Stays c.args.s r) (sym c.ready-begun.ensures.begins.after_is) (ready_stays _ c.args.s _ _ _ c.requires.0) in
+    record { sound = (stays.sound, omega (arith, stays.same, c.requires.1)); long = record { rows_long = search rules; nodes_long = search rules; values_long = search rules; work_long = search rules } }
 
-pub returns : goal.returns
-returns c =
-    let s = c in
-    judges_same (event_left_started s.args.s s.args.event s.args.rows.now s.args.nodes.now s.args.values.now s.args.work.now _ _ _ c.ready-begun.ensures c.in-Events.is) c.happen.ensures
+pub returns-in_default : goal.returns-in_default
+returns-in_default c =
+    let was = c.args.tables.now in
+    let ready = c.ready-begun.ensures in
+    record {
+      judges = event_left_other c.args.s c.args.event was.rows was.nodes was.values was.work _ _ _ ready.begins ready.kept.1 (but_events _ c.in_default.not-Events);
+      kept = ready.kept.0;
+    }
+
+pub returns-in-Events : goal.returns-in-Events
+returns-in-Events c =
+    let was = c.args.tables.now in
+    let ready = c.ready-begun.ensures in
+    record {
+      judges = judges_same (event_left_started c.args.s c.args.event was.rows was.nodes was.values was.work _ _ _ _ _ ready.begins ready.kept c.in-Events.is) c.happen.ensures;
+      kept = ready.kept.0;
+    }

@@ -1,25 +1,21 @@
 -- `session::ready` meets its contract, by the part. Assumes nothing.
 use mathlib.Core.Path.{◌∙◌, ap}
 use Rattle.session.specs.Lefts.{Begun}
-use Rattle.session.proofs.PartLaws.{ready_first, ready_rows, ready_events, ready_over}
+use Rattle.session.proofs.PartLaws.{ready_first, ready_rows, ready_later}
 use Rattle.session.proofs.ready.Goals as goal
 
-pub returns-in-First : goal.returns-in-First
-returns-in-First c =
+pub returns-in-First-clause-begins : goal.returns-in-First-clause-begins
+returns-in-First-clause-begins c =
     let e = ready_first _ _ _ _ _ c.in-First.is in
     record { after_is = c.bad.ensures ∙ ap (λ (b : Begun). b.after) e; nodes_are = ap (λ (b : Begun). b.nodes) e; values_are = ap (λ (b : Begun). b.values) e }
 
-pub returns-in-Rows : goal.returns-in-Rows
-returns-in-Rows c =
+pub returns-in-Rows-clause-begins : goal.returns-in-Rows-clause-begins
+returns-in-Rows-clause-begins c =
     let e = ready_rows _ _ _ _ _ c.in-Rows.is in
-    record { after_is = c.begin.ensures.after_is ∙ ap (λ (b : Begun). b.after) e; nodes_are = c.begin.ensures.nodes_are ∙ ap (λ (b : Begun). b.nodes) e; values_are = c.begin.ensures.values_are ∙ ap (λ (b : Begun). b.values) e }
+    let b = c.begin.ensures in
+    record { after_is = b.after_is ∙ ap (λ (b : Begun). b.after) e; nodes_are = b.nodes_are ∙ ap (λ (b : Begun). b.nodes) e; values_are = b.values_are ∙ ap (λ (b : Begun). b.values) e }
 
-pub returns-in-Events : goal.returns-in-Events
-returns-in-Events c =
-    let e = ready_events _ _ _ _ _ c.in-Events.is in
+pub returns-in-Events-clause-begins : goal.returns-in-Events-clause-begins
+returns-in-Events-clause-begins c =
+    let e = ready_later _ _ _ _ _ c.in-Events.is in
     record { after_is = c.quiet.ensures ∙ ap (λ (b : Begun). b.after) e; nodes_are = ap (λ (b : Begun). b.nodes) e; values_are = ap (λ (b : Begun). b.values) e }
-
-pub returns-in-Over : goal.returns-in-Over
-returns-in-Over c =
-    let e = ready_over _ _ _ _ _ c.in-Over.is in
-    record { after_is = c.quiet-in-Over.ensures ∙ ap (λ (b : Begun). b.after) e; nodes_are = ap (λ (b : Begun). b.nodes) e; values_are = ap (λ (b : Begun). b.values) e }

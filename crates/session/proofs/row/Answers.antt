@@ -4,6 +4,7 @@ use native.Mathlib.Omega.{arith}
 use mathlib.Core.Path.{◌∙◌, ap}
 use Rattle.session.specs.Lefts.{Rowed}
 use Rattle.session.proofs.PartLaws.{but_rows, row_more, row_other}
+use Rattle.session.proofs.SessionLaws.{row_copied}
 use Rattle.session.proofs.row.Goals as goal
 
 pub returns-in_default : goal.returns-in_default
@@ -13,5 +14,5 @@ returns-in_default c =
 
 pub returns : goal.returns
 returns c =
-    let e = row_more _ c.args.s _ _ c.in-Rows.is (omega arith) in
-    (c.quiet.ensures ∙ ap (λ (r : Rowed). r.after) e, c.put_row.ensures ∙ ap (λ (r : Rowed). r.rows) e)
+    let e = row_more c.args.s c.args.nine c.args.rows.now c.in-Rows.is (omega arith) in
+    (c.quiet.ensures ∙ ap (λ (r : Rowed). r.after) e, row_copied c.args.s.rows c.args.rows.now c.copy_from_slice.ensures.after ∙ ap (λ (r : Rowed). r.rows) e)
