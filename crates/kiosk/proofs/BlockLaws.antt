@@ -1,18 +1,18 @@
 -- Laws of a block's lines: piece after piece the same is left and put out as byte after byte. Assumes nothing.
-use Prim.Native.Nat.{ℕ, suc, ◌+◌, ◌≤◌, ◌<◌}
+use Prim.Native.Nat.{ℕ, suc, ◌+◌, ◌-◌, ◌≤◌, ◌<◌}
 use native.Mathlib.Omega.{arith}
 use native.Mathlib.Numerals.{add-one}
 use mathlib.Core.Path.{◌≡◌, refl, sym, ap, subst, ◌∙◌}
-use mathlib.Core.Bool.{Bool, true, false}
+use mathlib.Core.Bool.{Bool, true, false, cond}
 use mathlib.Core.List.{List, [], ◌∷◌, ◌++◌, append_assoc, append-nil}
 use lib.Dec.{eqb, ltb, leb-suc-suc}
-use lib.ListN.{length, take, drop, drop_of_length-le}
-use lib.Seq.{slice, slice_empty, length-take-le, drop-drop}
-use borrow.Author.Tests.{ltb-false, lt-ltb}
+use lib.ListN.{length, take, drop, length-drop, drop_of_length-le}
+use lib.Seq.{length-take-le, take_all}
+use borrow.Author.Tests.{ltb-true, ltb-false, lt-ltb}
+use Rattle.std.specs.Prelude.{Option, None, Some}
 use Rattle.answers.proofs.PutLaws.{drop_later}
-use Rattle.feed.specs.Feeds.{Held, holding, hold_byte, hold_bytes, before, Passed}
-use Rattle.feed.specs.declared.Piece.{Piece}
-use Rattle.kiosk.specs.Desks.{Desk, byte_desk, byte_puts, bytes_desk, bytes_put, served_desk, served_puts, end_desk, end_puts, block_desk, block_puts, Gives, Fills}
+use Rattle.feed.specs.Feeds.{Held, hold_byte, hold_bytes, before, Passed}
+use Rattle.kiosk.specs.Desks.{Desk, line_desk, line_puts, byte_desk, byte_puts, bytes_desk, bytes_put, served_desk, served_puts, end_desk, end_puts, block_desk, block_puts, Gives, Fills}
 
 -- the desk with another line held
 abbrev pub with_held : Desk → Held → Desk
@@ -85,66 +85,88 @@ piece_puts d (b ∷ bs) = go (eqb b 10) refl (piece_puts (byte_desk d b) bs)
             nothing : eqb b 10 ≡ false → byte_puts d b ≡ []
             nothing e = rw e
 
--- what is left of the block past a piece
-pub rest_after : {from n : ℕ} {block : List ℕ} {held : ℕ} {line : List ℕ} {p : Piece} {line' : List ℕ} → Passed from n block held line p line'
-    → slice p.from n block ≡ drop (before (slice from n block) + 1) (slice from n block)
-rest_after {from} {n} {block} {held} {line} {p} {line'} h = go p.whole refl
-  where
-    go : (q : Bool) → p.whole ≡ q → slice p.from n block ≡ drop (before (slice from n block) + 1) (slice from n block)
-    go true e =
-        let at : p.from ≡ from + (before (slice from n block) + 1) = h.from_is ∙ rw e (omega arith) in
-        ap (λ (m : ℕ). slice m n block) at ∙ sym (drop-drop (before (slice from n block) + 1) from (take n block))
-    go false e =
-        let at : p.from ≡ n = h.from_is ∙ rw e in
-        let all : length (slice from n block) ≤ before (slice from n block) = ltb-false (before (slice from n block)) (length (slice from n block)) (sym h.whole_is ∙ e) in
-        let past : length (slice from n block) ≤ before (slice from n block) + 1 = omega arith in
-        ap (λ (m : ℕ). slice m n block) at ∙ slice_empty n block ∙ sym (drop_of_length-le (slice from n block) past)
-
 -- a block in the middle: what is still to be left and put out is what the whole block is to leave and put out
-pub record Feeding (n : ℕ) (block : List ℕ) (d₀ : Desk) (out₀ : List ℕ) (d : Desk) (out : List ℕ) (at from : ℕ) : Type 0 where
-  pub desk_is : bytes_desk d (slice from n block) ≡ bytes_desk d₀ (take n block)
-  pub puts_are : take at out ++ bytes_put d (slice from n block) ≡ bytes_put d₀ (take n block)
+pub record Feeding (block : List ℕ) (d₀ : Desk) (out₀ : List ℕ) (d : Desk) (out : List ℕ) (at : ℕ) (left : List ℕ) : Type 0 where
+  pub desk_is : bytes_desk d left ≡ bytes_desk d₀ block
+  pub puts_are : take at out ++ bytes_put d left ≡ bytes_put d₀ block
   pub rest : drop at out ≡ drop at out₀
   pub inside : at ≤ length out
 
-pub feeding_starts : (n : ℕ) (block : List ℕ) (d : Desk) (out : List ℕ) → Feeding n block d out d out 0 0
-feeding_starts n block d out = record { desk_is = refl; puts_are = refl; rest = refl; inside = omega arith }
+pub feeding_starts : (block : List ℕ) (d : Desk) (out : List ℕ) → Feeding block d out d out 0 block
+feeding_starts block d out = record { desk_is = refl; puts_are = refl; rest = refl; inside = omega arith }
 
--- one piece
-pub feeding_more : {n : ℕ} {block : List ℕ} {d₀ : Desk} {out₀ : List ℕ} {d : Desk} {out : List ℕ} {at from : ℕ} {p : Piece} {line : List ℕ} {d' : Desk} {out' : List ℕ} {next : ℕ}
-    → Feeding n block d₀ out₀ d out at from → Passed from n block d.held.count d.held.line p line
-    → Gives (served_desk p.whole (with_held d (holding p.held line))) (served_puts p.whole (with_held d (holding p.held line))) out at d' out' next
-    → Feeding n block d₀ out₀ d' out' next p.from
-feeding_more {n} {block} {d₀} {out₀} {d} {out} {at} {from} {p} {line} {d'} {out'} {next} f h g =
-    record {
-      desk_is = (λ i. bytes_desk (is i) (left i)) ∙ sym (piece_desk d (slice from n block)) ∙ f.desk_is;
-      puts_are = (λ i. g.put.shown i ++ bytes_put (is i) (left i))
-          ∙ ap (λ (l : List ℕ). (take at out ++ l) ++ bytes_put (served_desk (ends (slice from n block)) (reached d (slice from n block))) (drop (before (slice from n block) + 1) (slice from n block))) puts
-          ∙ append_assoc (take at out) (served_puts (ends (slice from n block)) (reached d (slice from n block))) (bytes_put (served_desk (ends (slice from n block)) (reached d (slice from n block))) (drop (before (slice from n block) + 1) (slice from n block)))
-          ∙ ap (λ (l : List ℕ). take at out ++ l) (sym (piece_puts d (slice from n block)))
-          ∙ f.puts_are;
-      rest = g.put.rest ∙ subst (λ (m : ℕ). drop m out ≡ drop m out₀) (sym g.put.past) (drop_later out out₀ at (length (served_puts p.whole (with_held d (holding p.held line)))) f.rest);
-      inside = g.put.inside;
-    }
+-- where a line end was passed, one is among the bytes; where none was, none is
+pub record Ends (bytes : List ℕ) (past : ℕ) : Type 0 where
+  pub ends_is : ends bytes ≡ true
+  pub past_is : past ≡ before bytes + 1
+  pub inside : past ≤ length bytes
+
+pub passed_some : {bytes : List ℕ} {h h' : Held} {past : ℕ} → Passed bytes h (Some past) h' → Ends bytes past
+passed_some {bytes} {h} {h'} {past} p = go (ends bytes) refl p.next_is
   where
-    is : d' ≡ served_desk (ends (slice from n block)) (reached d (slice from n block))
-    is = g.desk_is ∙ (λ i. served_desk (h.whole_is i) (with_held d (h.held_is i)))
+    go : (q : Bool) → ends bytes ≡ q → Some past ≡ cond q (Some (before bytes + 1)) None → Ends bytes past
+    go true e f =
+        let at : past ≡ before bytes + 1 = cc in
+        record { ends_is = e; past_is = at; inside = omega (arith, ltb-true (before bytes) (length bytes) e) }
+    go false e f = absurd (let z : ◌≡◌ {A = ℕ} 0 1 = cc in omega arith)
 
-    left : slice p.from n block ≡ drop (before (slice from n block) + 1) (slice from n block)
-    left = rest_after h
+passed_none : {bytes : List ℕ} {h h' : Held} → Passed bytes h None h' → ends bytes ≡ false
+passed_none {bytes} {h} {h'} p = go (ends bytes) refl p.next_is
+  where
+    go : (q : Bool) → ends bytes ≡ q → ◌≡◌ {A = Option ℕ} None (cond q (Some (before bytes + 1)) None) → ends bytes ≡ false
+    go true e f = absurd (let z : ◌≡◌ {A = ℕ} 0 1 = cc in omega arith)
+    go false e f = e
 
-    puts : served_puts p.whole (with_held d (holding p.held line)) ≡ served_puts (ends (slice from n block)) (reached d (slice from n block))
-    puts = λ i. served_puts (h.whole_is i) (with_held d (h.held_is i))
+-- the bytes past a place
+past_place : (left : List ℕ) (past : ℕ) → take (length left - past) (drop past left) ≡ drop past left
+past_place left past = take_all (length left - past) (drop past left) (omega (arith, length-drop past left))
+
+pub left_long : (left : List ℕ) (past : ℕ) → length (take (length left - past) (drop past left)) ≡ length left - past
+left_long left past = ap length (past_place left past) ∙ length-drop past left
+
+-- one line
+pub feeding_more : {block : List ℕ} {d₀ : Desk} {out₀ : List ℕ} {d : Desk} {out : List ℕ} {at : ℕ} {left : List ℕ} {past : ℕ} {h' : Held} {d' : Desk} {out' : List ℕ} {next : ℕ}
+    → Feeding block d₀ out₀ d out at left → Passed left d.held (Some past) h'
+    → Gives (line_desk (with_held d h')) (line_puts (with_held d h')) out at d' out' next
+    → Feeding block d₀ out₀ d' out' next (take (length left - past) (drop past left))
+unfolding served_desk served_puts
+feeding_more {block} {d₀} {out₀} {d} {out} {at} {left} {past} {h'} {d'} {out'} {next} f p g = subst (λ (l : List ℕ). Feeding block d₀ out₀ d' out' next l) (sym (past_place left past))
+    (record {
+      desk_is = (λ i. bytes_desk (is i) (drop (e.past_is i) left)) ∙ sym (piece_desk d left) ∙ f.desk_is;
+      puts_are = (λ i. g.put.shown i ++ bytes_put (is i) (drop (e.past_is i) left))
+          ∙ ap (λ (l : List ℕ). (take at out ++ l) ++ bytes_put (served_desk (ends left) (reached d left)) (drop (before left + 1) left)) puts
+          ∙ append_assoc (take at out) (served_puts (ends left) (reached d left)) (bytes_put (served_desk (ends left) (reached d left)) (drop (before left + 1) left))
+          ∙ ap (λ (l : List ℕ). take at out ++ l) (sym (piece_puts d left))
+          ∙ f.puts_are;
+      rest = g.put.rest ∙ subst (λ (m : ℕ). drop m out ≡ drop m out₀) (sym g.put.past) (drop_later out out₀ at (length (line_puts (with_held d h'))) f.rest);
+      inside = g.put.inside;
+    })
+  where
+    e : Ends left past
+    e = passed_some p
+
+    is : d' ≡ served_desk (ends left) (reached d left)
+    is = g.desk_is ∙ (λ i. served_desk (sym e.ends_is i) (with_held d (p.held_is i)))
+
+    puts : line_puts (with_held d h') ≡ served_puts (ends left) (reached d left)
+    puts = λ i. served_puts (sym e.ends_is i) (with_held d (p.held_is i))
 
 -- the end of the block
-feeding_done : {n : ℕ} {block : List ℕ} {d₀ : Desk} {out₀ : List ℕ} {d : Desk} {out : List ℕ} {at from : ℕ} → Feeding n block d₀ out₀ d out at from → from ≡ n
-    → Gives (bytes_desk d₀ (take n block)) (bytes_put d₀ (take n block)) out₀ 0 d out at
-unfolding bytes_desk bytes_put
-feeding_done {n} {block} {d₀} {out₀} {d} {out} {at} {from} f e =
-    let none : slice from n block ≡ [] = ap (λ (m : ℕ). slice m n block) e ∙ slice_empty n block in
-    let shown : take at out ≡ bytes_put d₀ (take n block) = sym (append-nil (take at out)) ∙ ap (λ (l : List ℕ). take at out ++ bytes_put d l) (sym none) ∙ f.puts_are in
+feeding_done : {block : List ℕ} {d₀ : Desk} {out₀ : List ℕ} {d : Desk} {out : List ℕ} {at : ℕ} {left : List ℕ} {h' : Held}
+    → Feeding block d₀ out₀ d out at left → Passed left d.held None h'
+    → Gives (bytes_desk d₀ block) (bytes_put d₀ block) out₀ 0 (with_held d h') out at
+unfolding bytes_desk bytes_put served_desk served_puts
+feeding_done {block} {d₀} {out₀} {d} {out} {at} {left} {h'} f p =
+    let e = passed_none p in
+    let none : drop (before left + 1) left ≡ [] =
+    drop_of_length-le left (let all = ltb-false (before left) (length left) e in omega arith) in
+    let desk : bytes_desk d left ≡ with_held d h' =
+    piece_desk d left ∙ (λ i. bytes_desk (served_desk (e i) (with_held d (sym p.held_is i))) (none i)) in
+    let quiet : bytes_put d left ≡ [] =
+    piece_puts d left ∙ (λ i. served_puts (e i) (reached d left) ++ bytes_put (served_desk (e i) (reached d left)) (none i)) in
+    let shown : take at out ≡ bytes_put d₀ block = sym (append-nil (take at out)) ∙ ap (λ (l : List ℕ). take at out ++ l) (sym quiet) ∙ f.puts_are in
     record {
-      desk_is = ap (bytes_desk d) (sym none) ∙ f.desk_is;
+      desk_is = sym desk ∙ f.desk_is;
       put = record {
         past = omega (arith, length-take-le at out f.inside, ap length shown);
         inside = f.inside;
@@ -154,30 +176,17 @@ feeding_done {n} {block} {d₀} {out₀} {d} {out} {at} {from} f e =
     }
 
 -- a block of some bytes
-pub feeding_some : {n : ℕ} {block : List ℕ} {d₀ : Desk} {out₀ : List ℕ} {d : Desk} {out : List ℕ} {at from : ℕ} → Feeding n block d₀ out₀ d out at from → from ≡ n → 0 < n
-    → n ≤ length block → Fills d₀ (take n block) out₀ d out at
+pub feeding_some : {block : List ℕ} {d₀ : Desk} {out₀ : List ℕ} {d : Desk} {out : List ℕ} {at : ℕ} {left : List ℕ} {h' : Held} → 0 < length block
+    → Feeding block d₀ out₀ d out at left → Passed left d.held None h' → Fills d₀ block out₀ (with_held d h') out at
 unfolding block_desk block_puts
-feeding_some {n} {block} {d₀} {out₀} {d} {out} {at} {from} f e some room = go (take n block) refl (feeding_done f e)
-  where
-    go : (bytes : List ℕ) → take n block ≡ bytes → Gives (bytes_desk d₀ (take n block)) (bytes_put d₀ (take n block)) out₀ 0 d out at
-        → Fills d₀ (take n block) out₀ d out at
-    go [] q g = absurd (omega (arith, ap length q, length-take-le n block room))
-    go (b ∷ bs) q g =
-        let h : Gives (bytes_desk d₀ (b ∷ bs)) (bytes_put d₀ (b ∷ bs)) out₀ 0 d out at = subst (λ (l : List ℕ). Gives (bytes_desk d₀ l) (bytes_put d₀ l) out₀ 0 d out at) q g in
-        subst (λ (l : List ℕ). Fills d₀ l out₀ d out at) (sym q) (record { desk_is = h.desk_is; put = h.put })
+feeding_some {block = []} some f p = absurd (omega arith)
+feeding_some {block = b ∷ bs} some f p =
+    let done = feeding_done f p in
+    record { desk_is = done.desk_is; put = done.put }
 
 -- a block of no bytes
-pub feeding_none : {n : ℕ} {block : List ℕ} {d₀ : Desk} {out₀ : List ℕ} {d : Desk} {out : List ℕ} {at from : ℕ} {d' : Desk} {out' : List ℕ} {next : ℕ}
-    → Feeding n block d₀ out₀ d out at from → from ≡ n → n ≡ 0 → Gives (end_desk d) (end_puts d) out 0 d' out' next
-    → Fills d₀ (take n block) out₀ d' out' next
-unfolding block_desk block_puts bytes_desk bytes_put
-feeding_none {n} {block} {d₀} {out₀} {d} {out} {at} {from} {d'} {out'} {next} f e zero g =
-    let done = feeding_done f e in
-    let no : take n block ≡ [] = ap (λ (m : ℕ). take m block) zero in
-    let same : d ≡ d₀ = done.desk_is ∙ ap (bytes_desk d₀) no in
-    let nothing : at ≡ 0 = omega (arith, done.put.past, ap (λ (l : List ℕ). length (bytes_put d₀ l)) no) in
-    let was : out ≡ out₀ = subst (λ (m : ℕ). drop m out ≡ drop m out₀) nothing f.rest in
-    let end : Gives (end_desk d₀) (end_puts d₀) out₀ 0 d' out' next =
-    subst (λ (o : List ℕ). Gives (end_desk d₀) (end_puts d₀) o 0 d' out' next) was (subst (λ (x : Desk). Gives (end_desk x) (end_puts x) out 0 d' out' next) same g) in
-    subst (λ (l : List ℕ). Fills d₀ l out₀ d' out' next) (sym no)
-    (record { desk_is = end.desk_is; put = end.put })
+pub feeding_none : {block : List ℕ} {d : Desk} {out : List ℕ} {d' : Desk} {out' : List ℕ} {next : ℕ} → length block ≡ 0
+    → Gives (end_desk d) (end_puts d) out 0 d' out' next → Fills d block out d' out' next
+unfolding block_desk block_puts
+feeding_none {block = []} none g = record { desk_is = g.desk_is; put = g.put }
+feeding_none {block = b ∷ bs} none g = absurd (omega arith)

@@ -8,6 +8,7 @@ use lib.Dec.{eqb}
 use lib.ListN.{length, take, replicate, length-replicate}
 use borrow.Author.Tests.{lt-ltb, le-ltb}
 use Rattle.lines.specs.declared.Line.{Line}
+use Rattle.std.specs.Prelude.{Option}
 use Rattle.answers.specs.Answers.{told_lines}
 use Rattle.transcript.specs.Reading.{line_of}
 use Rattle.transcript.specs.Output.{opening, due, tell, told, last_line}
@@ -49,7 +50,7 @@ module _ (d : Desk) (g : Going) (p : Stands d g) where
   -- the line is read by what is held of it
   same_line : line_of (take d.held.count d.held.line) ≡ line_of g.begun
   same_line =
-      let l : Line = line_of (take d.held.count d.held.line) in
+      let l : Option Line = line_of (take d.held.count d.held.line) in
       reads_as g.begun l (fronts_read d.held g.begun l p.fronts (line_reads (take d.held.count d.held.line)))
 
   small_line : Small (line_of g.begun)

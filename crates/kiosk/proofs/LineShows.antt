@@ -2,14 +2,14 @@
 use Prim.Native.Nat.{ℕ}
 use native.Mathlib.Omega.{arith}
 use mathlib.Core.Path.{◌≡◌, refl, sym, subst, ◌∙◌}
-use mathlib.Core.List.{List, [], ◌∷◌, append-nil}
+use mathlib.Core.List.{List, append-nil}
 use Rattle.lines.specs.declared.Line.{Line}
 use Rattle.lines.specs.declared.Line.TheVariants as line
 use Rattle.meaning.specs.declared.Event.{Event}
 use Rattle.meaning.specs.declared.Answer.{Answer}
 use Rattle.meaning.specs.declared.Answer.TheVariants.{Started, Verdict, Refused}
 use Rattle.meaning.specs.Outcome.{StartOutcome}
-use Rattle.answers.specs.declared.Said.TheVariants.{Nothing}
+use Rattle.std.specs.Prelude.{Option, None, Some}
 use Rattle.answers.specs.declared.Told.{Told}
 use Rattle.answers.specs.Answers.{headed, said_line, told_lines}
 use Rattle.transcript.specs.Output.{Stand, Reply, silent, due, judged, tell_event, event_of, tell}
@@ -37,14 +37,14 @@ module _ (s : Session) (rows nodes values work : List ℕ) (st : Stand) (g : Sho
       (ready_by s.part s rows nodes values work refl (subst (λ (x : Stand). Shows s rows nodes values work x) g.stand_is g) g.rest)
 
 -- where a rule has started, nothing is said but the header
-begun_quiet : (a : Answer) (s : Session) (o : StartOutcome) → (begun_as a s o).session.part ≡ Events → (begun_as a s o).told.said ≡ Nothing
+begun_quiet : (a : Answer) (s : Session) (o : StartOutcome) → (begun_as a s o).session.part ≡ Events → (begun_as a s o).told.said ≡ None
 unfolding begun_as
 begun_quiet Started s o e = refl
 begun_quiet (Verdict holds kept room) s o e = refl
 begun_quiet (Refused number place) s o e = let z : ◌≡◌ {A = ℕ} 0 1 = cc in absurd (omega arith)
 
 ready_quiet : (p : Part) (s : Session) (rows nodes values : List ℕ) → (ready_as p s rows nodes values).after.session.part ≡ Events
-    → (ready_as p s rows nodes values).after.told.said ≡ Nothing
+    → (ready_as p s rows nodes values).after.told.said ≡ None
 unfolding ready_as bad_as begin_left
 ready_quiet First s rows nodes values e = let z : ◌≡◌ {A = ℕ} 0 1 = cc in absurd (omega arith)
 ready_quiet Rows s rows nodes values e = begun_quiet _ s _ e
@@ -52,12 +52,12 @@ ready_quiet Events s rows nodes values e = refl
 ready_quiet Over s rows nodes values e = refl
 
 -- a line that says nothing
-quiet_line : (t : Told) → t.said ≡ Nothing → told_lines t ≡ headed t.header
+quiet_line : (t : Told) → t.said ≡ None → told_lines t ≡ headed t.header
 unfolding told_lines said_line
 quiet_line t e = rw e (append-nil (headed t.header))
 
 -- an event after what was due
-event_by : (p : Part) (b : Begun) (e : Event) (rows work : List ℕ) (y : Reply) → b.after.session.part ≡ p → (p ≡ Events → b.after.told.said ≡ Nothing)
+event_by : (p : Part) (b : Begun) (e : Event) (rows work : List ℕ) (y : Reply) → b.after.session.part ≡ p → (p ≡ Events → b.after.told.said ≡ None)
     → Replies b.after rows b.nodes b.values work y
     → Replies (event_as p b e rows work).after rows (event_as p b e rows work).nodes (event_as p b e rows work).values (event_as p b e rows work).work (judged e y.bytes y.stand)
 unfolding event_as judged stand_as Due
@@ -86,11 +86,10 @@ module _ (s : Session) (rows nodes values work : List ℕ) (st : Stand) (g : Sho
   event_shows e =
       event_by _ (ready_as s.part s rows nodes values) e rows work (due st) refl (ready_quiet s.part s rows nodes values) (ready_shows s rows nodes values work st g)
 
-  pub line_shows : (l : Line) → Small l
+  pub line_shows : (l : Option Line) → Small l
       → Replies (line_left s l rows nodes values work).after (line_left s l rows nodes values work).rows (line_left s l rows nodes values work).nodes (line_left s l rows nodes values work).values (line_left s l rows nodes values work).work (tell st l)
   unfolding line_left tell
-  line_shows (line.Sizes k c) small = rw g.stand_is (sizes_shows s rows nodes values work g.sound g.tables s.part k c refl g.rest small)
-  line_shows (line.Row a b c d e f x y i) small =
-      rw g.stand_is (row_shows s rows nodes values work g.sound g.tables s.part (a ∷ b ∷ c ∷ d ∷ e ∷ f ∷ x ∷ y ∷ i ∷ []) refl refl g.rest)
-  line_shows (line.Event p n a b c d) small = event_shows (event_of p n a b c)
-  line_shows line.Bad small = rw g.stand_is (bad_shows s rows nodes values work g.sound g.tables s.part refl)
+  line_shows (Some (line.Sizes k c)) small = rw g.stand_is (sizes_shows s rows nodes values work g.sound g.tables s.part k c refl g.rest small)
+  line_shows (Some (line.Row nine)) small = rw g.stand_is (row_shows s rows nodes values work g.sound g.tables s.part nine small refl g.rest)
+  line_shows (Some (line.Event p n four)) small = event_shows (event_of p n four)
+  line_shows None small = rw g.stand_is (bad_shows s rows nodes values work g.sound g.tables s.part refl)

@@ -5,14 +5,24 @@ use mathlib.Core.List.{List, [], ◌∷◌, ◌++◌}
 use lib.ListN.{take, replicate}
 use Rattle.session.specs.Lefts.{opened_session}
 use Rattle.session.specs.declared.Session.{Session}
-use Rattle.kiosk.specs.Desks.{Desk, desk_of, block_desk, Fills}
+use Rattle.feed.specs.Feeds.{Held, holding}
+use Rattle.kiosk.specs.Desks.{Desk, block_desk, Fills}
 use Rattle.kiosk.specs.Runs.{opened_desk, after, Reached, Answers}
 
+-- the desk before the first block
+pub opened_shown : {s : Session} {h : Held} → s ≡ opened_session → h ≡ holding 0 (replicate 101 0)
+    → ◌≡◌ {A = Desk} (record { session = s; held = h; rows = replicate 585 0; nodes = replicate 1536 0; values = replicate 4092 0; work = replicate 9216 0 }) opened_desk
+unfolding opened_desk
+opened_shown e f = λ i. record { session = e i; held = f i; rows = replicate 585 0; nodes = replicate 1536 0; values = replicate 4092 0; work = replicate 9216 0 }
+
 -- before the first block
-pub reached_first : {s : Session} → s ≡ opened_session
-    → Reached (desk_of s 0 (replicate 101 0) (replicate 585 0) (replicate 1536 0) (replicate 4092 0) (replicate 9216 0))
-unfolding after opened_desk
-reached_first e = record { blocks = []; desk_is = λ i. desk_of (e i) 0 (replicate 101 0) (replicate 585 0) (replicate 1536 0) (replicate 4092 0) (replicate 9216 0) }
+pub reached_first : {d : Desk} → d ≡ opened_desk → Reached d
+unfolding after
+reached_first e = record { blocks = []; desk_is = e }
+
+pub first_count : {d : Desk} → d ≡ opened_desk → d.session.ordinal ≡ 0
+unfolding opened_desk opened_session
+first_count e = ap (λ (d : Desk). d.session.ordinal) e
 
 -- one block more
 after_more : (d : Desk) (blocks : List (List ℕ)) (block : List ℕ) → block_desk (after d blocks) block ≡ after d (blocks ++ (block ∷ []))

@@ -15,7 +15,7 @@ use Rattle.session.specs.declared.Part.TheVariants.{First, Rows, Events, Over}
 use Rattle.session.specs.declared.Session.{Session}
 use Rattle.session.specs.declared.After.{After}
 use Rattle.session.specs.Sessions as session
-use Rattle.session.specs.Sessions.{Sound, Tables}
+use Rattle.session.specs.Sessions.{Sound, Long}
 use Rattle.session.specs.Lefts.{turned_to, bad_as, sizes_as, row_as}
 
 -- the stand of a session and its tables, by the part
@@ -36,7 +36,7 @@ Due Over s nodes values work = Unit {0}
 pub record Shows (s : Session) (rows nodes values work : List ℕ) (st : Stand) : Type 0 where
   pub stand_is : st ≡ stand_as s.part s rows nodes values work
   pub sound : Sound s
-  pub tables : Tables rows nodes values work
+  pub tables : Long rows nodes values work
   pub rest : Due s.part s nodes values work
 
 -- what is left shows the stand of the reply, and what is told is the reply's bytes
@@ -45,11 +45,11 @@ pub record Replies (r : After) (rows nodes values work : List ℕ) (y : Reply) :
   pub bytes_are : told_lines r.told ≡ y.bytes
 
 -- a run that has ended
-over_shows : (s : Session) (rows nodes values work : List ℕ) → s.part ≡ Over → Sound s → Tables rows nodes values work → Shows s rows nodes values work ended
+over_shows : (s : Session) (rows nodes values work : List ℕ) → s.part ≡ Over → Sound s → Long rows nodes values work → Shows s rows nodes values work ended
 unfolding stand_as Due
 over_shows s rows nodes values work e h t = record { stand_is = rw e; sound = h; tables = t; rest = rw e tt }
 
-module _ (s : Session) (rows nodes values work : List ℕ) (h : Sound s) (t : Tables rows nodes values work) where
+module _ (s : Session) (rows nodes values work : List ℕ) (h : Sound s) (t : Long rows nodes values work) where
   pub turned_over : Shows (turned_to s Over) rows nodes values work ended
   turned_over = over_shows (turned_to s Over) rows nodes values work refl (record { nodes_few = h.nodes_few; rows_few = h.rows_few }) t
 

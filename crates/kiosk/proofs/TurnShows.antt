@@ -20,9 +20,9 @@ use Rattle.transcript.proofs.LengthLaws.{Keeps, event_keeps}
 use Rattle.session.specs.declared.Part.TheVariants.{Events}
 use Rattle.session.specs.declared.Session.{Session}
 use Rattle.session.specs.Sessions as session
-use Rattle.session.specs.Sessions.{Sound, Tables}
+use Rattle.session.specs.Sessions.{Sound, Long}
 use Rattle.session.specs.Lefts.{started, begun_as, begin_left, happen_left, happened}
-use Rattle.session.proofs.SessionLaws.{listed_none, listed_entry}
+use Rattle.session.proofs.SessionLaws.{listed_none, listed_shift}
 use Rattle.kiosk.proofs.ShowLaws.{stand_as, Due, Shows, Replies, turned_over}
 
 -- the front of zeros
@@ -68,10 +68,10 @@ listed_few k = go (ltb 10 k) refl
     go : (q : Bool) → ltb 10 k ≡ q → values_asked k ≤ 4092
     go true e = omega (arith, listed_none k (ltb-true 10 k e))
     go false e =
-        let entry = listed_entry k (ltb-false 10 k e) in
+        let entry = listed_shift k (ltb-false 10 k e) in
         omega (arith, entry.0, entry.1)
 
-module _ (s : Session) (rows nodes values work : List ℕ) (h : Sound s) (t : Tables rows nodes values work) where
+module _ (s : Session) (rows nodes values work : List ℕ) (h : Sound s) (t : Long rows nodes values work) where
   nodes_part : length (take (3 * s.c) nodes) ≡ 3 * s.c
   nodes_part = length-take-le (3 * s.c) nodes (omega (arith, h.nodes_few, t.nodes_long))
 
@@ -83,7 +83,7 @@ module _ (s : Session) (rows nodes values work : List ℕ) (h : Sound s) (t : Ta
 
   -- parts put back keep the tables' lengths
   put_back : (ns vs : List ℕ) → length ns ≡ 3 * s.c → length vs ≡ values_asked s.k
-      → Tables rows (ns ++ drop (3 * s.c) nodes) (vs ++ drop (values_asked s.k) values) work
+      → Long rows (ns ++ drop (3 * s.c) nodes) (vs ++ drop (values_asked s.k) values) work
   put_back ns vs n v = record {
     rows_long = t.rows_long;
     nodes_long = omega (arith, length-append ns (drop (3 * s.c) nodes), length-drop (3 * s.c) nodes, n, t.nodes_long, h.nodes_few);
@@ -109,7 +109,7 @@ module _ (s : Session) (rows nodes values work : List ℕ) (h : Sound s) (t : Ta
     unfolding work_size
     work_zeros = ap (take (16 * s.c + 1024)) d.3 ∙ take_zeros (16 * s.c + 1024) 9216 (omega (arith, h.nodes_few))
 
-    back : Tables rows ((started s rows nodes values).nodes ++ drop (3 * s.c) nodes) ((started s rows nodes values).values ++ drop (values_asked s.k) values) work
+    back : Long rows ((started s rows nodes values).nodes ++ drop (3 * s.c) nodes) ((started s rows nodes values).values ++ drop (values_asked s.k) values) work
     back = put_back (started s rows nodes values).nodes (started s rows nodes values).values ns_long vs_long
 
     begun_shows : Shows

@@ -6,6 +6,7 @@ use Rattle.transcript.specs.Reading.{line_of}
 use Rattle.feed.specs.Feeds.{Held, holding, hold_byte}
 use Rattle.session.specs.Lefts.{Begun, ready_as, Left, line_left}
 use Rattle.session.specs.declared.Session.{Session}
+use Rattle.kiosk.specs.declared.blocks.Desk as code
 
 -- all that is kept from block to block
 pub record Desk : Type 0 where
@@ -18,6 +19,10 @@ pub record Desk : Type 0 where
 
 abbrev pub desk_of : Session → ℕ → List ℕ → List ℕ → List ℕ → List ℕ → List ℕ → Desk
 desk_of s n line rows nodes values work = record { session = s; held = holding n line; rows = rows; nodes = nodes; values = values; work = work }
+
+-- what the program's desk shows
+abbrev pub shown : code.Desk → Desk
+shown d = desk_of d.session d.held.count d.held.line d.tables.rows d.tables.nodes d.tables.values d.tables.work
 
 -- the line that is held, judged
 unfoldable pub judged_line : Desk → Left
@@ -85,9 +90,9 @@ pub record Gives (left : Desk) (bytes : List ℕ) (out : List ℕ) (at : ℕ) (d
   pub desk_is : d ≡ left
   pub put : Put out at bytes out' next
 
--- the line that is held was served, if it is whole
-abbrev pub Served : Bool → Desk → List ℕ → ℕ → Desk → List ℕ → ℕ → Type 0
-Served whole d out at d' out' next = Gives (served_desk whole d) (served_puts whole d) out at d' out' next
+-- the line that is held was served, if there is one
+abbrev pub Served : Desk → List ℕ → Desk → List ℕ → ℕ → Type 0
+Served d out d' out' next = Gives (served_desk (ltb 0 d.held.count) d) (served_puts (ltb 0 d.held.count) d) out 0 d' out' next
 
 -- the input was ended
 abbrev pub Ended : Desk → List ℕ → Desk → List ℕ → ℕ → Type 0

@@ -1,124 +1,98 @@
 // A block of the input, judged line by line, with what its lines tell.
-ghost use Rattle.std.specs.Prelude.{◌+◌, max, ◌≤◌, ◌<◌, length, take};
+ghost use Rattle.std.specs.Prelude.{◌≡◌, ◌+◌, max, ◌≤◌, ◌<◌, length};
 ghost use Rattle.session.specs.Sessions.{Sound};
-ghost use Rattle.kiosk.specs.Desks.{desk_of, Served, Ended, Fills};
-ghost use Rattle.kiosk.specs.Blocks.{Serves, Takes};
 
-use session::Session;
+use feed::Held;
+use session::{Session, Tables};
 
-// A session, how many bytes of a line are held, and how many bytes are put out.
-#[derive(Clone, Copy)]
-pub struct Fed {
+// All that is kept from block to block: the session, what is held of a line, and the tables.
+#[derive(Drop)]
+pub struct Desk {
     pub session: Session,
-    pub held: usize,
-    pub at: usize,
+    pub held: Held,
+    pub tables: Tables,
+    ghost sound: { Sound session },
 }
 
-// The line that is held, if it is whole: it is judged, and what it tells is put out from `at` on.
-fn serve(
-    s: Session,
-    held: usize,
-    whole: bool,
-    line: &[u8; 101],
-    rows: &mut [u32; 585],
-    nodes: &mut [u32; 1536],
-    values: &mut [u32; 4092],
-    work: &mut [u32; 9216],
-    out: &mut [u8; 76800],
-    at: usize,
-) -> Fed
-    requires sound { Sound s × (s.ordinal < 18446744073709551615) }
-    requires held_bound { (held ≤ 101) × (at + 75 ≤ 76800) × (at ≤ length out.old) }
-    ensures serves { Serves s at result }
-    ensures served { Served whole (desk_of s held line.now rows.old nodes.old values.old work.old) out.old at (desk_of result.session result.held line.now rows.new nodes.new values.new work.new) out.new result.at }
-{
-    if !whole {
-        return Fed {
-            session: s,
-            held,
-            at,
-        };
-    }
-    let found = feed::read(line, held);
-    let after = session::line(s, found, rows, nodes, values, work);
-    let session = after.session;
-    let told = after.told;
-    Fed {
-        session,
-        held: 0,
-        at: answers::put_told(out, at, told),
-    }
-}
+impl Desk {
+    ghost use Rattle.kiosk.specs.Desks.{shown, line_desk, line_puts, Gives, Served, Ended, Fills};
+    ghost use Rattle.kiosk.specs.Runs.{opened_desk};
 
-// The end of the input: the last line needs no line end.
-fn rest(
-    s: Session,
-    held: usize,
-    line: &[u8; 101],
-    rows: &mut [u32; 585],
-    nodes: &mut [u32; 1536],
-    values: &mut [u32; 4092],
-    work: &mut [u32; 9216],
-    out: &mut [u8; 76800],
-) -> Fed
-    requires sound { Sound s × (s.ordinal < 18446744073709551615) }
-    requires held_bound { held ≤ 101 }
-    ensures takes { Takes s 1 result }
-    ensures ended { Ended (desk_of s held line.now rows.old nodes.old values.old work.old) out.old (desk_of result.session result.held line.now rows.new nodes.new values.new work.new) out.new result.at }
-{
-    let fed = serve(s, held, 0 < held, line, rows, nodes, values, work, out, 0);
-    let after = session::ready(fed.session, rows, nodes, values);
-    let session = after.session;
-    let told = after.told;
-    Fed {
-        session,
-        held: 0,
-        at: answers::put_told(out, fed.at, told),
+    // Before the first block.
+    pub fn new() -> Self
+        ensures { shown result ≡ opened_desk }
+    {
+        Desk {
+            session: session::opened(),
+            held: Held::new(),
+            tables: Tables {
+                rows: [0; 585],
+                nodes: [0; 1536],
+                values: [0; 4092],
+                work: [0; 9216],
+            },
+        }
     }
-}
 
-// The lines that end in the first n bytes of the block, one after the other; of no bytes, the end of the input.
-pub fn lines_of(
-    s: Session,
-    held: usize,
-    block: &[u8; 1024],
-    n: usize,
-    line: &mut [u8; 101],
-    rows: &mut [u32; 585],
-    nodes: &mut [u32; 1536],
-    values: &mut [u32; 4092],
-    work: &mut [u32; 9216],
-    out: &mut [u8; 76800],
-) -> Fed
-    requires sound { Sound s × (s.ordinal + n < 18446744073709551615) }
-    requires held_bound { (held ≤ 101) × (n ≤ 1024) }
-    ensures takes { Takes s (max n 1) result }
-    ensures fills { Fills (desk_of s held line.old rows.old nodes.old values.old work.old) (take n block.now) out.old (desk_of result.session result.held line.new rows.new nodes.new values.new work.new) out.new result.at }
-{
-    let mut fed = Fed {
-        session: s,
-        held,
-        at: 0,
-    };
-    let mut from = 0;
-    while from < n {
-        let piece = feed::next(fed.held, block, from, n, line);
-        fed = serve(
-            fed.session,
-            piece.held,
-            piece.whole,
-            line,
-            rows,
-            nodes,
-            values,
-            work,
-            out,
-            fed.at,
-        );
-        from = piece.from;
+    // The line that is held is judged, and what it tells is put out from `at` on; the answer is the place past that.
+    fn serve(&mut self, out: &mut [u8; 76800], at: usize) -> usize
+        requires few { self.old.session.ordinal < 18446744073709551615 }
+        requires room { at + 75 ≤ 76800 }
+        ensures counted { self.new.session.ordinal ≤ self.old.session.ordinal + 1 }
+        ensures near { result ≤ at + 75 }
+        ensures served { Gives (line_desk (shown self.old)) (line_puts (shown self.old)) out.old at (shown self.new) out.new result }
+    {
+        let found = self.held.read();
+        let after = session::line(self.session, found, &mut self.tables);
+        self.session = after.session;
+        self.held.clear();
+        answers::put_told(out, at, after.told)
     }
-    if 0 < n {
-        return fed;
+
+    // The last line needs no line end.
+    fn last(&mut self, out: &mut [u8; 76800]) -> usize
+        requires { self.old.session.ordinal < 18446744073709551615 }
+        ensures counted { self.new.session.ordinal ≤ self.old.session.ordinal + 1 }
+        ensures near { result ≤ 75 }
+        ensures served { Served (shown self.old) out.old (shown self.new) out.new result }
+    {
+        if self.held.count == 0 {
+            return 0;
+        }
+        self.serve(out, 0)
     }
-    rest(fed.session, fed.held, line, rows, nodes, values, work, out)
+
+    // The end of the input: the last line, and then what is due.
+    fn rest(&mut self, out: &mut [u8; 76800]) -> usize
+        requires { self.old.session.ordinal < 18446744073709551615 }
+        ensures counted { self.new.session.ordinal ≤ self.old.session.ordinal + 1 }
+        ensures near { result ≤ 150 }
+        ensures ended { Ended (shown self.old) out.old (shown self.new) out.new result }
+    {
+        let next = self.last(out);
+        let after = session::ready(self.session, &mut self.tables);
+        self.session = after.session;
+        self.held.clear();
+        answers::put_told(out, next, after.told)
+    }
+
+    // The lines that end in the block, one after the other; of no bytes, the end of the input. The answer is how many bytes are put out.
+    pub fn lines_of(&mut self, block: &[u8], out: &mut [u8; 76800]) -> usize
+        requires few { self.old.session.ordinal + length block.now < 18446744073709551615 }
+        requires long { length block.now ≤ 1024 }
+        ensures counted { self.new.session.ordinal ≤ self.old.session.ordinal + max (length block.now) 1 }
+        ensures near { result ≤ 76800 }
+        ensures fills { Fills (shown self.old) block.now out.old (shown self.new) out.new result }
+    {
+        if block.is_empty() {
+            return self.rest(out);
+        }
+        let mut at = 0;
+        let mut rest = block;
+        while let Some(past) = self.held.next(rest) {
+            at = self.serve(out, at);
+            rest = &rest[past..];
+        }
+        at
+    }
 }

@@ -5,106 +5,64 @@
 
 mod blocks;
 
-ghost use Rattle.std.specs.Prelude.{◌≤◌, ◌<◌, take};
-ghost use Rattle.kiosk.specs.Reading.{Few, Left};
+ghost use Rattle.std.specs.Prelude.{◌≤◌, IfSome};
 ghost use Rattle.kiosk.specs.Runs.{Answers};
 
+use blocks::Desk;
 use std::io::{Read, Stderr, Stdin, Stdout, Write};
-
-// What was read: so many bytes, of which 0 is the end of the input, or nothing that counts.
-#[derive(Clone, Copy)]
-enum Got {
-    Bytes(usize),
-    Stop,
-}
 
 // Writes to standard error.
 fn say(mut stderr: Stderr, words: &[u8]) {
     let _ = stderr.write_all(words);
 }
 
-// Reads a block, of no more bytes than may still come.
-fn fill(mut stdin: Stdin, stderr: Stderr, block: &mut [u8; 1024], left: u64) -> Got
-    ensures { Few left result }
+// Reads a block, of no more bytes than may still come. No bytes are the end of the input; none at all, where nothing that counts was read.
+fn fill(mut stdin: Stdin, stderr: Stderr, block: &mut [u8; 1024], left: u64) -> Option<usize>
+    ensures { IfSome result (λ n. (n ≤ 1024) × (n ≤ left)) }
 {
     let Ok(n) = stdin.read(block) else {
         say(stderr, b"kiosk: the input cannot be read\n");
-        return Got::Stop;
+        return None;
     };
     if left < n as u64 {
-        return Got::Stop;
+        return None;
     }
-    Got::Bytes(n)
+    Some(n)
 }
 
-// Writes the first `n` bytes of the answers, which are what a block puts out, and says so where it cannot.
-fn write_out(mut stdout: Stdout, stderr: Stderr, out: &[u8; 76800], n: usize) -> bool
-    requires { (n ≤ 76800) × Answers (take n out.now) }
+// Writes the answers, which are what a block puts out, and says so where it cannot.
+fn write_out(mut stdout: Stdout, stderr: Stderr, answers: &[u8]) -> bool
+    requires { Answers answers.now }
 {
-    let all: &[u8] = out;
-    if stdout.write_all(&all[0..n]).is_ok() {
+    if stdout.write_all(answers).is_ok() {
         return true;
     }
     say(stderr, b"kiosk: the answers cannot be written\n");
     false
 }
 
-// How many bytes may come after n of them: none at the end of the input, after the run's last line, and where the answers cannot be written.
-fn left_after(left: u64, n: usize, ended: bool, written: bool) -> u64
-    requires { (n ≤ left) × (0 < left) }
-    ensures { Left left n result }
-{
-    if n == 0 {
-        return 0;
-    }
-    if ended {
-        return 0;
-    }
-    if !written {
-        return 0;
-    }
-    left - n as u64
-}
-
-// Reads block after block to the end of the input. A proved loop has to end, and nothing says that the input does: the bytes
-// are counted down from a number that no run uses up, which also keeps the count of events from running over.
+// Reads block after block, to the end of the input, to the run's last line, or to where the answers cannot be written. A proved loop has to
+// end, and nothing says that the input does: the bytes are counted down from a number that no run uses up, which also keeps the count of
+// events from running over.
 fn main(rt: HostRuntime) {
     let stdin = rt.stdin();
     let stdout = rt.stdout();
     let stderr = rt.stderr();
     let mut block = [0u8; 1024];
-    let mut line = [0u8; 101];
-    let mut rows = [0u32; 585];
-    let mut nodes = [0u32; 1536];
-    let mut values = [0u32; 4092];
-    let mut work = [0u32; 9216];
     let mut out = [0u8; 76800];
-    let mut s = session::opened();
-    let mut held = 0;
+    let mut desk = Desk::new();
     let mut left = u64::MAX - 1;
     while 0 < left {
-        let Got::Bytes(n) = fill(stdin, stderr, &mut block, left) else {
+        let Some(n) = fill(stdin, stderr, &mut block, left) else {
             return;
         };
-        let fed = blocks::lines_of(
-            s,
-            held,
-            &block,
-            n,
-            &mut line,
-            &mut rows,
-            &mut nodes,
-            &mut values,
-            &mut work,
-            &mut out,
-        );
-        s = fed.session;
-        held = fed.held;
-        left = left_after(
-            left,
-            n,
-            session::over(s),
-            write_out(stdout, stderr, &out, fed.at),
-        );
+        let at = desk.lines_of(&block[..n], &mut out);
+        if !write_out(stdout, stderr, &out[..at]) {
+            return;
+        }
+        if n == 0 || session::over(desk.session) {
+            return;
+        }
+        left -= n as u64;
     }
 }

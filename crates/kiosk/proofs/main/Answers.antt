@@ -1,23 +1,16 @@
 -- The desk is reached at the start and after each block. Assumes nothing.
 use Rattle.std.proofs.Common.{arith}
-use Rattle.kiosk.proofs.ReachLaws.{reached_first, reached_more, reached_answers}
-use Rattle.kiosk.proofs.ServeLaws.{opened_sound}
+use lib.Seq.{length-take-le}
+use Rattle.kiosk.proofs.ReachLaws.{reached_first, first_count, reached_more}
 use Rattle.kiosk.proofs.main.Goals as goal
 
 pub loop-left-init : goal.loop-left-init
-loop-left-init c =
-    let opened = opened_sound c.opened-s.ensures in
-    record { sound = opened.0; few = omega arith; counted = omega (arith, opened.1); reached = reached_first c.opened-s.ensures }
+loop-left-init c = record { counted = omega (arith, first_count c.new-desk.ensures); reached = reached_first c.new-desk.ensures }
 
 pub loop-left-preserved : goal.loop-left-preserved
 loop-left-preserved c =
-    let fed = c.lines_of-fed.ensures in
+    let call = c.lines_of-at.ensures in
     record {
-      sound = fed.takes.sound;
-      few = fed.takes.few;
-      counted = omega (arith, fed.takes.counted, c.left_after-left.ensures.counted, c.loop-left.invariant.counted);
-      reached = reached_more c.loop-left.invariant.reached fed.fills;
+      counted = omega (arith, call.counted, c.loop-left.invariant.counted, c.in-Some.ensures, length-take-le c.in-Some.n c.fill.new.block (omega (arith, c.in-Some.ensures)));
+      reached = reached_more c.loop-left.invariant.reached call.fills;
     }
-
-pub write_out-requires : goal.write_out-requires
-write_out-requires c = (omega (arith, c.lines_of-fed.ensures.takes.near), reached_answers c.loop-left.invariant.reached c.lines_of-fed.ensures.fills)
