@@ -11,7 +11,7 @@ use Rattle.trees.proofs.Tests.{not_true, lt_or_ge, false_true}
 use mathlib.Core.Logic.{◌⊎◌, inl, inr}
 use Rattle.std.specs.Str.{bytes_eq}
 use Rattle.spelling.proofs.SameLaws.{equal_same}
-use Rattle.std.specs.Prelude.{Option, Some, None, is_some, IsSome}
+use Rattle.std.specs.Prelude.{Option, Some, None, is_some, IsSome, unwrap_or}
 use Rattle.text.specs.Words.{same}
 use Rattle.text.specs.Unfold.{listed, number_in, uses_after}
 use Rattle.text.proofs.NameLaws.{number_lt}
@@ -161,3 +161,9 @@ find_lists ns x (Some i) f h = refl
 
 pub find_number : (ns : List (List ℕ)) (x : List ℕ) (o : Option ℕ) (i : ℕ) → Found ns x o → o ≡ Some i → (i ≡ number_in ns x) × (i < length ns)
 find_number ns x o i f e = rw e at f
+
+-- the number of any name, one that is not there being after the others
+pub find_slot : (text : List ℕ) (spans : List Span) (x : List ℕ) (o : Option ℕ) (r : ℕ) → Found (names_at text spans) x o → r ≡ unwrap_or o (length spans)
+    → (r ≡ number_in (names_at text spans) x) × (r ≤ length spans)
+find_slot text spans x None r f e = (omega (arith, f, e, table_length text spans), omega arith)
+find_slot text spans x (Some i) r f e = (omega (arith, f.0, e), omega (arith, f.1, e, table_length text spans))

@@ -1,13 +1,15 @@
 -- `atom` meets its contract. Assumes nothing.
+use Rattle.spelling.specs.declared.kinds.Kind.TheVariants.{Open}
+use Rattle.spelling.proofs.Each.{kind_met, kind_missed}
 use Rattle.census.specs.Tables.{names_at}
-use Rattle.atomic.proofs.CollectLaws.{atom_alone, atom_lexed, atom_some}
+use Rattle.atomic.proofs.CollectLaws.{atom_ends, atom_alone, atom_some}
 use Rattle.atomic.proofs.atom.Goals as goal
 
-pub returns-then-w-ne14 : goal.returns-then-w-ne14
-returns-then-w-ne14 c = atom_alone (names_at c.args.text.now c.args.starts.now c.args.lengths.now c.args.n) c.args.text.now c.args.predicate c.args.at _ _ _ c.next_word-w.ensures c.if-w-ne14.true
+pub returns-in-Some : goal.returns-in-Some
+returns-in-Some c = atom_some (names_at c.args.names.text.now c.args.names.spans.now) _ c.args.predicate _ _ c.in-Some.ensures _ (kind_met c.in-Some.w.word Open _ c.eq.ensures c.if-eq.true) c.collect.ensures
 
-pub collect-requires : goal.collect-requires
-collect-requires c = record { table = (c.requires.table.0, atom_lexed (names_at c.args.text.now c.args.starts.now c.args.lengths.now c.args.n) c.args.text.now c.args.predicate c.args.at _ _ _ c.next_word-w.ensures c.requires.table.1 c.if-w-ne14.false); n_bound = c.requires.n_bound }
+pub returns-in_default : goal.returns-in_default
+returns-in_default c = atom_alone (names_at c.args.names.text.now c.args.names.spans.now) _ c.args.predicate _ _ c.in-Some.ensures (kind_missed c.in-Some.w.word Open _ c.eq.ensures c.if-eq.false)
 
-pub returns : goal.returns
-returns c = atom_some (names_at c.args.text.now c.args.starts.now c.args.lengths.now c.args.n) c.args.text.now c.args.predicate c.args.at _ _ _ c.next_word-w.ensures _ c.if-w-ne14.false c.collect.ensures
+pub returns-in_default-2 : goal.returns-in_default-2
+returns-in_default-2 c = atom_ends (names_at c.args.names.text.now c.args.names.spans.now) _ c.args.predicate _ (rw c.in_default.is at c.next_word.ensures)

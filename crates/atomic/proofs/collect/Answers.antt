@@ -1,27 +1,13 @@
-use native.Mathlib.Omega.{arith}
-use Rattle.atomic.proofs.CollectLaws.{collect_begins, collect_over, collect_ends, collect_shut, collect_past, collect_more}
+use Rattle.spelling.specs.declared.kinds.Kind.TheVariants.{Close}
+use Rattle.spelling.proofs.Each.{kind_met, kind_missed}
+use Rattle.atomic.proofs.CollectLaws.{collect_ends, collect_shut, collect_more}
 use Rattle.atomic.proofs.collect.Goals as goal
 
-pub loop-at-init : goal.loop-at-init
-loop-at-init c = collect_begins _ _ _ _ c.requires.table.1
+pub returns-then-eq : goal.returns-then-eq
+returns-then-eq c = collect_shut _ _ _ _ _ _ c.loop-w.invariant _ c.in-Some.ensures (kind_met c.in-Some.w.word Close _ c.eq.ensures c.if-eq.true)
 
-pub next_word-w-requires : goal.next_word-w-requires
-next_word-w-requires c = c.loop-at.invariant.lexed.inside
-
-pub returns-then-w-eq18 : goal.returns-then-w-eq18
-returns-then-w-eq18 c = collect_ends _ _ _ _ _ _ c.loop-at.invariant _ _ _ c.next_word-w.ensures c.if-w-eq18.true
-
-pub returns-then-w-eq15 : goal.returns-then-w-eq15
-returns-then-w-eq15 c = collect_shut _ _ _ _ _ _ c.loop-at.invariant _ _ _ c.next_word-w.ensures c.if-w-eq15.true
-
-pub add-all-requires : goal.add-all-requires
-add-all-requires c = record { table = (c.requires.table.0, record { order = (collect_past _ _ _ _ _ _ c.loop-at.invariant _ _ _ c.next_word-w.ensures c.if-w-eq18.false).2; inside = (collect_past _ _ _ _ _ _ c.loop-at.invariant _ _ _ c.next_word-w.ensures c.if-w-eq18.false).0.inside }); n_bound = c.requires.n_bound }
-
-pub loop-at-smaller : goal.loop-at-smaller
-loop-at-smaller c = omega (arith, (collect_past _ _ _ _ _ _ c.loop-at.invariant _ _ _ c.next_word-w.ensures c.if-w-eq18.false).1, (collect_past _ _ _ _ _ _ c.loop-at.invariant _ _ _ c.next_word-w.ensures c.if-w-eq18.false).0.inside)
-
-pub loop-at-preserved : goal.loop-at-preserved
-loop-at-preserved c = collect_more _ _ _ _ _ _ c.loop-at.invariant _ _ _ c.next_word-w.ensures c.if-w-eq18.false c.if-w-eq15.false _ c.add-all.ensures
+pub loop-w-preserved : goal.loop-w-preserved
+loop-w-preserved c = collect_more _ _ _ _ _ _ c.loop-w.invariant _ c.in-Some.ensures (kind_missed c.in-Some.w.word Close _ c.eq.ensures c.if-eq.false) _ c.add.ensures
 
 pub returns : goal.returns
-returns c = collect_over _ _ _ _ _ _ c.loop-at.invariant c.loop-at-test.false
+returns c = collect_ends _ _ _ _ _ _ c.loop-w.invariant c.in_default.ensures

@@ -5,8 +5,8 @@ use Rattle.census.specs.Tables.{names_at}
 use Rattle.atomic.proofs.CollectLaws.{Collecting}
 use Rattle.atomic.proofs.collect.Given as goal
 
-abbrev pub invariant-loop-at : goal.invariant-loop-at
-invariant-loop-at l = Collecting (names_at l.text l.starts l.lengths l.n) l.text l.initial.all.numbers l.from l.all.numbers l.at
+abbrev pub invariant-loop-w : goal.invariant-loop-w
+invariant-loop-w l = Collecting (names_at l.names.text.now l.names.spans.now) l.names.text.now l.initial.nine l.from l.nine l.at
 
-abbrev pub decreases-loop-at : goal.decreases-loop-at
-decreases-loop-at l = length l.text - l.at
+abbrev pub decreases-loop-w : goal.decreases-loop-w
+decreases-loop-w l = length l.names.text.now - l.at
