@@ -13,6 +13,7 @@ use lib.Pow.{pow-lt}
 use borrow.Author.Tests.{eq-eqb, ne_eqb, lt-ltb, le-ltb}
 use lib.ListN.{length, get_or, set, length-set}
 use lib.Seq.{get_or-set_same, get_or-set_other}
+use Rattle.std.specs.Prelude.{Option}
 use Rattle.trees.specs.Tree.{Tree, off, on, node, same}
 use Rattle.trees.specs.Table.{at, trees_of}
 use Rattle.trees.proofs.Tests.{false_true, and_true, and_true_l, and_true_r, LtCase, below, above, lt_case}
@@ -20,7 +21,7 @@ use Rattle.trees.proofs.TreeLaws.{same_eq, same_ne}
 use Rattle.nodes.specs.Nodes.{Table, Splits}
 use Rattle.ages.specs.Ages.{Age, none, aged, ages_right, shown_age}
 use Rattle.ages.proofs.AgeRead.{read_age, join_age, with_bit, shown_read}
-use Rattle.age_check.specs.Marks.{numbered, oldest, mark, Marked, AgesRight}
+use Rattle.age_check.specs.Marks.{numbered, oldest, mark, Coded, Marked, AgesRight}
 
 -- an age of m bits
 abbrev Small : ℕ → Age → Type 0
@@ -49,6 +50,26 @@ read_small (suc m) l (node v a b) = go (eqb v l) (same a off) (same b off) (read
 -- 11 bits or fewer are no more than 2,047
 few : (m n : ℕ) → m ≤ 11 → n < 2 ^ m → n < 2048
 few m n h q = ⊎_elim (λ e. omega (arith, rw e at q)) (λ l. let k = pow-lt l in omega arith) (eq-or-lt_of_le h)
+
+-- a number of an age is no more than 4,096
+numbered_le : (m : ℕ) → m ≤ 11 → (x : Age) → Small m x → numbered x ≤ 4096
+numbered_le m h none q = omega arith
+numbered_le m h (aged n) q = let k = few m n h q in omega arith
+
+-- and so is what tells the greatest
+pub oldest_le : (base : ℕ) (d : Tree) → oldest base d ≤ 4096
+unfolding oldest
+oldest_le base off = omega arith
+oldest_le base on = omega arith
+oldest_le base (node l a b) = go (ltb l base) (oldest_le base a) (oldest_le base b)
+  where
+    go : (t : Bool) → oldest base a ≤ 4096 → oldest base b ≤ 4096 → cond t (max (oldest base a) (oldest base b)) (numbered (read_age base 11 (node l a b))) ≤ 4096
+    go true x y = omega arith
+    go false x y = numbered_le 11 (omega arith) (read_age base 11 (node l a b)) (read_small 11 base (node l a b))
+
+-- a number by which another is told
+pub coded_same : (r : Option ℕ) {m n : ℕ} → m ≡ n → Coded r m → Coded r n
+coded_same r e c = rw (← e) c
 
 -- the test of refusal 4, by the greatest age
 pub oldest_right : (base top : ℕ) (d : Tree) → top < 2048 → (ages_right base top d ≡ true) ↔ (oldest base d ≤ top + 1)
@@ -130,13 +151,6 @@ bits_leaf base v ts (suc (suc p)) k h = absurd (omega arith)
 
 -- a bit before the others
 module _ (m : ℕ) (h : m ≤ 11) (x : Age) (q : Small m x) (y : ℕ) (e : y ≡ numbered x) where
-  small_cases : y ≢ 4096 → 1 ≤ y
-  small_cases f = go x e
-    where
-      go : (x : Age) → y ≡ numbered x → 1 ≤ y
-      go none e = omega arith
-      go (aged n) e = omega arith
-
   odd_none : y ≡ 4096 → 4096 ≡ numbered (with_bit 1 x)
   unfolding with_bit
   odd_none z = go x q e
@@ -229,14 +243,17 @@ module _ {ns : List ℕ} {n r l a b : ℕ} (t : Table ns n) (s : Splits ns n r l
           )
 
 -- an age's bits as a number are no great number
-pub bits_le : (base l y : ℕ) (d : Tree) → base ≤ l → y ≡ numbered (read_age (l + 1) (base + 10 - l) d) → (1 ≤ y) × (y ≤ 4096)
-bits_le base l y d h e = go (read_age (l + 1) (base + 10 - l) d) (read_small (base + 10 - l) (l + 1) d) e
+pub bits_le : (base l y : ℕ) (d : Tree) → base ≤ l → numbered (read_age (l + 1) (base + 10 - l) d) ≡ y → y ≢ 4096 → (1 ≤ y) × (y ≤ 1024)
+bits_le base l y d h e f = go (read_age (l + 1) (base + 10 - l) d) (read_small (base + 10 - l) (l + 1) d) e
   where
-    go : (x : Age) → Small (base + 10 - l) x → y ≡ numbered x → (1 ≤ y) × (y ≤ 4096)
-    go none q e = (omega arith, omega arith)
-    go (aged n) q e = let k = few (base + 10 - l) n (omega arith) q in (omega arith, omega arith)
+    ten : (m n : ℕ) → m ≤ 10 → n < 2 ^ m → n < 1024
+    ten m n h q = ⊎_elim (λ e. omega (arith, rw e at q)) (λ l. let k = pow-lt l in omega arith) (eq-or-lt_of_le h)
 
--- the leaves are marked, and then one more reference
+    go : (x : Age) → Small (base + 10 - l) x → numbered x ≡ y → (1 ≤ y) × (y ≤ 1024)
+    go none q e = absurd (f (sym e))
+    go (aged n) q e = let k = ten (base + 10 - l) n (omega arith) q in (omega arith, omega arith)
+
+-- the leaves are marked
 pub marks_none : (base : ℕ) (ns : List ℕ) (kept : ℕ) (w : List ℕ) → 2 ≤ length w → Marked base ns kept (set (set w 0 0) 1 4096) 2
 unfolding mark at
 marks_none base ns kept w h = record { is = λ r q. go r q }
@@ -245,13 +262,6 @@ marks_none base ns kept w h = record { is = λ r q. go r q }
     go zero q = get_or-set_other (set w 0 0) 1 0 4096 0 (omega arith) ∙ get_or-set_same w 0 0 0 (omega arith)
     go (suc zero) q = get_or-set_same (set w 0 0) 1 4096 0 (simp length-set (omega arith))
     go (suc (suc r)) q = absurd (omega arith)
-
-pub marks_more : {base : ℕ} {ns : List ℕ} {kept : ℕ} {w : List ℕ} {r x : ℕ} → Marked base ns kept w r → r < length w → x ≡ mark base (at (trees_of ns kept) r) → Marked base ns kept (set w r x) (r + 1)
-marks_more {base} {ns} {kept} {w} {r} {x} m h e = record { is = λ p q. go p q (ℕ_discrete p r) }
-  where
-    go : (p : ℕ) → p < r + 1 → Dec (p ≡ r) → get_or (set w r x) p 0 ≡ mark base (at (trees_of ns kept) p)
-    go p q (yes z) = rw z (get_or-set_same w r x 0 h ∙ e)
-    go p q (no z) = get_or-set_other w r p x 0 z ∙ m.is p (omega arith)
 
 -- one more row passes, and one that does not
 pub rows_more : {base : ℕ} {ns : List ℕ} {kept : ℕ} {refs tops : List ℕ} {i y : ℕ} → AgesRight base ns kept refs tops i → get_or tops i 0 < 2048 → y ≡ oldest base (at (trees_of ns kept) (get_or refs i 0))

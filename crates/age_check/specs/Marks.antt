@@ -1,6 +1,6 @@
 -- The number that a pass from the leaves up gives each kept node: whether its diagram is an age diagram, and up to which age.
 -- Assumes nothing: these are definitions.
-use Rattle.std.specs.Prelude.{ℕ, suc, ◌+◌, ◌-◌, ◌<◌, max, ◌≡◌, true, cond, List, ltb, get_or}
+use Rattle.std.specs.Prelude.{ℕ, suc, ◌+◌, ◌-◌, ◌<◌, max, ◌≡◌, ◌≢◌, Option, Some, None, true, cond, List, ltb, get_or}
 use Rattle.trees.specs.Tree.{Tree, off, on, node}
 use Rattle.trees.specs.Table.{at, trees_of}
 use Rattle.ages.specs.Ages.{Age, none, aged, ages_right}
@@ -23,6 +23,11 @@ unfoldable pub mark : ℕ → Tree → ℕ
 mark base off = 0
 mark base on = 4096
 mark base (node l a b) = cond (ltb l base) (max (oldest base a) (oldest base b)) (numbered (read_age l (base + 11 - l) (node l a b)))
+
+-- a number that may be one of these, or none past all ages
+abbrev pub Coded : Option ℕ → ℕ → Type 0
+Coded (Some n) m = (m ≡ n) × (n ≢ 4096)
+Coded None m = m ≡ 4096
 
 -- the first m references are marked
 pub record Marked (base : ℕ) (ns : List ℕ) (kept : ℕ) (w : List ℕ) (m : ℕ) : Type 0 where
