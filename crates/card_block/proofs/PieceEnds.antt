@@ -55,3 +55,19 @@ pieces_cut bytes here rest c = pieces_some bytes c.some ∙ go (ltb (length byte
         let long : 512 ≤ length bytes = ltb-false (length bytes) 512 f in
         let size : length here ≡ 512 = omega (arith, c.size) in
         rw (c.parts, take_at here rest 512 size, drop_at here rest 512 size)
+
+-- what is left behind the first part
+pub left_is : (n : ℕ) (all part left : List ℕ) → all ≡ part ++ left → length part ≡ min n (length all) → left ≡ drop n all
+left_is n all part left e size = go (ltb (length all) n) refl
+  where
+    behind : left ≡ drop (length part) all
+    behind = sym (ap (drop (length part)) e ∙ drop_at part left (length part) refl)
+
+    go : (q : Bool) → ltb (length all) n ≡ q → left ≡ drop n all
+    go true f =
+        let short : length all < n = ltb-true (length all) n f in
+        behind ∙ drop_of_length-le all {i = length part} (omega arith) ∙ sym (drop_of_length-le all {i = n} (omega arith))
+    go false f =
+        let long : n ≤ length all = ltb-false (length all) n f in
+        let same : length part ≡ n = omega arith in
+        behind ∙ ap (λ (m : ℕ). drop m all) same

@@ -5,10 +5,10 @@ use native.Mathlib.Nat.{mul-suc}
 use mathlib.Core.Path.{◌≡◌, refl, sym, ap, ◌∙◌}
 use mathlib.Core.Bool.{Bool, true, false, not, ◌&&◌}
 use mathlib.Core.List.{List, [], ◌∷◌, ◌++◌, append-nil, append_assoc}
-use lib.Dec.{eqb, leb, ltb}
-use lib.ListN.{length, take, drop, get_or, length-append, length-drop, drop_of_length-le}
+use lib.Dec.{eqb, leb}
+use lib.ListN.{length, take, drop, get_or, length-append, length-drop}
 use lib.Seq.{drop-drop, get_or-take, take_at, drop_at}
-use borrow.Author.Tests.{le-leb, lt-leb, ne_eqb, ltb-true, ltb-false}
+use borrow.Author.Tests.{le-leb, lt-leb, ne_eqb}
 use Rattle.std.proofs.Common.{Option, Some, None, Ok, Err, is_some}
 use Rattle.std.proofs.lemmas.List.{take-append-le, drop-append-le}
 use Rattle.cards.specs.Moments.{Record}
@@ -161,22 +161,6 @@ rows_part rows part left b whole e size some =
     ∙ rows_take (n - 21 * b) 21 (drop (7 * (21 * b)) rows)
     ∙ rw (here, e, sym few) (rows_front (length part / 7) part left (omega arith))
     )
-
--- what is left behind the first part
-pub left_is : (n : ℕ) (all part left : List ℕ) → all ≡ part ++ left → length part ≡ min n (length all) → left ≡ drop n all
-left_is n all part left e size = go (ltb (length all) n) refl
-  where
-    behind : left ≡ drop (length part) all
-    behind = sym (ap (drop (length part)) e ∙ drop_at part left (length part) refl)
-
-    go : (q : Bool) → ltb (length all) n ≡ q → left ≡ drop n all
-    go true f =
-        let short : length all < n = ltb-true (length all) n f in
-        behind ∙ drop_of_length-le all {i = length part} (omega arith) ∙ sym (drop_of_length-le all {i = n} (omega arith))
-    go false f =
-        let long : n ≤ length all = ltb-false (length all) n f in
-        let same : length part ≡ n = omega arith in
-        behind ∙ ap (λ (m : ℕ). drop m all) same
 
 -- a block that is put with some rows: those that are done, with the rest, are all
 pub record Rowing (rows : List ℕ) (n : ℕ) (sheet : Sheet) (rest : List ℕ) : Type 0 where

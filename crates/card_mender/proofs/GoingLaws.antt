@@ -4,8 +4,8 @@ use native.Mathlib.Omega.{arith}
 use mathlib.Core.Path.{◌≡◌, refl, sym, ap, ◌∙◌}
 use mathlib.Core.Bool.{Bool, true, false, ◌&&◌, ◌||◌}
 use mathlib.Core.List.{List, [], ◌∷◌, ◌++◌, append-nil, append_assoc}
-use lib.ListN.{length, take, drop, length-drop, length-take, take-append-drop}
-use lib.Seq.{sets, length-sets, drop-drop, length-take-le}
+use lib.ListN.{length, take, drop, length-append, length-drop, take-append-drop}
+use lib.Seq.{sets, length-sets, drop-drop, drop_at, take_all, length-take-le}
 use Rattle.cards.specs.Bytes.{joined}
 use Rattle.cards.specs.Moments.{Record, flagged}
 use Rattle.cards.specs.Blocks.{Block, Reason, block_of, block_bytes, Piece, piece_of, pieces}
@@ -20,11 +20,11 @@ use Rattle.cards.proofs.Ahead.{kept_stays, kept_goes, ahead_flagged}
 use Rattle.card_block.specs.Shapes.{records_from}
 use Rattle.card_block.specs.Judging.{Carries, meant, nothing}
 use Rattle.card_block.proofs.Judgements.{carries_start}
-use Rattle.card_block.proofs.PieceEnds.{piece_end}
+use Rattle.card_block.proofs.PieceEnds.{pieces_cut}
+use Rattle.std.proofs.Common.{Ok, Err}
 use Rattle.card_writer.specs.Sheets.{block_with}
 use Rattle.card_mender.specs.declared.Held.{Held}
 use Rattle.card_mender.specs.declared.State.{State}
-use Rattle.card_mender.specs.declared.Weighed.TheVariants.{Kept, Gone}
 use Rattle.card_mender.specs.Weighing.{weighed, stay_to}
 use Rattle.card_mender.specs.Lines.{word, line_of, lines_of, pieces_in, Room, Mends}
 use Rattle.card_mender.specs.Turning.{bytes_to_come, lines_to_come, Going, Ready, Turns, Whole, PutHeld}
@@ -71,7 +71,7 @@ unfolding lines_of joined
 lines_cons l ls = refl
 
 -- at the beginning
-pub going_start : (card out list : List ℕ) (s : State) → s ≡ record { carried = nothing; begun = true; put = 0 } → Going card out list s 0 0 out list
+pub going_start : (card out list : List ℕ) (s : State) → s ≡ record { carried = nothing; begun = true; put = 0 } → Going card out list s card 0 out list
 unfolding bytes_to_come lines_to_come mended mended_blocks Mending.list listed start
 going_start card out list s e =
     rw e
@@ -89,18 +89,14 @@ going_start card out list s e =
     })
 
 -- one turn
-module _ {card : List ℕ} {at end place : ℕ} {s : State} {out list : List ℕ} (y : Ready card at end place s out list) where
-  abbrev piece : List ℕ
-  piece = take (end - at) (drop at card)
+module _ {piece left : List ℕ} {place : ℕ} {s : State} {out list : List ℕ} (y : Ready piece left place s out list) where
+  cut_here : pieces (piece ++ left) ≡ piece_of piece ∷ pieces left
+  cut_here =
+      pieces_cut (piece ++ left) piece left
+      (record { parts = refl; size = omega (arith, y.size, length-append piece left); some = omega (arith, y.some, length-append piece left) })
 
-  cut_here : pieces (drop at card) ≡ piece_of piece ∷ pieces (drop end card)
-  cut_here = piece_end card at end y.inside y.ends
-
-  next_here : at ≡ min (512 * place) (length card) → end ≡ min (512 * (place + 1)) (length card)
-  next_here e = omega (arith, y.inside, y.ends)
-
-  piece_long : length piece ≡ 512 → end ≡ at + 512
-  piece_long e = omega (arith, e, y.inside, y.ends, length-take (end - at) (drop at card), length-drop at card)
+  next_here : (n : ℕ) → length (piece ++ left) ≡ n - 512 * place → length left ≡ n - 512 * (place + 1)
+  next_here n e = omega (arith, y.size, length-append piece left)
 
   line_more : (list₀ list₁ : List ℕ) (a b : ℕ) → list₁ ≡ sets list (2 * place) (a ∷ b ∷ [])
       → (take (2 * (place + 1)) list₁ ≡ take (2 * place) list ++ (a ∷ b ∷ []))
@@ -114,69 +110,68 @@ module _ {card : List ℕ} {at end place : ℕ} {s : State} {out list : List ℕ
             ∙ sym (drop-drop 2 (2 * place) list) ∙ ap (drop 2) r ∙ drop-drop 2 (2 * place) list₀),
       )
 
-  pub going_gone : (why : Rattle.card_block.specs.declared.Reason.Reason) (w : ℕ) (list₁ : List ℕ) → Gone why ≡ weighed piece s.carried s.begun
-      → w ≡ word (meant why) → list₁ ≡ sets list (2 * place) (w ∷ 0 ∷ []) → Turns card at end place s out list s out list₁
+  pub going_gone : (why : Rattle.card_block.specs.declared.Reason.Reason) (w : ℕ) (list₁ : List ℕ) → Err why ≡ weighed piece s.carried s.begun
+      → w ≡ word (meant why) → list₁ ≡ sets list (2 * place) (w ∷ 0 ∷ []) → Turns piece left place s out list s out list₁
   unfolding line_of
   going_gone why w list₁ e v q =
       record {
-        on = λ out₀ list₀ g.
+        on = λ card out₀ list₀ g.
             let goer : fate g.before (piece_of piece) ≡ goes (meant why) =
             rw (sym e) at (weighs_right g.before s.carried s.begun piece g.carries) in
             record {
               before = g.before;
               carries = g.carries;
-              here = next_here g.here;
-              behind = omega (arith, g.behind, y.inside, y.ends);
+              here = next_here (length card) g.here;
+              behind = omega (arith, g.behind, length-append piece left);
               out_size = g.out_size;
               list_size = ap length q ∙ length-sets list (2 * place) (w ∷ 0 ∷ []) ∙ g.list_size;
               puts =
                   ap (λ (l : List ℕ). take s.put out ++ l)
-                  (sym (bytes_goes s.begun g.before (piece_of piece) (pieces (drop end card)) (meant why) goer) ∙ ap (bytes_to_come s.begun g.before) (sym cut_here))
+                  (sym (bytes_goes s.begun g.before (piece_of piece) (pieces left) (meant why) goer) ∙ ap (bytes_to_come s.begun g.before) (sym cut_here))
                   ∙ g.puts;
               tail = g.tail;
               lines =
-                  ap (λ (l : List ℕ). l ++ lines_of (lines_to_come s.begun g.before (pieces (drop end card)))) (line_more list₀ list₁ w 0 q).0
-                  ∙ append_assoc (take (2 * place) list) (w ∷ 0 ∷ []) (lines_of (lines_to_come s.begun g.before (pieces (drop end card))))
+                  ap (λ (l : List ℕ). l ++ lines_of (lines_to_come s.begun g.before (pieces left))) (line_more list₀ list₁ w 0 q).0
+                  ∙ append_assoc (take (2 * place) list) (w ∷ 0 ∷ []) (lines_of (lines_to_come s.begun g.before (pieces left)))
                   ∙ ap (λ (l : List ℕ). take (2 * place) list ++ l)
-                  (ap (λ (n : ℕ). n ∷ 0 ∷ lines_of (lines_to_come s.begun g.before (pieces (drop end card)))) v
-                  ∙ sym (lines_cons (gone (meant why)) (lines_to_come s.begun g.before (pieces (drop end card))))
+                  (ap (λ (n : ℕ). n ∷ 0 ∷ lines_of (lines_to_come s.begun g.before (pieces left))) v
+                  ∙ sym (lines_cons (gone (meant why)) (lines_to_come s.begun g.before (pieces left)))
                   ∙ ap lines_of
-                  (sym (lines_goes s.begun g.before (piece_of piece) (pieces (drop end card)) (meant why) goer) ∙ ap (lines_to_come s.begun g.before) (sym cut_here)))
+                  (sym (lines_goes s.begun g.before (piece_of piece) (pieces left) (meant why) goer) ∙ ap (lines_to_come s.begun g.before) (sym cut_here)))
                   ∙ g.lines;
               rest = (line_more list₀ list₁ w 0 q).1 g.rest;
             };
       }
 
-  weigher : (h : Held) → Kept h ≡ weighed piece s.carried s.begun → (f : Before) → Carries f s.carried → Weighs f s.begun piece h
+  weigher : (h : Held) → Ok h ≡ weighed piece s.carried s.begun → (f : Before) → Carries f s.carried → Weighs f s.begun piece h
   weigher h e f k = rw (sym e) at (weighs_right f s.carried s.begun piece k)
 
-  pub held_whole : (h : Held) → Kept h ≡ weighed piece s.carried s.begun → Whole card at end h
+  pub held_whole : (h : Held) → Ok h ≡ weighed piece s.carried s.begun → Whole piece h
   held_whole h e =
       let w : Weighs y.before s.begun piece h = weigher h e y.before y.carries in
       record {
         before = after y.before (block_of piece);
         carries = w.carries;
-        whole = piece_long w.whole;
-        inside = omega (arith, y.ends);
+        whole = w.whole;
         order = w.order;
         most = w.inside;
         few = w.few;
       }
 
-  pub going_kept : (h : Held) (n to : ℕ) (out₁ list₁ : List ℕ) (r : State) → Kept h ≡ weighed piece s.carried s.begun
-      → ((f : Before) → Carries f h.carried → PutHeld (flagged_ahead f (pieces (drop end card))) card at end h s.put out out₁ to)
+  pub going_kept : (h : Held) (n to : ℕ) (out₁ list₁ : List ℕ) (r : State) → Ok h ≡ weighed piece s.carried s.begun
+      → ((f : Before) → Carries f h.carried → PutHeld (flagged_ahead f (pieces left)) piece h s.put out out₁ to)
       → n ≡ h.records - (to - h.«from») → list₁ ≡ sets list (2 * place) (0 ∷ n ∷ [])
-      → r ≡ record { carried = h.carried; begun = h.begun; put = s.put + 512 } → Turns card at end place s out list r out₁ list₁
+      → r ≡ record { carried = h.carried; begun = h.begun; put = s.put + 512 } → Turns piece left place s out list r out₁ list₁
   unfolding line_of
   going_kept h n to out₁ list₁ r e p m q t =
       rw t
       (record {
-        on = λ out₀ list₀ g.
+        on = λ card out₀ list₀ g.
             let w : Weighs g.before s.begun piece h = weigher h e g.before g.carries in
-            let ps : List Piece = pieces (drop end card) in
+            let ps : List Piece = pieces left in
             let b : Block = block_of piece in
-            let z : PutHeld (flagged_ahead (after g.before b) ps) card at end h s.put out out₁ to = p (after g.before b) w.carries in
-            let room : s.put + 512 ≤ length out = omega (arith, g.behind, piece_long w.whole, y.ends, y.bytes) in
+            let z : PutHeld (flagged_ahead (after g.before b) ps) piece h s.put out out₁ to = p (after g.before b) w.carries in
+            let room : s.put + 512 ≤ length out = omega (arith, w.whole, y.bytes) in
             let stay : records_from (to - h.«from») (drop (6 + 24 * h.«from») piece) ≡ staying s.begun g.before b ps =
             ap (λ (k : ℕ). records_from (k - h.«from») (drop (6 + 24 * h.«from») piece)) z.to_is ∙ sym (w.keeps (flagged_ahead (after g.before b) ps)) in
             let block : List ℕ = block_bytes (block_with b.number (staying s.begun g.before b ps)) in
@@ -189,8 +184,8 @@ module _ {card : List ℕ} {at end place : ℕ} {s : State} {out list : List ℕ
             record {
               before = after g.before b;
               carries = w.carries;
-              here = next_here g.here;
-              behind = omega (arith, g.behind, piece_long w.whole);
+              here = next_here (length card) g.here;
+              behind = omega (arith, g.behind, w.whole, length-append piece left);
               out_size = ap length stored ∙ length-sets out s.put block ∙ g.out_size;
               list_size = ap length q ∙ length-sets list (2 * place) (0 ∷ n ∷ []) ∙ g.list_size;
               puts =
@@ -232,11 +227,11 @@ stay_between true h a b = (omega arith, omega arith)
 stay_between false h a b = (a, b)
 
 -- at the end
-pub going_end : {card out₀ list₀ : List ℕ} {s : State} {at place : ℕ} {out list : List ℕ} → Going card out₀ list₀ s at place out list
-    → Room card out₀ list₀ → length card ≤ at → place ≡ pieces_in (length card) → Mends card out₀ list₀ s.put out list
+pub going_end : {card out₀ list₀ : List ℕ} {s : State} {left : List ℕ} {place : ℕ} {out list : List ℕ} → Going card out₀ list₀ s left place out list
+    → Room card out₀ list₀ → length left ≡ 0 → place ≡ pieces_in (length card) → Mends card out₀ list₀ s.put out list
 unfolding bytes_to_come lines_to_come fates kept mend_from listing card_bytes joined lines_of
-going_end {card} {out₀} {list₀} {s} {at} {place} {out} {list} g room h e =
-    let none : pieces (drop at card) ≡ [] = pieces_none (drop at card) (omega (arith, length-drop at card)) in
+going_end {card} {out₀} {list₀} {s} {left} {place} {out} {list} g room h e =
+    let none : pieces left ≡ [] = pieces_none left (omega arith) in
     let all : take s.put out ≡ mended card =
     sym (append-nil (take s.put out)) ∙ (rw none at g.puts) in
     let each : take (2 * place) list ≡ lines_of (Mending.list card) =
@@ -244,7 +239,7 @@ going_end {card} {out₀} {list₀} {s} {at} {place} {out} {list} g room h e =
     record {
       room = room;
       put = sym (take-append-drop s.put out) ∙ ap (λ (l : List ℕ). l ++ drop s.put out) all ∙ ap (λ (l : List ℕ). mended card ++ l) g.tail;
-      count = sym (length-take-le s.put out (omega (arith, g.behind, g.here, g.out_size, room.bytes))) ∙ ap length all;
+      count = sym (length-take-le s.put out (omega (arith, g.behind, g.out_size, room.bytes))) ∙ ap length all;
       listed =
           sym (take-append-drop (2 * place) list) ∙ ap (λ (l : List ℕ). l ++ drop (2 * place) list) each
           ∙ ap (λ (l : List ℕ). lines_of (Mending.list card) ++ l) g.rest ∙ ap (λ (k : ℕ). lines_of (Mending.list card) ++ drop (2 * k) list₀) e;
@@ -256,13 +251,43 @@ unfolding pieces_in
 counted_pieces n place a b = omega arith
 
 -- bounds that the code needs
-pub whole_long : {card : List ℕ} {at end : ℕ} {h : Held} → Whole card at end h → length (take (end - at) (drop at card)) ≡ 512
-whole_long {card} {at} {end} {h} w = omega (arith, length-take (end - at) (drop at card), length-drop at card, w.whole, w.inside)
-
-pub to_between : {card : List ℕ} {at end : ℕ} {h : Held} (later : Bool) (to : ℕ) → Whole card at end h → to ≡ stay_to later h
-    → (h.«from» ≤ to) × (to ≤ h.records)
-to_between {card} {at} {end} {h} later to w e = rw e (stay_between later h w.order w.most)
+pub to_between : {piece : List ℕ} {h : Held} (later : Bool) (to : ℕ) → Whole piece h → to ≡ stay_to later h → (h.«from» ≤ to) × (to ≤ h.records)
+to_between {piece} {h} later to w e = rw e (stay_between later h w.order w.most)
 
 pub ready_lines : (n place list : ℕ) → 512 * place < n → pieces_in n ≤ list / 2 → 2 * place + 2 ≤ list
 unfolding pieces_in
 ready_lines n place list a b = omega arith
+
+-- the next piece of a card, with the rest behind it
+module _ {card out₀ list₀ out list all : List ℕ} {s : State} {count : ℕ} (place : ℕ) (piece left : List ℕ) (g : Going card out₀ list₀ s all count out list) (e : place ≡ count)
+    (at : all ≡ drop (512 * count) card) (parts : all ≡ piece ++ left) (size : length piece ≡ min 512 (length all)) (some : 0 < length all) where
+  abbrev behind : List ℕ
+  behind = take (length card - (512 * place + length piece)) (drop (512 * place + length piece) card)
+
+  behind_is : behind ≡ left
+  behind_is =
+      take_all (length card - (512 * place + length piece)) (drop (512 * place + length piece) card) (omega (arith, length-drop (512 * place + length piece) card))
+      ∙ rw e
+      (sym (drop-drop (length piece) (512 * count) card) ∙ ap (drop (length piece)) (sym at ∙ parts) ∙ drop_at piece left (length piece) refl)
+
+  pub ready_next : length card ≤ length out₀ → pieces_in (length card) ≤ length list₀ / 2 → Ready piece behind place s out list
+  ready_next room lines =
+      rw behind_is
+      (record {
+        before = g.before;
+        carries = g.carries;
+        some = omega arith;
+        size = omega (arith, size, ap length parts, length-append piece left);
+        bytes = omega (arith, size, g.behind, g.out_size, room);
+        lines =
+            rw e (omega (arith, g.list_size, ready_lines (length card) count (length list₀) (omega (arith, ap length at, length-drop (512 * count) card, some)) lines));
+      })
+
+  pub going_next : {r : State} {out₁ list₁ : List ℕ} → Turns piece behind place s out list r out₁ list₁
+      → Going card out₀ list₀ r left (count + 1) out₁ list₁
+  going_next {r} {out₁} {list₁} t =
+      let u : Turns piece left count s out list r out₁ list₁ = rw (behind_is, e) at t in
+      u.on card out₀ list₀ (rw parts at g)
+
+  pub counted_next : 512 * (count + 1) < length card + 512
+  counted_next = omega (arith, ap length at, length-drop (512 * count) card, some)

@@ -16,18 +16,16 @@ use Rattle.cards.specs.Piecewise.{flagged_ahead}
 use Rattle.cards.proofs.FateLaws.{stays_good}
 use Rattle.cards.proofs.Ahead.{ahead_on, ahead_gap, ahead_goes}
 use Rattle.card_block.specs.declared.Carried.{Carried}
-use Rattle.card_block.specs.declared.Judged.{Judged}
-use Rattle.card_block.specs.declared.Judged.TheVariants.{Stays, Goes}
+use Rattle.std.proofs.Common.{Result, Ok, Err}
+use Rattle.std.specs.declared.ops.ControlFlow.{ControlFlow}
+use Rattle.std.specs.declared.ops.ControlFlow.TheVariants.{Break, Continue}
+use Rattle.card_block.specs.declared.Reason.{Reason}
 use Rattle.card_block.specs.Shapes.{records_from, Shaped}
 use Rattle.card_block.specs.Judging.{judgement, Carries, meant, Kept, Judges}
 use Rattle.card_block.proofs.Judgements.{judgement_right}
 use Rattle.card_block.proofs.JudgeLaws.{block_records}
 use Rattle.card_block.proofs.StayLaws.{good_shaped}
 use Rattle.card_mender.specs.declared.Held.{Held}
-use Rattle.card_mender.specs.declared.Weighed.{Weighed}
-use Rattle.card_mender.specs.declared.Weighed.TheVariants.{Gone}
-use Rattle.card_mender.specs.declared.looking.Looked.{Looked}
-use Rattle.card_mender.specs.declared.looking.Looked.TheVariants.{Comes, Ends, On}
 use Rattle.card_mender.specs.Weighing.{first_count, whole_count, records_in, held_by, kept_by, weighed_by, weighed, looked_to, looked_on, looked_gap, looked_by, looked, stay_to}
 use Rattle.card_mender.proofs.FlagLaws.{records_drop, first_drops, first_few, whole_takes, whole_few, length_from}
 
@@ -46,10 +44,10 @@ pub record Looks (f : Before) (bytes : List ℕ) (g : Carried) : Type 0 where
   pub carries : Carries next g
   pub ahead : (ps : List Piece) → flagged_ahead f (piece_of bytes ∷ ps) ≡ flagged_ahead next ps
 
-abbrev pub LooksRight : Before → List ℕ → Looked → Type 0
-LooksRight f bytes Comes = (ps : List Piece) → flagged_ahead f (piece_of bytes ∷ ps) ≡ true
-LooksRight f bytes Ends = (ps : List Piece) → flagged_ahead f (piece_of bytes ∷ ps) ≡ false
-LooksRight f bytes (On g) = Looks f bytes g
+abbrev pub LooksRight : Before → List ℕ → ControlFlow Bool Carried → Type 0
+LooksRight f bytes (Break true) = (ps : List Piece) → flagged_ahead f (piece_of bytes ∷ ps) ≡ true
+LooksRight f bytes (Break false) = (ps : List Piece) → flagged_ahead f (piece_of bytes ∷ ps) ≡ false
+LooksRight f bytes (Continue g) = Looks f bytes g
 
 pub looks_right : (f : Before) (c : Carried) (bytes : List ℕ) → Carries f c → LooksRight f bytes (looked bytes c)
 unfolding looked looked_by looked_gap looked_on looked_to
@@ -69,9 +67,9 @@ looks_right f c bytes h = go (judgement bytes c) (judgement_right f c bytes h)
     stay g k true r = on g k r (flagged (records_in bytes)) refl
     stay g k false r = λ ps. ahead_gap f (piece_of bytes) ps (block_of bytes) k.stays r
 
-    go : (j : Judged) → Judges f bytes j → LooksRight f bytes (looked_by bytes c j)
-    go (Stays g) k = stay g k (eqb g.next (suc c.next)) (sym (runs_next f c g bytes h k))
-    go (Goes why) k = record { next = f; carries = h; ahead = λ ps. ahead_goes f (piece_of bytes) ps (meant why) k }
+    go : (j : Result Carried Reason) → Judges f bytes j → LooksRight f bytes (looked_by bytes c j)
+    go (Ok g) k = stay g k (eqb g.next (suc c.next)) (sym (runs_next f c g bytes h k))
+    go (Err why) k = record { next = f; carries = h; ahead = λ ps. ahead_goes f (piece_of bytes) ps (meant why) k }
 
 -- a weighing is right
 pub record Weighs (f : Before) (begun : Bool) (bytes : List ℕ) (h : Held) : Type 0 where
@@ -86,9 +84,9 @@ pub record Weighs (f : Before) (begun : Bool) (bytes : List ℕ) (h : Held) : Ty
   pub keeps : (later : Bool) → to_last later (from_first (begun && runs_on f.next (block_of bytes)) (block_of bytes).records)
       ≡ records_from (stay_to later h - h.«from») (drop (6 + 24 * h.«from») bytes)
 
-abbrev pub WeighsRight : Before → Bool → List ℕ → Weighed → Type 0
-WeighsRight f begun bytes (Weighed.Kept h) = Weighs f begun bytes h
-WeighsRight f begun bytes (Gone why) = fate f (piece_of bytes) ≡ goes (meant why)
+abbrev pub WeighsRight : Before → Bool → List ℕ → Result Held Reason → Type 0
+WeighsRight f begun bytes (Ok h) = Weighs f begun bytes h
+WeighsRight f begun bytes (Err why) = fate f (piece_of bytes) ≡ goes (meant why)
 
 records_take : (k n : ℕ) (bs : List ℕ) → n ≤ k → take n (records_from k bs) ≡ records_from n bs
 unfolding records_from
@@ -177,6 +175,6 @@ weighs_right f c begun bytes h = go (judgement bytes c) (judgement_right f c byt
               (ap (λ (l : List Record). first_count (records_in bytes) + whole_count l) (past (first_count (records_in bytes)) some)));
         }
 
-    go : (j : Judged) → Judges f bytes j → WeighsRight f begun bytes (weighed_by bytes c begun j)
-    go (Stays g) w = stay g w (begun && eqb g.next (suc c.next)) (ap (λ (q : Bool). begun && q) (sym (runs_next f c g bytes h w)))
-    go (Goes why) w = w
+    go : (j : Result Carried Reason) → Judges f bytes j → WeighsRight f begun bytes (weighed_by bytes c begun j)
+    go (Ok g) w = stay g w (begun && eqb g.next (suc c.next)) (ap (λ (q : Bool). begun && q) (sym (runs_next f c g bytes h w)))
+    go (Err why) w = w

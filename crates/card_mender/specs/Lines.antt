@@ -1,11 +1,9 @@
 -- The list of blocks as numbers, two for each piece, and what `mend` leaves in the slices that it is lent. Assumes nothing.
-use Rattle.std.specs.Prelude.{ℕ, ◌+◌, ◌*◌, ◌/◌, ◌≤◌, ◌≡◌, List, [], ◌∷◌, ◌++◌, map, length, drop}
+use Rattle.std.specs.Prelude.{ℕ, ◌+◌, ◌*◌, ◌/◌, ◌≤◌, ◌≡◌, List, [], ◌∷◌, ◌++◌, map, length, drop, Option, Some, None}
 use Rattle.cards.specs.Bytes.{joined}
 use Rattle.cards.specs.Blocks.{Reason, check, shape, number}
 use Rattle.cards.specs.Mending.{Listed, kept_less, gone, mended}
 use Rattle.cards.specs.Mending as Mending
-use Rattle.card_mender.specs.declared.Mended.{Mended}
-use Rattle.card_mender.specs.declared.Mended.TheVariants.{Refused, Done}
 
 -- kept is 0, check 1, shape 2, number 3
 unfoldable pub word : Reason → ℕ
@@ -43,6 +41,6 @@ pub record Leaves (card out list out₁ list₁ : List ℕ) : Type 0 where
   pub same_out : out₁ ≡ out
   pub same_list : list₁ ≡ list
 
-abbrev pub MendsTo : List ℕ → List ℕ → List ℕ → Mended → List ℕ → List ℕ → Type 0
-MendsTo card out list (Done n) out₁ list₁ = Mends card out list n out₁ list₁
-MendsTo card out list Refused out₁ list₁ = Leaves card out list out₁ list₁
+abbrev pub MendsTo : List ℕ → List ℕ → List ℕ → Option ℕ → List ℕ → List ℕ → Type 0
+MendsTo card out list (Some n) out₁ list₁ = Mends card out list n out₁ list₁
+MendsTo card out list None out₁ list₁ = Leaves card out list out₁ list₁

@@ -20,45 +20,42 @@ bytes_to_come begun f ps = card_bytes (mend_from begun f.next (kept (fates f ps)
 unfoldable pub lines_to_come : Bool → Before → List Piece → List Listed
 lines_to_come begun f ps = listing (fates f ps) (mend_from begun f.next (kept (fates f ps)))
 
--- mending under way
-pub record Going (card out₀ list₀ : List ℕ) (s : State) (at place : ℕ) (out list : List ℕ) : Type 0 where
+-- mending under way, with the bytes of the card that are still to come
+pub record Going (card out₀ list₀ : List ℕ) (s : State) (left : List ℕ) (place : ℕ) (out list : List ℕ) : Type 0 where
   pub before : Before
   pub carries : Carries before s.carried
-  pub here : at ≡ min (512 * place) (length card)
-  pub behind : s.put ≤ at
+  pub here : length left ≡ length card - 512 * place
+  pub behind : s.put + length left ≤ length card
   pub out_size : length out ≡ length out₀
   pub list_size : length list ≡ length list₀
-  pub puts : take s.put out ++ bytes_to_come s.begun before (pieces (drop at card)) ≡ mended card
+  pub puts : take s.put out ++ bytes_to_come s.begun before (pieces left) ≡ mended card
   pub tail : drop s.put out ≡ drop s.put out₀
-  pub lines : take (2 * place) list ++ lines_of (lines_to_come s.begun before (pieces (drop at card))) ≡ lines_of (Mending.list card)
+  pub lines : take (2 * place) list ++ lines_of (lines_to_come s.begun before (pieces left)) ≡ lines_of (Mending.list card)
   pub rest : drop (2 * place) list ≡ drop (2 * place) list₀
 
--- a piece can be turned: something is carried to it, and there is room
-pub record Ready (card : List ℕ) (at end place : ℕ) (s : State) (out list : List ℕ) : Type 0 where
+-- a piece can be turned: something is carried to it, it is the next one, with the rest behind it, and there is room
+pub record Ready (piece rest : List ℕ) (place : ℕ) (s : State) (out list : List ℕ) : Type 0 where
   pub before : Before
   pub carries : Carries before s.carried
-  pub inside : at < length card
-  pub ends : end ≡ min (at + 512) (length card)
-  pub behind : s.put ≤ at
-  pub bytes : length card ≤ length out
+  pub some : 0 < length piece
+  pub size : length piece ≡ min 512 (length piece + length rest)
+  pub bytes : s.put + length piece ≤ length out
   pub lines : 2 * place + 2 ≤ length list
 
 -- one turn goes on
-pub record Turns (card : List ℕ) (at end place : ℕ) (s : State) (out list : List ℕ) (r : State) (out₁ list₁ : List ℕ) : Type 0 where
-  pub on : (out₀ list₀ : List ℕ) → Going card out₀ list₀ s at place out list → Going card out₀ list₀ r end (place + 1) out₁ list₁
+pub record Turns (piece rest : List ℕ) (place : ℕ) (s : State) (out list : List ℕ) (r : State) (out₁ list₁ : List ℕ) : Type 0 where
+  pub on : (card out₀ list₀ : List ℕ) → Going card out₀ list₀ s (piece ++ rest) place out list → Going card out₀ list₀ r rest (place + 1) out₁ list₁
 
 -- the piece is a whole block, of which these records may stay
-pub record Whole (card : List ℕ) (at end : ℕ) (h : Held) : Type 0 where
+pub record Whole (piece : List ℕ) (h : Held) : Type 0 where
   pub before : Before
   pub carries : Carries before h.carried
-  pub whole : end ≡ at + 512
-  pub inside : end ≤ length card
+  pub whole : length piece ≡ 512
   pub order : h.«from» ≤ h.last
   pub most : h.last ≤ h.records
   pub few : h.records ≤ 21
 
 -- the block is put with the records that stay in it
-pub record PutHeld (later : Bool) (card : List ℕ) (at end : ℕ) (h : Held) (put : ℕ) (out out₁ : List ℕ) (to : ℕ) : Type 0 where
+pub record PutHeld (later : Bool) (piece : List ℕ) (h : Held) (put : ℕ) (out out₁ : List ℕ) (to : ℕ) : Type 0 where
   pub to_is : to ≡ stay_to later h
-  pub puts : out₁ ≡ sets out put (block_bytes (block_with (block_of (take (end - at) (drop at card))).number
-      (records_from (to - h.«from») (drop (6 + 24 * h.«from») (take (end - at) (drop at card))))))
+  pub puts : out₁ ≡ sets out put (block_bytes (block_with (block_of piece).number (records_from (to - h.«from») (drop (6 + 24 * h.«from») piece))))

@@ -1,16 +1,13 @@
 -- What one piece comes to in mending, and what a look ahead at it says, for any piece and anything carried. Assumes nothing.
-use Rattle.std.specs.Prelude.{ℕ, suc, ◌+◌, Bool, true, false, ◌&&◌, List, [], ◌∷◌, eqb, drop, get_or}
+use Rattle.std.specs.Prelude.{ℕ, suc, ◌+◌, Bool, true, false, ◌&&◌, List, [], ◌∷◌, eqb, drop, get_or, Result, Ok, Err}
 use Rattle.cards.specs.Moments.{Record, flagged}
 use Rattle.card_block.specs.declared.Carried.{Carried}
-use Rattle.card_block.specs.declared.Judged.{Judged}
-use Rattle.card_block.specs.declared.Judged.TheVariants.{Stays, Goes}
+use Rattle.std.specs.declared.ops.ControlFlow.{ControlFlow}
+use Rattle.std.specs.declared.ops.ControlFlow.TheVariants.{Break, Continue}
+use Rattle.card_block.specs.declared.Reason.{Reason}
 use Rattle.card_block.specs.Shapes.{records_from}
 use Rattle.card_block.specs.Judging.{judgement}
 use Rattle.card_mender.specs.declared.Held.{Held}
-use Rattle.card_mender.specs.declared.Weighed.{Weighed}
-use Rattle.card_mender.specs.declared.Weighed.TheVariants.{Kept, Gone}
-use Rattle.card_mender.specs.declared.looking.Looked.{Looked}
-use Rattle.card_mender.specs.declared.looking.Looked.TheVariants.{Comes, Ends, On}
 
 -- the count of records up to and including the first flagged one, or of all where none is flagged
 unfoldable pub first_count : List Record → ℕ
@@ -37,33 +34,33 @@ held_by false rs after records = record {
   records = records;
 }
 
-unfoldable pub kept_by : List ℕ → Carried → Bool → Weighed
-kept_by bytes after on = Kept (held_by on (records_in bytes) after (get_or bytes 1 0))
+unfoldable pub kept_by : List ℕ → Carried → Bool → Held
+kept_by bytes after on = held_by on (records_in bytes) after (get_or bytes 1 0)
 
-unfoldable pub weighed_by : List ℕ → Carried → Bool → Judged → Weighed
-weighed_by bytes carried begun (Stays after) = kept_by bytes after (begun && eqb after.next (suc carried.next))
-weighed_by bytes carried begun (Goes why) = Gone why
+unfoldable pub weighed_by : List ℕ → Carried → Bool → Result Carried Reason → Result Held Reason
+weighed_by bytes carried begun (Ok after) = Ok (kept_by bytes after (begun && eqb after.next (suc carried.next)))
+weighed_by bytes carried begun (Err why) = Err why
 
-unfoldable pub weighed : List ℕ → Carried → Bool → Weighed
+unfoldable pub weighed : List ℕ → Carried → Bool → Result Held Reason
 weighed bytes carried begun = weighed_by bytes carried begun (judgement bytes carried)
 
 -- a look at a block that runs on
-unfoldable pub looked_to : Bool → Carried → Looked
-looked_to true after = Comes
-looked_to false after = On after
+unfoldable pub looked_to : Bool → Carried → ControlFlow Bool Carried
+looked_to true after = Break true
+looked_to false after = Continue after
 
-unfoldable pub looked_on : List ℕ → Carried → Looked
+unfoldable pub looked_on : List ℕ → Carried → ControlFlow Bool Carried
 looked_on bytes after = looked_to (flagged (records_in bytes)) after
 
-unfoldable pub looked_gap : Bool → List ℕ → Carried → Looked
+unfoldable pub looked_gap : Bool → List ℕ → Carried → ControlFlow Bool Carried
 looked_gap true bytes after = looked_on bytes after
-looked_gap false bytes after = Ends
+looked_gap false bytes after = Break false
 
-unfoldable pub looked_by : List ℕ → Carried → Judged → Looked
-looked_by bytes carried (Stays after) = looked_gap (eqb after.next (suc carried.next)) bytes after
-looked_by bytes carried (Goes why) = On carried
+unfoldable pub looked_by : List ℕ → Carried → Result Carried Reason → ControlFlow Bool Carried
+looked_by bytes carried (Ok after) = looked_gap (eqb after.next (suc carried.next)) bytes after
+looked_by bytes carried (Err why) = Continue carried
 
-unfoldable pub looked : List ℕ → Carried → Looked
+unfoldable pub looked : List ℕ → Carried → ControlFlow Bool Carried
 looked bytes carried = looked_by bytes carried (judgement bytes carried)
 
 -- how far the records of a block stay

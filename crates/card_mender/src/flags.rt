@@ -8,14 +8,12 @@ pub fn past_first(piece: &[u8], records: usize) -> usize
     requires { 6 + 24 * records ≤ length piece.now }
     ensures { result ≡ first_count (records_from records (drop 6 piece.now)) }
 {
-    let mut i: usize = 0;
-    while i < records {
+    for i in 0..records {
         if piece[6 + 24 * i + 9] == 1 {
             return i + 1;
         }
-        i += 1;
     }
-    i
+    records
 }
 
 // The place past the last flagged record from `from` on, or `from` where none is flagged.
@@ -24,12 +22,10 @@ pub fn past_last(piece: &[u8], from: usize, records: usize) -> usize
     ensures { result ≡ from + whole_count (records_from (records - from) (drop (6 + 24 * from) piece.now)) }
 {
     let mut last = from;
-    let mut i = from;
-    while i < records {
+    for i in from..records {
         if piece[6 + 24 * i + 9] == 1 {
             last = i + 1;
         }
-        i += 1;
     }
     last
 }

@@ -5,7 +5,7 @@ use native.Mathlib.Omega.{arith}
 use lib.ListN.{drop}
 use lib.Seq.{drop-drop}
 use Rattle.std.specs.Iterator.Adapters.{enumerate_count}
-use Rattle.card_log.proofs.RowLaws.{left_is}
+use Rattle.card_block.proofs.PieceEnds.{left_is}
 use Rattle.card_log.proofs.FillLaws.{blocks_are, block_left, none_left, filling_part, filling_end}
 use Rattle.card_log.proofs.write.Goals as goal
 use Rattle.card_log.proofs.write.Goals.{then-rows-ne0-via-then-rows-ne0, then-rows-ne0-via-else-rows-ne0+then-blocks-gt4294967296, then-rows-ne0-via-else-rows-ne0+else-blocks-gt4294967296+then-not-rows_right}

@@ -1,35 +1,56 @@
-use mathlib.Core.Path.{refl}
+use mathlib.Core.Path.{refl, sym, ap, ◌∙◌}
 use native.Mathlib.Omega.{arith}
-use lib.ListN.{length}
-use Rattle.card_mender.proofs.GoingLaws.{going_start, going_end, counted_pieces, ready_lines}
+use Prim.Native.Nat.{ℕ, ◌*◌}
+use lib.ListN.{drop}
+use lib.Seq.{drop-drop}
+use Rattle.std.specs.Iterator.Adapters.{enumerate_count}
+use Rattle.card_block.proofs.PieceEnds.{left_is}
+use Rattle.card_mender.proofs.PutLaws.{pieces_are}
+use Rattle.card_mender.proofs.GoingLaws.{going_start, ready_next, going_next, counted_next, going_end, counted_pieces}
 use Rattle.card_mender.proofs.mend.Goals as goal
+use Rattle.card_mender.proofs.mend.Goals.{then-out-card-via-then-out-card, then-out-card-via-else-out-card+then-list-div_ceil}
 
 pub returns-then-out-card : goal.returns-then-out-card
-returns-then-out-card c = record { small = λ r. omega (arith, r.bytes); same_out = refl; same_list = refl }
+returns-then-out-card c =
+    record {
+      small =
+          λ r. elim c.then-out-card.branch [
+            | then-out-card-via-then-out-card w ↦ omega (arith, r.bytes, w.if-out-card.true)
+            | then-out-card-via-else-out-card+then-list-div_ceil w ↦ omega (arith, r.lines, w.if-list-div_ceil.true, pieces_are _ _ w.div_ceil.ensures)
+          ];
+      same_out = refl;
+      same_list = refl;
+    }
 
-pub returns-then-list-pieces_in : goal.returns-then-list-pieces_in
-returns-then-list-pieces_in c = record { small = λ r. omega (arith, r.lines, c.pieces_in.ensures); same_out = refl; same_list = refl }
-
-pub loop-at-init : goal.loop-at-init
-loop-at-init c = (rw c.begun-nothing.ensures (going_start _ _ _ _ refl), omega arith)
+pub loop-place-init : goal.loop-place-init
+loop-place-init c =
+    rw (c.into_iter-place-iterator.ensures.into_iter_gives, c.enumerate-place-items.ensures.source, c.enumerate-place-items.ensures.count, c.chunks.ensures.rest, c.chunks.ensures.size, c.begun.ensures)
+    (record { size = refl; counted = omega arith; left = refl; going = going_start _ _ _ _ refl })
 
 pub turn-s-requires : goal.turn-s-requires
-turn-s-requires c = record { before = c.loop-at.invariant.0.before; carries = c.loop-at.invariant.0.carries; inside = omega arith; ends = c.end_of-end.ensures; behind = c.loop-at.invariant.0.behind; bytes = omega (arith, c.loop-at.invariant.0.out_size); lines = omega (arith, c.loop-at.invariant.0.list_size, ready_lines (length c.args.card.now) c.loop-at.place (length c.args.list.now) (omega (arith, c.loop-at.invariant.0.here)) (omega (arith, c.pieces_in.ensures))) }
+turn-s-requires c =
+    let s = c.in-Some.ensures.steps in
+    let i = c.loop-place.invariant in
+    ready_next c.in-Some.place _ _ i.going s.1 i.left s.0.1.0 (rw i.size at s.0.1.1) s.0.1.2 c.if-out-card.false (omega (arith, c.if-list-div_ceil.false, pieces_are _ _ c.div_ceil.ensures))
 
-pub overflow_add-place : goal.overflow_add-place
-overflow_add-place c = omega (arith, c.loop-at.invariant.1)
-
-pub loop-at-smaller : goal.loop-at-smaller
-loop-at-smaller c = omega (arith, c.end_of-end.ensures)
-
-pub loop-at-preserved : goal.loop-at-preserved
-loop-at-preserved c = (c.turn-s.ensures.on _ _ c.loop-at.invariant.0, omega (arith, c.loop-at.invariant.0.here))
-
-pub shape_of-out : goal.shape_of-out
-shape_of-out c = c.loop-at.invariant.0.out_size
-
-pub shape_of-list : goal.shape_of-list
-shape_of-list c = c.loop-at.invariant.0.list_size
+pub loop-place-preserved : goal.loop-place-preserved
+loop-place-preserved c =
+    let s = c.in-Some.ensures.steps in
+    let i = c.loop-place.invariant in
+    let size = rw i.size at s.0.1.1 in
+    record {
+      size = s.0.0 ∙ i.size;
+      counted = rw s.2 (counted_next c.in-Some.place _ _ i.going s.1 i.left s.0.1.0 size s.0.1.2);
+      left =
+          rw s.2
+          (left_is 512 _ _ _ (sym i.left ∙ s.0.1.0) (rw i.left at size) ∙ drop-drop 512 (512 * enumerate_count c.loop-place.place-iterator) c.args.card.now
+          ∙ ap (λ (n : ℕ). drop n c.args.card.now) (omega arith));
+      going = rw s.2 (going_next c.in-Some.place _ _ i.going s.1 i.left s.0.1.0 size s.0.1.2 c.turn-s.ensures);
+    }
 
 pub returns : goal.returns
-returns c = going_end c.loop-at.invariant.0 (record { bytes = omega arith; lines = omega (arith, c.pieces_in.ensures) }) (omega arith) (counted_pieces _ _ (omega (arith, c.loop-at.invariant.0.here)) (omega (arith, c.loop-at.invariant.1)))
+returns c =
+    let i = c.loop-place.invariant in
+    let none = c.in-None.ensures.steps.0.1.0 in
+    going_end i.going (record { bytes = c.if-out-card.false; lines = omega (arith, c.if-list-div_ceil.false, pieces_are _ _ c.div_ceil.ensures) }) none
+    (counted_pieces _ _ (omega (arith, i.going.here, none)) i.counted)

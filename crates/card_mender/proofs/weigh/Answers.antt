@@ -1,25 +1,26 @@
 -- `weigh` meets its contract. Assumes nothing.
-use Prim.Native.Nat.{◌-◌}
 use mathlib.Core.Path.{sym, ◌∙◌}
 use native.Mathlib.Omega.{arith}
+use Rattle.std.proofs.lemmas.Result.{err_from_is_err_and}
 use Rattle.card_block.proofs.StayLaws.{stays_next, stays_shaped}
-use Rattle.card_mender.proofs.WeighLaws.{weighed_on, weighed_gap, weighed_gone}
+use Rattle.card_mender.proofs.WeighLaws.{weighed_gone, weighed_kept}
 use Rattle.card_mender.proofs.weigh.Goals as goal
+use Rattle.card_mender.proofs.weigh.Goals.{then-begun, else-begun}
 
-pub overflow_sub-after : goal.overflow_sub-after
-overflow_sub-after c = omega (arith, stays_next c.args.piece.now c.args.carried _ (sym c.judge.ensures ∙ c.in-Stays.is))
+pub returns-in_err-after : goal.returns-in_err-after
+returns-in_err-after c =
+    let p = err_from_is_err_and c.from_residual.result c.from_residual.ensures.1 in
+    rw (p.1, p.2) (weighed_gone _ _ _ _ (sym c.in_err-after.ensures))
+
+pub returns : goal.returns
+returns c =
+    let e = sym c.in_ok-after.ensures in
+    weighed_kept c.args.piece.now c.args.carried _ e (stays_next c.args.piece.now c.args.carried _ e) c.args.begun _ _
+    (elim c.if-begun.branch [ then-begun w ↦ w.on-is ∙ rw w.if-begun.true | else-begun w ↦ w.on-is ∙ rw w.if-begun.false ])
+    c.weigh_kept.ensures
+
+pub overflow_sub-on : goal.overflow_sub-on
+overflow_sub-on c = omega (arith, stays_next c.args.piece.now c.args.carried _ (sym c.in_ok-after.ensures))
 
 pub weigh_kept-requires : goal.weigh_kept-requires
-weigh_kept-requires c = stays_shaped c.args.piece.now c.args.carried _ (sym c.judge.ensures ∙ c.in-Stays.is)
-
-pub returns-then-after-carried : goal.returns-then-after-carried
-returns-then-after-carried c = weighed_on c.args.piece.now c.args.carried _ (sym c.judge.ensures ∙ c.in-Stays.is) (c.in-Stays.after.next - 1) (omega (arith, stays_next c.args.piece.now c.args.carried _ (sym c.judge.ensures ∙ c.in-Stays.is))) _ _ c.if-after-carried.true c.weigh_kept.ensures
-
-pub weigh_kept-requires-in-Stays : goal.weigh_kept-requires-in-Stays
-weigh_kept-requires-in-Stays c = stays_shaped c.args.piece.now c.args.carried _ (sym c.judge.ensures ∙ c.in-Stays.is)
-
-pub returns-in-Goes : goal.returns-in-Goes
-returns-in-Goes c = weighed_gone _ _ _ _ (sym c.judge.ensures ∙ c.in-Goes.is)
-
-pub returns-else-after-carried : goal.returns-else-after-carried
-returns-else-after-carried c = weighed_gap c.args.piece.now c.args.carried _ (sym c.judge.ensures ∙ c.in-Stays.is) (c.in-Stays.after.next - 1) (omega (arith, stays_next c.args.piece.now c.args.carried _ (sym c.judge.ensures ∙ c.in-Stays.is))) _ _ c.if-after-carried.false c.weigh_kept-in-Stays.ensures
+weigh_kept-requires c = stays_shaped c.args.piece.now c.args.carried _ (sym c.in_ok-after.ensures)

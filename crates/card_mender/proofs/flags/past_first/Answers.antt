@@ -12,4 +12,4 @@ pub loop-i-preserved : goal.loop-i-preserved
 loop-i-preserved c = firsts_more c.loop-i.invariant (omega arith) c.if-piece-i-eq1.false
 
 pub returns : goal.returns
-returns c = firsts_none c.loop-i.invariant (omega arith)
+returns c = omega (arith, c.loop-i.invariant.within, firsts_none c.loop-i.invariant (omega arith))

@@ -1,24 +1,24 @@
-use native.Mathlib.Omega.{arith}
-use Rattle.card_mender.proofs.LookLaws.{looking_start, looking_comes, looking_ends, looking_on, looking_none}
+use mathlib.Core.Path.{refl, ◌∙◌}
+use Rattle.card_mender.proofs.LookLaws.{cut_of, looking_start, looking_ends, looking_on, looking_none}
 use Rattle.card_mender.proofs.looking.flagged_ahead.Goals as goal
 
-pub loop-at-init : goal.loop-at-init
-loop-at-init c = looking_start _ _ _
+pub loop-piece-init : goal.loop-piece-init
+loop-piece-init c =
+    rw (c.into_iter-piece-iterator.ensures.into_iter_gives, c.chunks-piece-items.ensures.rest, c.chunks-piece-items.ensures.size)
+    (record { size = refl; looking = looking_start _ _ })
 
-pub slice_bounds-look-count : goal.slice_bounds-look-count
-slice_bounds-look-count c = omega (arith, c.end_of-end.ensures)
+pub returns-in-Break : goal.returns-in-Break
+returns-in-Break c =
+    let s = c.in-Some.ensures.steps in
+    looking_ends c.loop-piece.invariant.looking _ _ (cut_of _ _ _ _ c.loop-piece.invariant.size s.1.0 s.1.1 s.1.2) _ c.look.ensures _ c.in-Break.is
 
-pub returns-in-Comes : goal.returns-in-Comes
-returns-in-Comes c = looking_comes c.loop-at.invariant _ (omega arith) c.end_of-end.ensures _ c.look.ensures c.in-Comes.is
-
-pub returns-in-Ends : goal.returns-in-Ends
-returns-in-Ends c = looking_ends c.loop-at.invariant _ (omega arith) c.end_of-end.ensures _ c.look.ensures c.in-Ends.is
-
-pub loop-at-smaller : goal.loop-at-smaller
-loop-at-smaller c = omega (arith, c.end_of-end.ensures)
-
-pub loop-at-preserved : goal.loop-at-preserved
-loop-at-preserved c = looking_on c.loop-at.invariant _ (omega arith) c.end_of-end.ensures _ c.look.ensures _ c.in-On.is
+pub loop-piece-preserved : goal.loop-piece-preserved
+loop-piece-preserved c =
+    let s = c.in-Some.ensures.steps in
+    record {
+      size = s.0 ∙ c.loop-piece.invariant.size;
+      looking = looking_on c.loop-piece.invariant.looking _ _ (cut_of _ _ _ _ c.loop-piece.invariant.size s.1.0 s.1.1 s.1.2) _ c.look.ensures _ c.in-Continue.is;
+    }
 
 pub returns : goal.returns
-returns c = looking_none c.loop-at.invariant (omega arith)
+returns c = looking_none c.loop-piece.invariant.looking c.in-None.ensures.steps.1.0
