@@ -1,25 +1,27 @@
--- A table of rows, nine numbers each, and the rows that it denotes: at most 64, or more. Assumes nothing: these are definitions.
-use Rattle.std.specs.Prelude.{ℕ, zero, suc, ◌≤◌, ◌<◌, ◌≡◌, List, [], ◌∷◌, length, take, drop}
-use Rattle.text.specs.Emit.{Rowed, make_row}
+-- The rows of a table, and the rows that they denote: at most 64, or more. Assumes nothing: these are definitions.
+use Rattle.std.specs.Prelude.{ℕ, ◌<◌, ◌≡◌, List, length, Option, Some, None}
+use Rattle.meaning.specs.Rows.{Row}
+use Rattle.text.specs.Parts.{nine}
+use Rattle.text.specs.Emit.{Rowed, make_row, negated}
 
--- the first n rows of a table
-unfoldable pub chunks : ℕ → List ℕ → List (List ℕ)
-chunks zero flat = []
-chunks (suc n) flat = take 9 flat ∷ chunks n (drop 9 flat)
-
--- the table and the count denote rows: these, or more than 64
-pub data Holds (flat : List ℕ) (count : ℕ) (rows : List (List ℕ)) : Type 0 where
-  fits : count ≤ 64 → chunks count flat ≡ rows → Holds flat count rows
-  over : count ≡ 65 → 64 < length rows → Holds flat count rows
+-- the table denotes rows: these; or, where there is no answer, more than 64
+abbrev pub Holds : {A : Type 0} → List (List ℕ) → Option A → List (List ℕ) → Type 0
+Holds table (Some x) rows = table ≡ rows
+Holds table None rows = 64 < length rows
 
 -- with a row
-pub record Denotes (flat : List ℕ) (count row : ℕ) (m : Rowed) : Type 0 where
-  pub holds : Holds flat count m.rows
-  pub small : row < 64
-  pub here : count ≤ 64 → row ≡ m.row
+abbrev pub Denotes : List (List ℕ) → Option ℕ → Rowed → Type 0
+Denotes table (Some row) m = record { rows = table; row = row } ≡ m
+Denotes table None m = 64 < length m.rows
 
 -- a row is found or made
-pub record Makes (flat : List ℕ) (n : ℕ) (nine flat' : List ℕ) (count row : ℕ) : Type 0 where
-  pub sized : length flat' ≡ length flat
-  pub most : count ≤ 65
-  pub makes : (rows : List (List ℕ)) (x : List ℕ) → Holds flat n rows → (n ≤ 64 → x ≡ nine) → Denotes flat' count row (make_row rows x)
+abbrev pub Makes : List (List ℕ) → List ℕ → List (List ℕ) → Option ℕ → Type 0
+Makes table nine table' row = Denotes table' row (make_row table nine)
+
+-- rows and a row are turned into others
+abbrev pub Turns : (Rowed → Rowed) → List (List ℕ) → ℕ → List (List ℕ) → Option ℕ → Type 0
+Turns turn table row table' row' = Denotes table' row' (turn (record { rows = table; row = row }))
+
+-- the negation of a row that is found or made
+abbrev pub Denies : List (List ℕ) → Row → List (List ℕ) → Option ℕ → Type 0
+Denies table row table' row' = Denotes table' row' (negated (make_row table (nine row)))

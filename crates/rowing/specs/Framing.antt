@@ -1,61 +1,48 @@
--- Frames by number, and what they make. Assumes nothing: these are definitions.
-use Rattle.std.specs.Prelude.{ℕ, ◌/◌, ◌%◌, ◌≤◌, ◌≡◌, List, [], ◌∷◌, length}
+-- The rows, operators and frames of the code, and what they stand for. Assumes nothing: these are definitions.
+use Rattle.std.specs.Prelude.{ℕ}
+use Rattle.meaning.specs.Rows
 use Rattle.text.specs.Words.{Binary, sinces, ands, ors, implies, once, historically, previously, negation, universal, existential}
-use Rattle.text.specs.Emit.{Rowed, make_row, negated}
-use Rattle.text.specs.Held.{Held, mark, applies, quantifies, joins, made, keeps}
-use Rattle.rowing.specs.Denoted.{Denotes}
+use Rattle.text.specs.Held.{Held, mark, applies, quantifies, joins, room_for}
+use Rattle.rowing.specs.declared.rows.Row.{Row}
+use Rattle.rowing.specs.declared.rows.Row.TheVariants.{Truth, Both, Neg, Since, Previous, Exists}
+use Rattle.rowing.specs.declared.frames.Operator.{Operator}
+use Rattle.rowing.specs.declared.frames.Operator.TheVariants as Op
+use Rattle.rowing.specs.declared.frames.Frame.{Frame}
+use Rattle.rowing.specs.declared.frames.Frame.TheVariants as Waits
 
--- a row with no arguments
-unfoldable pub plain_nine : ℕ → ℕ → ℕ → List ℕ
-plain_nine kind p q = kind ∷ p ∷ q ∷ 0 ∷ 0 ∷ 0 ∷ 0 ∷ 0 ∷ 0 ∷ []
+-- a row
+unfoldable pub row_of : Row → Rows.Row
+row_of Truth = Rows.truth
+row_of (Both l r) = Rows.both l r
+row_of (Neg r) = Rows.neg r
+row_of (Since l r) = Rows.since l r
+row_of (Previous r) = Rows.previous r
+row_of (Exists v r) = Rows.exists v r
 
--- rows and a row are turned into others
-pub record Turns (turn : Rowed → Rowed) (flat : List ℕ) (count row : ℕ) (flat' : List ℕ) (count' row' : ℕ) : Type 0 where
-  pub sized : length flat' ≡ length flat
-  pub most : count' ≤ 65
-  pub turns : (m : Rowed) → Denotes flat count row m → Denotes flat' count' row' (turn m)
+-- an operator
+unfoldable pub binary_of : Operator → Binary
+binary_of Op.Since = sinces
+binary_of Op.And = ands
+binary_of Op.Or = ors
+binary_of Op.Implies = implies
 
-unfoldable pub joined_row : ℕ → ℕ → Rowed → Rowed
-joined_row kind held m = make_row m.rows (plain_nine kind held m.row)
+-- a frame: what waits, with the row or the slot that it holds
+unfoldable pub held_of : Frame → Held
+held_of Waits.Parenthesis = mark
+held_of (Waits.Once t) = applies once t
+held_of (Waits.Historically t) = applies historically t
+held_of Waits.Before = applies previously 0
+held_of Waits.Not = applies negation 0
+held_of (Waits.ForAll v) = quantifies universal v
+held_of (Waits.Exists v) = quantifies existential v
+held_of (Waits.Since r) = joins sinces r
+held_of (Waits.And r) = joins ands r
+held_of (Waits.Or r) = joins ors r
+held_of (Waits.Implies r) = joins implies r
 
-unfoldable pub notted_row : ℕ → ℕ → Rowed → Rowed
-notted_row kind held m = negated (joined_row kind held (negated m))
-
--- the kind of a frame, and what it holds
-unfoldable pub binary_kind : Binary → ℕ
-binary_kind sinces = 7
-binary_kind ands = 8
-binary_kind ors = 9
-binary_kind implies = 10
-
-unfoldable pub frame_kind : Held → ℕ
-frame_kind mark = 0
-frame_kind (applies once t) = 1
-frame_kind (applies historically t) = 2
-frame_kind (applies previously t) = 3
-frame_kind (applies negation t) = 4
-frame_kind (quantifies universal v) = 5
-frame_kind (quantifies existential v) = 6
-frame_kind (joins o r) = binary_kind o
-
-unfoldable pub frame_held : Held → ℕ
-frame_held mark = 0
-frame_held (applies o t) = t
-frame_held (quantifies q v) = v
-frame_held (joins o r) = r
-
-pub record Framed (frame : ℕ) (h : Held) : Type 0 where
-  pub kind_is : frame / 64 ≡ frame_kind h
-  pub held_is : frame % 64 ≡ frame_held h
-
--- a frame takes its operand
-pub record Late (frame : ℕ) (flat : List ℕ) (count row : ℕ) (flat' : List ℕ) (count' row' : ℕ) : Type 0 where
-  pub sized : length flat' ≡ length flat
-  pub most : count' ≤ 65
-  pub late : (h : Held) (m : Rowed) → Framed frame h → Denotes flat count row m → Denotes flat' count' row' (made h m)
-
--- an operator comes
-pub record Early (kind : ℕ) (flat : List ℕ) (count row : ℕ) (flat' : List ℕ) (count' row' : ℕ) : Type 0 where
-  pub sized : length flat' ≡ length flat
-  pub most : count' ≤ 65
-  pub early : (o : Binary) (m : Rowed) → kind ≡ binary_kind o → Denotes flat count row m → Denotes flat' count' row' (keeps o m)
+-- the room of a frame, a parenthesis having room for anything
+unfoldable pub room_in : Held → ℕ
+room_in mark = 9
+room_in (applies o t) = 0
+room_in (quantifies q v) = 4
+room_in (joins o r) = room_for (joins o r)

@@ -1,96 +1,139 @@
-// Frames that wait for their operand, by number: kind × 64 + a row or a slot. The kinds: 0 a parenthesis, 1 `P`, 2 `H`, 3 `@`, 4 `!`,
-// 5 `forall`, 6 `exists`, 7 `S`, 8 `&`, 9 `|`, 10 `->`. `P` and `H` hold the row of true, a quantifier its slot, an operator the row of what it
-// keeps of its left operand.
-ghost use Rattle.std.specs.Prelude.{◌≡◌, ◌≤◌, ◌<◌, length};
+// Operators, and frames that wait for their operand: what they make.
+ghost use Rattle.std.specs.Prelude.{◌≡◌};
+ghost use Rattle.text.specs.Grammar.{level};
 ghost use Rattle.text.specs.Emit.{negated};
-ghost use Rattle.rowing.specs.Denoted.{Makes};
-ghost use Rattle.rowing.specs.Framing.{plain_nine, Turns, joined_row, notted_row, Late, Early};
+ghost use Rattle.text.specs.Held.{joins, made, keeps};
+ghost use Rattle.rowing.specs.Denoted.{Turns, Denies};
+ghost use Rattle.rowing.specs.Framing.{row_of, binary_of, held_of, room_in};
 
-use crate::table::{Made, make};
+use crate::rows::Row;
+use crate::table::Table;
 
-// A row that names at most a row or slot and a row.
-pub fn plain(rows: &mut [u32], n: usize, kind: u32, p: u32, q: u32) -> Made
-    requires { (length rows.old ≡ 576) × (n ≤ 65) }
-    ensures { Makes rows.old n (plain_nine kind p q) rows.new result.count result.row }
-{
-    let nine = [kind, p, q, 0, 0, 0, 0, 0, 0];
-    make(rows, n, &nine)
+// An operator between two operands.
+#[derive(Clone, Copy, PartialEq, Eq)]
+pub enum Operator {
+    Since,
+    And,
+    Or,
+    Implies,
 }
 
-// The negation of the last row.
-pub fn negate(rows: &mut [u32], m: Made) -> Made
-    requires { (length rows.old ≡ 576) × (m.count ≤ 65) }
-    ensures { Turns negated rows.old m.count m.row rows.new result.count result.row }
-{
-    plain(rows, m.count, 4, m.row, 0)
+impl Operator {
+    // How loosely it binds.
+    #[tactic(auto, unfolding(crate::specs::Framing::binary_of, text::specs::Grammar::level))]
+    pub fn level(self) -> u8
+        ensures { result ≡ level (binary_of self) }
+    {
+        match self {
+            Operator::Since => 1,
+            Operator::And => 2,
+            Operator::Or => 3,
+            Operator::Implies => 4,
+        }
+    }
+
+    // The operator waits for its right operand, with the row of what it keeps of its left one.
+    #[tactic(auto, unfolding(crate::specs::Framing::binary_of, crate::specs::Framing::held_of))]
+    pub fn frame(self, kept: u8) -> Frame
+        ensures { held_of result ≡ joins (binary_of self) kept }
+    {
+        match self {
+            Operator::Since => Frame::Since(kept),
+            Operator::And => Frame::And(kept),
+            Operator::Or => Frame::Or(kept),
+            Operator::Implies => Frame::Implies(kept),
+        }
+    }
 }
 
-// A row of the kind over what is held and the last row.
-fn joined(rows: &mut [u32], kind: u32, held: u32, m: Made) -> Made
-    requires { (length rows.old ≡ 576) × (m.count ≤ 65) }
-    ensures { Turns (joined_row kind held) rows.old m.count m.row rows.new result.count result.row }
-{
-    plain(rows, m.count, kind, held, m.row)
+// A frame: `P` and `H` hold the row of true, a quantifier its slot, an operator the row of what it keeps of its left operand.
+#[derive(Clone, Copy, PartialEq, Eq)]
+pub enum Frame {
+    Parenthesis,
+    Once(u8),
+    Historically(u8),
+    Before,
+    Not,
+    ForAll(u8),
+    Exists(u8),
+    Since(u8),
+    And(u8),
+    Or(u8),
+    Implies(u8),
 }
 
-// The negation of a row of the kind over what is held and the negation of the last row.
-fn notted(rows: &mut [u32], kind: u32, held: u32, m: Made) -> Made
-    requires { (length rows.old ≡ 576) × (m.count ≤ 65) }
-    ensures { Turns (notted_row kind held) rows.old m.count m.row rows.new result.count result.row }
-{
-    let inner = negate(rows, m);
-    let outer = joined(rows, kind, held, inner);
-    negate(rows, outer)
+impl Frame {
+    // The loosest level of an operand that it takes; a parenthesis takes any, and only at its end.
+    #[tactic(auto, unfolding(crate::specs::Framing::held_of, crate::specs::Framing::room_in, text::specs::Held::room_for, text::specs::Grammar::right_level))]
+    pub fn room(self) -> u8
+        ensures { result ≡ room_in (held_of self) }
+    {
+        match self {
+            Frame::Parenthesis => 9,
+            Frame::Once(_) | Frame::Historically(_) | Frame::Before | Frame::Not => 0,
+            Frame::Since(_) => 0,
+            Frame::And(_) => 1,
+            Frame::Or(_) => 2,
+            Frame::Implies(_) | Frame::ForAll(_) | Frame::Exists(_) => 4,
+        }
+    }
 }
 
-// The frame takes its operand, which has the last row.
-pub fn late(rows: &mut [u32], frame: u16, m: Made) -> Made
-    requires { (length rows.old ≡ 576) × (m.count ≤ 65) }
-    ensures { Late frame rows.old m.count m.row rows.new result.count result.row }
+// The negation of the row.
+#[tactic(auto, unfolding(crate::specs::Framing::row_of, text::specs::Emit::negated))]
+pub fn negate(table: &mut Table, row: u8) -> Option<u8>
+    ensures { Turns negated table.old row table.new result }
 {
-    let kind = frame / 64;
-    let held = (frame % 64) as u32;
-    if kind == 0 {
-        return m;
-    }
-    if kind == 1 {
-        return joined(rows, 5, held, m);
-    }
-    if kind == 2 {
-        return notted(rows, 5, held, m);
-    }
-    if kind == 3 {
-        return plain(rows, m.count, 6, m.row, 0);
-    }
-    if kind == 4 {
-        return negate(rows, m);
-    }
-    if kind == 5 {
-        return notted(rows, 7, held, m);
-    }
-    if kind == 6 {
-        return joined(rows, 7, held, m);
-    }
-    if kind == 7 {
-        return joined(rows, 5, held, m);
-    }
-    if kind == 8 {
-        return joined(rows, 3, held, m);
-    }
-    notted(rows, 3, held, m)
+    table.make(Row::Neg(row).numbers())
 }
 
-// An operator comes, by its kind: what it keeps of its left operand.
-pub fn early(rows: &mut [u32], kind: u16, m: Made) -> Made
-    requires { (length rows.old ≡ 576) × (m.count ≤ 65) }
-    ensures { Early kind rows.old m.count m.row rows.new result.count result.row }
+// The negation of a row that is found or made.
+#[tactic(auto, using(crate::proofs::FrameLaws::denied_over))]
+fn denied(table: &mut Table, row: Row) -> Option<u8>
+    ensures { Denies table.old (row_of row) table.new result }
 {
-    if kind == 9 {
-        return negate(rows, m);
+    let inner = table.make(row.numbers())?;
+    negate(table, inner)
+}
+
+// The frame takes its operand, which has the row.
+#[tactic(auto, using(crate::proofs::FrameLaws::negated_over), unfolding(crate::specs::Framing::held_of, crate::specs::Framing::row_of, text::specs::Held::made, text::specs::Emit::applied_rows, text::specs::Emit::bound_rows, text::specs::Emit::binary_rows))]
+pub fn late(table: &mut Table, frame: Frame, row: u8) -> Option<u8>
+    ensures { Turns (made (held_of frame)) table.old row table.new result }
+{
+    match frame {
+        Frame::Parenthesis => Some(row),
+        Frame::Once(left) | Frame::Since(left) => table.make(Row::Since(left, row).numbers()),
+        Frame::And(left) => table.make(Row::Both(left, row).numbers()),
+        Frame::Before => table.make(Row::Previous(row).numbers()),
+        Frame::Exists(slot) => table.make(Row::Exists(slot, row).numbers()),
+        Frame::Not => negate(table, row),
+        Frame::Historically(left) => {
+            let not = negate(table, row)?;
+            denied(table, Row::Since(left, not))
+        }
+        Frame::Or(left) | Frame::Implies(left) => {
+            let not = negate(table, row)?;
+            denied(table, Row::Both(left, not))
+        }
+        Frame::ForAll(slot) => {
+            let not = negate(table, row)?;
+            denied(table, Row::Exists(slot, not))
+        }
     }
-    if kind == 10 {
-        let inner = negate(rows, m);
-        return negate(rows, inner);
+}
+
+// The operator comes: what it keeps of its left operand, which has the row.
+#[tactic(auto, using(crate::proofs::FrameLaws::negated_longer), unfolding(crate::specs::Framing::binary_of, text::specs::Held::keeps))]
+pub fn early(table: &mut Table, operator: Operator, row: u8) -> Option<u8>
+    ensures { Turns (keeps (binary_of operator)) table.old row table.new result }
+{
+    match operator {
+        Operator::Since | Operator::And => Some(row),
+        Operator::Or => negate(table, row),
+        Operator::Implies => {
+            let not = negate(table, row)?;
+            negate(table, not)
+        }
     }
-    m
 }

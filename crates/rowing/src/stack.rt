@@ -1,118 +1,106 @@
 // The frames that wait for their operand, the last on top.
-ghost use Rattle.std.specs.Prelude.{◌≡◌, ◌+◌, ◌*◌, ◌≤◌, ◌<◌, length};
-ghost use Rattle.rowing.specs.Stacking.{RoomOf, Fills, Pushes, Shuts, Finishes, Waited};
+ghost use Rattle.std.specs.Prelude.{◌≡◌, ◌+◌, ◌≤◌, ◌<◌, List, [], ◌∷◌, length};
+ghost use Rattle.text.specs.Held.{Held};
+ghost use Rattle.rowing.specs.Framing.{binary_of, held_of};
+ghost use Rattle.rowing.specs.Stacking.{waiting_in, Pops, Fills, Pushes, Shuts, Finishes};
 
-use crate::frames::{early, late};
-use crate::table::Made;
+use crate::frames::{Frame, Operator, early, late};
+use crate::table::Table;
+use std::marker::Model;
 
-// How many rows there are, 65 for more than 64, the last row, and how many frames wait.
+// The limit below which all frames but parentheses have room, and that below which all have.
+const UP_TO_PARENTHESIS: u8 = 5;
+
+const TO_THE_END: u8 = 10;
+
+// At most 4,096 frames.
 #[derive(Drop)]
-pub struct Work {
-    pub count: usize,
-    pub row: u32,
-    pub top: usize,
+pub struct Stack {
+    frames: [Frame; 4096],
+    top: usize,
 }
 
-// The loosest level of an operand that a frame of each kind takes; a parenthesis takes any, and only at its end.
-const ROOM: [u16; 11] = [9, 0, 0, 0, 0, 4, 4, 0, 1, 2, 4];
+impl Model for Stack {
+    ghost Value = { List Held };
 
-fn room_of(frame: u16) -> u16
-    ensures { RoomOf frame result }
-{
-    let kind = (frame / 64) as usize;
-    if 10 < kind {
-        return 9;
-    }
-    ROOM[kind]
+    ghost view = { λ s. waiting_in s.frames s.top };
+
+    ghost invariant = { λ s. s.top ≤ 4096 };
 }
 
-// The frames with room below the limit take their operand, from the top on.
-pub fn fill(rows: &mut [u32], frames: &[u16], limit: u16, w: Work) -> Work
-    requires { (length rows.old ≡ 576) × (w.count ≤ 65) × (w.top ≤ length frames.now) }
-    ensures { Fills limit frames.now rows.old w.count w.row w.top rows.new result.count result.row result.top }
-{
-    let mut m = Made {
-        count: w.count,
-        row: w.row,
-    };
-    let mut top = w.top;
-    while 0 < top {
-        let frame = frames[top - 1];
-        if limit <= room_of(frame) {
-            return Work {
-                count: m.count,
-                row: m.row,
-                top: top,
-            };
+impl Stack {
+    // No frames.
+    pub fn new() -> Self
+        ensures { result ≡ [] }
+    {
+        Stack {
+            frames: [Frame::Parenthesis; 4096],
+            top: 0,
         }
-        m = late(rows, frame, m);
-        top -= 1;
     }
-    Work {
-        count: m.count,
-        row: m.row,
-        top: top,
+
+    // A frame comes, and waits for its operand.
+    pub fn push(&mut self, frame: Frame)
+        requires { length self.old < 4096 }
+        ensures { self.new ≡ held_of frame ∷ self.old }
+    {
+        self.frames[self.top] = frame;
+        self.top += 1;
+    }
+
+    // The last frame goes, where its room is below the limit.
+    pub fn pop_below(&mut self, limit: u8) -> Option<Frame>
+        ensures { Pops limit self.old self.new result }
+    {
+        if self.top == 0 {
+            return None;
+        }
+        let frame = self.frames[self.top - 1];
+        if limit <= frame.room() {
+            return None;
+        }
+        self.top -= 1;
+        Some(frame)
     }
 }
 
-// An operator of the level comes, and waits for its right operand.
-pub fn push(rows: &mut [u32], frames: &mut [u16], level: u16, w: Work) -> Work
-    requires rows_len { (length rows.old ≡ 576) × (w.count ≤ 65) × (w.top < length frames.old) }
-    requires le_level { (1 ≤ level) × (level ≤ 4) }
-    ensures { Pushes level frames.old rows.old w.count w.row w.top frames.new rows.new result.count result.row result.top }
+// The frames with room below the limit take their operand, which has the row, from the top on.
+pub fn fill(table: &mut Table, stack: &mut Stack, limit: u8, row: u8) -> Option<u8>
+    ensures fills { Fills limit table.old row stack.old table.new result stack.new }
+    ensures fewer { length stack.new ≤ length stack.old }
 {
-    let f = fill(rows, frames, level, w);
-    let kept = early(
-        rows,
-        level + 6,
-        Made {
-            count: f.count,
-            row: f.row,
-        },
-    );
-    let top = f.top;
-    frames[top] = (level + 6) * 64 + (kept.row % 64) as u16;
-    Work {
-        count: kept.count,
-        row: kept.row,
-        top: top + 1,
+    let mut last = row;
+    while let Some(frame) = stack.pop_below(limit) {
+        last = late(table, frame, last)?;
     }
+    Some(last)
+}
+
+// An operator comes, and waits for its right operand.
+pub fn push(table: &mut Table, stack: &mut Stack, operator: Operator, row: u8) -> Option<()>
+    requires { length stack.old < 4096 }
+    ensures pushes { Pushes (binary_of operator) table.old row stack.old table.new result stack.new }
+    ensures near { length stack.new ≤ length stack.old + 1 }
+{
+    let left = fill(table, stack, operator.level(), row)?;
+    let kept = early(table, operator, left)?;
+    stack.push(operator.frame(kept));
+    Some(())
 }
 
 // `)` comes: the frames take their operand, up to the last parenthesis, and that is closed.
-pub fn shut(rows: &mut [u32], frames: &[u16], w: Work) -> Work
-    requires { (length rows.old ≡ 576) × (w.count ≤ 65) × (w.top ≤ length frames.now) }
-    ensures { Shuts frames.now rows.old w.count w.row w.top rows.new result.count result.row result.top }
+pub fn shut(table: &mut Table, stack: &mut Stack, row: u8) -> Option<u8>
+    ensures shuts { Shuts table.old row stack.old table.new result stack.new }
+    ensures fewer { length stack.new ≤ length stack.old }
 {
-    let f = fill(rows, frames, 5, w);
-    let top = f.top;
-    if top == 0 {
-        return f;
-    }
-    Work {
-        count: f.count,
-        row: f.row,
-        top: top - 1,
-    }
+    let last = fill(table, stack, UP_TO_PARENTHESIS, row)?;
+    let _parenthesis = stack.pop_below(TO_THE_END);
+    Some(last)
 }
 
 // The end comes: all frames take their operand.
-pub fn finish(rows: &mut [u32], frames: &[u16], w: Work) -> Made
-    requires { (length rows.old ≡ 576) × (w.count ≤ 65) × (w.top ≤ length frames.now) }
-    ensures { Finishes frames.now rows.old w.count w.row w.top rows.new result.count result.row }
+pub fn finish(table: &mut Table, stack: &mut Stack, row: u8) -> Option<u8>
+    ensures { Finishes table.old row stack.old table.new result }
 {
-    let f = fill(rows, frames, 10, w);
-    Made {
-        count: f.count,
-        row: f.row,
-    }
-}
-
-// A frame comes, and waits for its operand.
-pub fn wait(frames: &mut [u16], top: usize, kind: u16, held: u32) -> usize
-    requires { (top < length frames.old) × (kind ≤ 10) × (held < 64) }
-    ensures { Waited frames.old top kind held frames.new result }
-{
-    frames[top] = kind * 64 + held as u16;
-    top + 1
+    fill(table, stack, TO_THE_END, row)
 }

@@ -1,74 +1,70 @@
 // A table of rows, nine numbers each: the row with these numbers is found or made.
-ghost use Rattle.std.specs.Prelude.{◌≡◌, ◌+◌, ◌*◌, ◌≤◌, ◌<◌, length};
-ghost use Rattle.text.specs.Words.{same};
-ghost use Rattle.text.specs.Emit.{find_row};
-ghost use Rattle.rowing.specs.Denoted.{chunks, Makes};
+ghost use Rattle.std.specs.Prelude.{◌≡◌, ℕ, ◌≤◌, List, [], take, position, nat_eq};
+ghost use Rattle.std.specs.Cmp.Lexicographic.{pointwise};
+ghost use Rattle.rowing.specs.Denoted.{Makes};
 
-// How many rows there are, 65 for more than 64, and the row asked for.
+use std::marker::Model;
+
+// At most 64 rows.
 #[derive(Drop)]
-pub struct Made {
-    pub count: usize,
-    pub row: u32,
+pub struct Table {
+    rows: [[u32; 9]; 64],
+    count: usize,
 }
 
-// Whether two runs of numbers are the same.
-fn same_numbers(a: &[u32], b: &[u32]) -> bool
-    ensures { result ≡ same a.now b.now }
+impl Model for Table {
+    ghost Value = { List (List ℕ) };
+
+    ghost view = { λ t. take t.count t.rows };
+
+    ghost invariant = { λ t. t.count ≤ 64 };
+}
+
+// The place of the first row with these numbers.
+fn find(rows: &[[u32; 9]], nine: &[u32; 9]) -> Option<usize>
+    ensures { result ≡ position (λ row. pointwise nat_eq row nine.now) rows.now }
 {
-    if a.len() != b.len() {
-        return false;
-    }
-    let mut i = 0;
-    while i < a.len() {
-        if a[i] != b[i] {
-            return false;
+    rows.iter().position(|row| row == nine)
+}
+
+impl Table {
+    // No rows.
+    pub fn new() -> Self
+        ensures { result ≡ [] }
+    {
+        Table {
+            rows: [[0; 9]; 64],
+            count: 0,
         }
-        i += 1;
     }
-    true
-}
 
-// The first of n rows with these numbers, or n.
-fn find_row(rows: &[u32], n: usize, nine: &[u32]) -> usize
-    requires { (n ≤ 64) × (length rows.now ≡ 576) }
-    ensures { (result ≡ find_row (chunks n rows.now) nine.now) × (result ≤ n) }
-{
-    let mut i = 0;
-    while i < n {
-        let a = 9 * i;
-        if same_numbers(&rows[a..a + 9], nine) {
-            return i;
+    // All rows go.
+    pub fn clear(&mut self)
+        ensures { self.new ≡ [] }
+    {
+        self.count = 0;
+    }
+
+    // The rows, in the order in which they were made.
+    pub fn rows(&self) -> &[[u32; 9]]
+        ensures { result.now ≡ self.now }
+    {
+        &self.rows[..self.count]
+    }
+
+    // The row with these numbers: found, or made where there is room.
+    pub fn make(&mut self, nine: [u32; 9]) -> Option<u8>
+        ensures { Makes self.old nine self.new result }
+    {
+        let made = self.count;
+        if let Some(row) = find(&self.rows[..made], &nine) {
+            return Some(row as u8);
         }
-        i += 1;
-    }
-    n
-}
-
-// The row with these numbers: found, or made where there is room.
-pub fn make(rows: &mut [u32], n: usize, nine: &[u32]) -> Made
-    requires { (length rows.old ≡ 576) × (length nine.now ≡ 9) × (n ≤ 65) }
-    ensures { Makes rows.old n nine.now rows.new result.count result.row }
-{
-    if 64 < n {
-        return Made { count: 65, row: 0 };
-    }
-    let i = find_row(rows, n, nine);
-    if i < n {
-        return Made {
-            count: n,
-            row: i as u32,
-        };
-    }
-    if n == 64 {
-        return Made { count: 65, row: 0 };
-    }
-    let mut j = 0;
-    while j < 9 {
-        rows[9 * n + j] = nine[j];
-        j += 1;
-    }
-    Made {
-        count: n + 1,
-        row: n as u32,
+        if made == 64 {
+            return None;
+        }
+        self.rows[made] = nine;
+        self.count += 1;
+        Some(made as u8)
     }
 }

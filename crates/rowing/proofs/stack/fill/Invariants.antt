@@ -1,9 +1,15 @@
 -- `stack::fill` meets its contract. The loop's invariant: what is left to fill is as at the start. Assumes nothing.
-use Rattle.rowing.proofs.StackLaws.{Filling}
+use Prim.Native.Nat.{◌≤◌}
+use mathlib.Core.Path.{◌≡◌}
+use lib.ListN.{length}
+use Rattle.rowing.specs.Stacking.{fill_rows}
 use Rattle.rowing.proofs.stack.fill.Given as goal
 
-abbrev pub invariant-loop-top : goal.invariant-loop-top
-invariant-loop-top l = Filling l.limit l.frames l.initial.rows l.initial.m.count l.initial.m.row l.initial.top l.rows l.m.count l.m.row l.top
+abbrev pub invariant-loop-frame : goal.invariant-loop-frame
+invariant-loop-frame l = record {
+  same : fill_rows l.limit (record { rows = l.initial.table; row = l.initial.last }) l.initial.stack ≡ fill_rows l.limit (record { rows = l.table; row = l.last }) l.stack;
+  fewer : length l.stack ≤ length l.initial.stack;
+}
 
-abbrev pub decreases-loop-top : goal.decreases-loop-top
-decreases-loop-top l = l.top
+abbrev pub decreases-loop-frame : goal.decreases-loop-frame
+decreases-loop-frame l = length l.stack

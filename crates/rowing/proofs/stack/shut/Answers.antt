@@ -1,9 +1,9 @@
 -- `stack::shut` meets its contract. Assumes nothing.
-use Rattle.rowing.proofs.ShutLaws.{shut_none, shut_one}
+use Rattle.rowing.proofs.ShutLaws.{shut_over, shut_made, pops_one}
 use Rattle.rowing.proofs.stack.shut.Goals as goal
 
-pub returns-then-top-eq0 : goal.returns-then-top-eq0
-returns-then-top-eq0 c = shut_none _ _ _ _ _ _ _ _ _ c.if-top-eq0.true c.fill-f.ensures
+pub returns-in_err-last-clause-shuts : goal.returns-in_err-last-clause-shuts
+returns-in_err-last-clause-shuts c = rw c.from_residual.ensures (shut_over _ _ c.in_err-last.ensures.fills)
 
-pub returns : goal.returns
-returns c = shut_one _ _ _ _ _ _ _ _ _ c.if-top-eq0.false c.fill-f.ensures
+pub returns-clause-shuts : goal.returns-clause-shuts
+returns-clause-shuts c = shut_made _ _ _ _ c.in_ok-last.ensures.fills _ (pops_one _ _ _ c.pop_below-parenthesis.ensures)
