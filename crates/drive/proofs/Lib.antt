@@ -2,9 +2,9 @@
 pub mod EdgeLaws
 pub mod DrivenLaws
 pub mod CodedLaws
-pub mod AtomLaws
-pub mod OperandSteps
-pub mod OperatorSteps
 pub mod LongerLaws
 pub mod WordsLaws
+pub mod OperatorSteps
+pub mod KnownLaws
+pub mod OperandSteps
 pub mod PassSteps

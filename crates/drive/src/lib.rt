@@ -3,6 +3,7 @@
 // specs/Drives.antt, and what the rows of a text are is in the crate text. Assumes nothing.
 #![tactic(auto)]
 
+pub mod known;
 pub mod operands;
 pub mod operators;
 pub mod pass;

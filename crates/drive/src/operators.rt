@@ -1,27 +1,36 @@
 // A word where an operator must come: an operator or `)`.
-ghost use Rattle.std.specs.Prelude.{◌≡◌, List, ℕ, ◌≤◌, ◌<◌, length};
-ghost use Rattle.drive.specs.Driving.{Operates};
+ghost use Rattle.std.specs.Prelude.{◌+◌, ◌≤◌, ◌<◌, length};
+ghost use Rattle.spelling.specs.Kinds.{kind_code};
+ghost use Rattle.rowing.specs.Framing.{binary_of};
+ghost use Rattle.drive.specs.Driving.{Joins, Operates};
 
-use rowing::stack::{Work, push, shut};
+use rowing::frames::Operator;
+use rowing::stack::{Stack, push, shut};
+use rowing::table::Table;
+use spelling::kinds::Kind;
+
+// The operator waits for its right operand. There is no last row then, and 0 stands for it.
+fn join(table: &mut Table, stack: &mut Stack, operator: Operator, row: u8) -> Option<u8>
+    requires { length stack.old < 4096 }
+    ensures joins { Joins (binary_of operator) table.old row stack.old table.new result stack.new }
+    ensures near { length stack.new ≤ length stack.old + 1 }
+{
+    push(table, stack, operator, row)?;
+    Some(0)
+}
 
 // The word comes.
-pub fn operator(rows: &mut [u32], frames: &mut [u16], word: u8, w: Work) -> Work
-    requires { (length rows.old ≡ 576) × (w.count ≤ 65) × (w.top < length frames.old) }
-    ensures { Operates word frames.old rows.old w.count w.row w.top frames.new rows.new result.count result.row result.top }
+pub fn operator(table: &mut Table, stack: &mut Stack, word: Kind, row: u8) -> Option<u8>
+    requires { length stack.old < 4096 }
+    ensures operates { Operates (kind_code word) table.old row stack.old table.new result stack.new }
+    ensures near { length stack.new ≤ length stack.old + 1 }
 {
-    if word == 15 {
-        return shut(rows, frames, w);
-    }
-    if word < 8 {
-        return w;
-    }
-    if 11 < word {
-        return w;
-    }
-    let p = push(rows, frames, (word - 7) as u16, w);
-    Work {
-        count: p.count,
-        row: 0,
-        top: p.top,
+    match word {
+        Kind::Since => join(table, stack, Operator::Since, row),
+        Kind::And => join(table, stack, Operator::And, row),
+        Kind::Or => join(table, stack, Operator::Or, row),
+        Kind::Implies => join(table, stack, Operator::Implies, row),
+        Kind::Close => shut(table, stack, row),
+        _ => Some(row),
     }
 }

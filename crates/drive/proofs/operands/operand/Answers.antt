@@ -1,40 +1,55 @@
--- `operands::operand` meets its contract. Assumes nothing.
+-- `operands::operand` meets its contract, kind by kind. Assumes nothing.
+use mathlib.Core.Path.{refl}
 use Rattle.census.specs.Tables.{names_at}
-use Rattle.drive.proofs.OperandSteps.{operand_name, operand_true, operand_false, operand_once, operand_historically, operand_previously, operand_negation, operand_group, operand_universal, operand_existential, operand_other}
+use Rattle.rowing.specs.Framing.{held_of}
+use Rattle.drive.proofs.OperandSteps.{operand_name, operand_true, operand_false, false_over, once_over, historically_over, operand_once, operand_historically, operand_before, operand_not, operand_open, operand_forall, operand_exists, operand_other}
 use Rattle.drive.proofs.operands.operand.Goals as goal
 
-pub named-m-requires : goal.named-m-requires
-named-m-requires c = record { table = c.requires.table; within = c.requires.within; pn_bound = (c.requires.pn_bound.0, c.requires.pn_bound.1, c.requires.pn_bound.2, c.requires.pn_bound.3) }
+pub returns-in-Name-clause-moves : goal.returns-in-Name-clause-moves
+returns-in-Name-clause-moves c = rw c.in-Name.is (operand_name (names_at c.args.known.text.now c.args.known.predicates.now) _ _ _ _ _ _ _ _ _ c.named.ensures)
 
-pub returns-then-word-eq0 : goal.returns-then-word-eq0
-returns-then-word-eq0 c = operand_name (names_at c.args.text.now c.args.pstarts.now c.args.plengths.now c.args.pn) (names_at c.args.text.now c.args.vstarts.now c.args.vlengths.now c.args.vn) _ _ _ _ _ _ _ _ _ _ _ _ c.if-word-eq0.true c.named-m.ensures
+pub returns-in-True-clause-moves : goal.returns-in-True-clause-moves
+returns-in-True-clause-moves c = rw c.in-True.is (operand_true (names_at c.args.known.text.now c.args.known.predicates.now) _ _ _ _ _ _ _ _ _ c.truth.ensures)
 
-pub returns-then-word-eq2 : goal.returns-then-word-eq2
-returns-then-word-eq2 c = operand_true (names_at c.args.text.now c.args.pstarts.now c.args.plengths.now c.args.pn) (names_at c.args.text.now c.args.vstarts.now c.args.vlengths.now c.args.vn) _ _ _ _ _ _ _ _ _ _ _ _ c.if-word-eq2.true c.plain-m.ensures
+pub returns-in_err-row-in-False-clause-moves : goal.returns-in_err-row-in-False-clause-moves
+returns-in_err-row-in-False-clause-moves c = rw (c.in-False.is, c.from_residual.ensures) (false_over (names_at c.args.known.text.now c.args.known.predicates.now) _ _ _ _ _ _ _ c.args.table.now c.args.stack.now c.in_err-row-in-False.ensures)
 
-pub returns-then-word-eq3 : goal.returns-then-word-eq3
-returns-then-word-eq3 c = operand_false (names_at c.args.text.now c.args.pstarts.now c.args.plengths.now c.args.pn) (names_at c.args.text.now c.args.vstarts.now c.args.vlengths.now c.args.vn) _ _ _ _ _ _ _ _ _ _ _ _ _ _ _ c.if-word-eq3.true c.plain-m-then-word-eq3.ensures c.negate-n.ensures
+pub returns-in_ok-row-in-False-clause-moves : goal.returns-in_ok-row-in-False-clause-moves
+returns-in_ok-row-in-False-clause-moves c = rw c.in-False.is (operand_false (names_at c.args.known.text.now c.args.known.predicates.now) _ _ _ _ _ _ _ _ _ _ _ c.in_ok-row-in-False.ensures c.negate.ensures)
 
-pub returns-then-word-eq4 : goal.returns-then-word-eq4
-returns-then-word-eq4 c = operand_once (names_at c.args.text.now c.args.pstarts.now c.args.plengths.now c.args.pn) (names_at c.args.text.now c.args.vstarts.now c.args.vlengths.now c.args.vn) _ _ _ _ _ _ _ _ _ _ _ _ _ _ c.if-word-eq4.true c.hold_true.ensures
+pub returns-in_err-row-in-Once-clause-moves : goal.returns-in_err-row-in-Once-clause-moves
+returns-in_err-row-in-Once-clause-moves c = rw (c.in-Once.is, c.from_residual-in_err-row-in-Once.ensures) (once_over (names_at c.args.known.text.now c.args.known.predicates.now) _ _ _ _ _ _ _ c.args.table.now c.args.stack.now c.in_err-row-in-Once.ensures)
 
-pub returns-then-word-eq5 : goal.returns-then-word-eq5
-returns-then-word-eq5 c = operand_historically (names_at c.args.text.now c.args.pstarts.now c.args.plengths.now c.args.pn) (names_at c.args.text.now c.args.vstarts.now c.args.vlengths.now c.args.vn) _ _ _ _ _ _ _ _ _ _ _ _ _ _ c.if-word-eq5.true c.hold_true-then-word-eq5.ensures
+pub returns-in_ok-row-in-Once-clause-moves : goal.returns-in_ok-row-in-Once-clause-moves
+unfolding held_of
+returns-in_ok-row-in-Once-clause-moves c = rw c.in-Once.is (operand_once (names_at c.args.known.text.now c.args.known.predicates.now) _ _ _ _ _ _ _ _ _ c.in_ok-row-in-Once.ensures _ _ c.push.ensures refl)
 
-pub returns-then-word-eq6 : goal.returns-then-word-eq6
-returns-then-word-eq6 c = operand_previously (names_at c.args.text.now c.args.pstarts.now c.args.plengths.now c.args.pn) (names_at c.args.text.now c.args.vstarts.now c.args.vlengths.now c.args.vn) _ _ _ _ _ _ _ _ _ _ _ _ _ c.if-word-eq6.true c.requires.pn_bound.3 c.hold.ensures
+pub returns-in_err-row-in-Historically-clause-moves : goal.returns-in_err-row-in-Historically-clause-moves
+returns-in_err-row-in-Historically-clause-moves c = rw (c.in-Historically.is, c.from_residual-in_err-row-in-Historically.ensures) (historically_over (names_at c.args.known.text.now c.args.known.predicates.now) _ _ _ _ _ _ _ c.args.table.now c.args.stack.now c.in_err-row-in-Historically.ensures)
 
-pub returns-then-word-eq7 : goal.returns-then-word-eq7
-returns-then-word-eq7 c = operand_negation (names_at c.args.text.now c.args.pstarts.now c.args.plengths.now c.args.pn) (names_at c.args.text.now c.args.vstarts.now c.args.vlengths.now c.args.vn) _ _ _ _ _ _ _ _ _ _ _ _ _ c.if-word-eq7.true c.requires.pn_bound.3 c.hold-then-word-eq7.ensures
+pub returns-in_ok-row-in-Historically-clause-moves : goal.returns-in_ok-row-in-Historically-clause-moves
+unfolding held_of
+returns-in_ok-row-in-Historically-clause-moves c = rw c.in-Historically.is (operand_historically (names_at c.args.known.text.now c.args.known.predicates.now) _ _ _ _ _ _ _ _ _ c.in_ok-row-in-Historically.ensures _ _ c.push-in-Historically.ensures refl)
 
-pub returns-then-word-eq12 : goal.returns-then-word-eq12
-returns-then-word-eq12 c = operand_universal (names_at c.args.text.now c.args.pstarts.now c.args.plengths.now c.args.pn) (names_at c.args.text.now c.args.vstarts.now c.args.vlengths.now c.args.vn) _ _ _ _ _ _ _ _ _ _ _ _ _ _ c.if-word-eq12.true c.requires.pn_bound.3 c.slot_after-v.ensures c.hold-then-word-eq12.ensures
+pub returns-in-Before-clause-moves : goal.returns-in-Before-clause-moves
+unfolding held_of
+returns-in-Before-clause-moves c = rw c.in-Before.is (operand_before (names_at c.args.known.text.now c.args.known.predicates.now) _ _ _ _ _ _ _ _ _ c.push-in-Before.ensures refl)
 
-pub returns-then-word-eq13 : goal.returns-then-word-eq13
-returns-then-word-eq13 c = operand_existential (names_at c.args.text.now c.args.pstarts.now c.args.plengths.now c.args.pn) (names_at c.args.text.now c.args.vstarts.now c.args.vlengths.now c.args.vn) _ _ _ _ _ _ _ _ _ _ _ _ _ _ c.if-word-eq13.true c.requires.pn_bound.3 c.slot_after-v-then-word-eq13.ensures c.hold-then-word-eq13.ensures
+pub returns-in-Not-clause-moves : goal.returns-in-Not-clause-moves
+unfolding held_of
+returns-in-Not-clause-moves c = rw c.in-Not.is (operand_not (names_at c.args.known.text.now c.args.known.predicates.now) _ _ _ _ _ _ _ _ _ c.push-in-Not.ensures refl)
 
-pub returns-then-word-eq14 : goal.returns-then-word-eq14
-returns-then-word-eq14 c = operand_group (names_at c.args.text.now c.args.pstarts.now c.args.plengths.now c.args.pn) (names_at c.args.text.now c.args.vstarts.now c.args.vlengths.now c.args.vn) _ _ _ _ _ _ _ _ _ _ _ _ _ c.if-word-eq14.true c.requires.pn_bound.3 c.hold-then-word-eq14.ensures
+pub returns-in-Open-clause-moves : goal.returns-in-Open-clause-moves
+unfolding held_of
+returns-in-Open-clause-moves c = rw c.in-Open.is (operand_open (names_at c.args.known.text.now c.args.known.predicates.now) _ _ _ _ _ _ _ _ _ c.push-in-Open.ensures refl)
 
-pub returns : goal.returns
-returns c = operand_other (names_at c.args.text.now c.args.pstarts.now c.args.plengths.now c.args.pn) (names_at c.args.text.now c.args.vstarts.now c.args.vlengths.now c.args.vn) _ _ _ _ _ _ _ _ _ c.if-word-eq0.false c.if-word-eq2.false c.if-word-eq3.false c.if-word-eq4.false c.if-word-eq5.false c.if-word-eq6.false c.if-word-eq7.false c.if-word-eq12.false c.if-word-eq13.false c.if-word-eq14.false c.requires.pn_bound.3
+pub returns-in-Forall-clause-moves : goal.returns-in-Forall-clause-moves
+unfolding held_of
+returns-in-Forall-clause-moves c = rw c.in-Forall.is (operand_forall (names_at c.args.known.text.now c.args.known.predicates.now) _ _ _ _ _ _ _ _ _ c.push-in-Forall.ensures _ c.slot_after.ensures refl)
+
+pub returns-in-Exists-clause-moves : goal.returns-in-Exists-clause-moves
+unfolding held_of
+returns-in-Exists-clause-moves c = rw c.in-Exists.is (operand_exists (names_at c.args.known.text.now c.args.known.predicates.now) _ _ _ _ _ _ _ _ _ c.push-in-Exists.ensures _ c.slot_after-in-Exists.ensures refl)
+
+pub returns-in_default-clause-moves : goal.returns-in_default-clause-moves
+returns-in_default-clause-moves c = operand_other (names_at c.args.known.text.now c.args.known.predicates.now) _ _ _ _ _ _ _ _ c.in_default.not-Name c.in_default.not-True c.in_default.not-False c.in_default.not-Once c.in_default.not-Historically c.in_default.not-Before c.in_default.not-Not c.in_default.not-Forall c.in_default.not-Exists c.in_default.not-Open

@@ -1,16 +1,26 @@
--- `operators::operator` meets its contract. Assumes nothing.
-use native.Mathlib.Omega.{arith}
-use Rattle.drive.proofs.OperatorSteps.{operator_shut, operator_push, operator_other}
+-- `operators::operator` meets its contract, kind by kind. Assumes nothing.
+use Rattle.rowing.specs.Framing.{binary_of}
+use Rattle.drive.proofs.OperatorSteps.{operator_since, operator_and, operator_or, operator_implies, operator_shut, operator_other}
 use Rattle.drive.proofs.operators.operator.Goals as goal
 
-pub returns-then-word-eq15 : goal.returns-then-word-eq15
-returns-then-word-eq15 c = operator_shut _ _ _ _ _ _ _ _ _ _ c.if-word-eq15.true c.shut.ensures
+pub returns-in-Since-clause-operates : goal.returns-in-Since-clause-operates
+unfolding binary_of
+returns-in-Since-clause-operates c = rw c.in-Since.is (operator_since _ _ _ _ _ _ c.join.ensures.joins)
 
-pub returns-then-word-lt8 : goal.returns-then-word-lt8
-returns-then-word-lt8 c = operator_other _ _ _ _ _ _ c.requires.1 c.if-word-eq15.false (λ a b. omega (arith, c.if-word-lt8.true))
+pub returns-in-And-clause-operates : goal.returns-in-And-clause-operates
+unfolding binary_of
+returns-in-And-clause-operates c = rw c.in-And.is (operator_and _ _ _ _ _ _ c.join-in-And.ensures.joins)
 
-pub returns-then-word-gt11 : goal.returns-then-word-gt11
-returns-then-word-gt11 c = operator_other _ _ _ _ _ _ c.requires.1 c.if-word-eq15.false (λ a b. omega (arith, c.if-word-gt11.true))
+pub returns-in-Or-clause-operates : goal.returns-in-Or-clause-operates
+unfolding binary_of
+returns-in-Or-clause-operates c = rw c.in-Or.is (operator_or _ _ _ _ _ _ c.join-in-Or.ensures.joins)
 
-pub returns : goal.returns
-returns c = operator_push _ _ _ _ _ _ _ _ _ _ _ (omega (arith, c.if-word-lt8.false)) (omega (arith, c.if-word-gt11.false)) c.push-p.ensures
+pub returns-in-Implies-clause-operates : goal.returns-in-Implies-clause-operates
+unfolding binary_of
+returns-in-Implies-clause-operates c = rw c.in-Implies.is (operator_implies _ _ _ _ _ _ c.join-in-Implies.ensures.joins)
+
+pub returns-in-Close-clause-operates : goal.returns-in-Close-clause-operates
+returns-in-Close-clause-operates c = rw c.in-Close.is (operator_shut _ _ _ _ _ _ c.shut.ensures.shuts)
+
+pub returns-in_default-clause-operates : goal.returns-in_default-clause-operates
+returns-in_default-clause-operates c = operator_other _ _ _ _ c.in_default.not-Since c.in_default.not-And c.in_default.not-Or c.in_default.not-Implies c.in_default.not-Close

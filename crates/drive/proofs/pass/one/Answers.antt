@@ -1,13 +1,13 @@
--- `pass::one` meets its contract. Assumes nothing.
+-- `pass::one` meets its contract, mode by mode. Assumes nothing.
 use Rattle.census.specs.Tables.{names_at}
-use Rattle.drive.proofs.OperatorSteps.{one_operand, one_operator, one_none}
+use Rattle.drive.proofs.PassSteps.{one_operand, one_operator, one_none}
 use Rattle.drive.proofs.pass.one.Goals as goal
 
-pub returns-then-mode-eq0 : goal.returns-then-mode-eq0
-returns-then-mode-eq0 c = one_operand (names_at c.args.text.now c.args.pstarts.now c.args.plengths.now c.args.pn) (names_at c.args.text.now c.args.vstarts.now c.args.vlengths.now c.args.vn) _ _ _ _ _ _ _ _ _ _ _ _ _ _ _ c.if-mode-eq0.true c.operand.ensures
+pub returns-in-Operand-clause-moves : goal.returns-in-Operand-clause-moves
+returns-in-Operand-clause-moves c = rw c.in-Operand.is (one_operand (names_at c.args.known.text.now c.args.known.predicates.now) (names_at c.args.known.text.now c.args.known.variables.now) _ _ _ _ _ _ _ _ _ _ c.operand.ensures.moves)
 
-pub returns-then-mode-lt3 : goal.returns-then-mode-lt3
-returns-then-mode-lt3 c = one_operator (names_at c.args.text.now c.args.pstarts.now c.args.plengths.now c.args.pn) (names_at c.args.text.now c.args.vstarts.now c.args.vlengths.now c.args.vn) _ _ _ _ _ _ _ _ _ _ _ _ _ _ _ c.if-mode-eq0.false c.if-mode-lt3.true c.operator.ensures
+pub returns-in-Operator-clause-moves : goal.returns-in-Operator-clause-moves
+returns-in-Operator-clause-moves c = one_operator (names_at c.args.known.text.now c.args.known.predicates.now) (names_at c.args.known.text.now c.args.known.variables.now) _ _ _ _ _ _ _ _ _ _ _ c.in-Operator.is c.operator.ensures.operates
 
-pub returns : goal.returns
-returns c = one_none (names_at c.args.text.now c.args.pstarts.now c.args.plengths.now c.args.pn) (names_at c.args.text.now c.args.vstarts.now c.args.vlengths.now c.args.vn) _ _ _ _ _ _ _ _ _ _ c.requires.pn_bound.3 c.if-mode-eq0.false c.if-mode-lt3.false
+pub returns-in_default-clause-moves : goal.returns-in_default-clause-moves
+returns-in_default-clause-moves c = one_none (names_at c.args.known.text.now c.args.known.predicates.now) (names_at c.args.known.text.now c.args.known.variables.now) _ _ _ _ _ _ _ _ c.in_default.not-Operand c.in_default.not-Operator c.in_default.not-AfterName
