@@ -8,7 +8,7 @@ use native.Mathlib.Numerals.{add-one}
 use native.Mathlib.Omega.{arith}
 use lib.Bits.{bit_or, or_add_and, and_le_l, and_le_r}
 use lib.Dec.{eqb, ltb}
-use lib.ListN.{length, get_or, take, drop, replicate, length-drop, length-replicate, get_or-replicate, get_or-append}
+use lib.ListN.{length, get_or, take, drop, replicate, length-append, length-drop, length-replicate, get_or-replicate, get_or-append}
 use lib.Seq.{get_or-take, get_or-drop, drop-drop, drop-append-add, length-take-le}
 use borrow.Author.Tests.{ne_eqb, ltb-true, lt-ltb, le-leb, lt-leb}
 use Rattle.trees.specs.Kept.{all_below}
@@ -99,6 +99,12 @@ unfolding part_right list_right list_of part
 lists_same k m counts values e = rw e
 
 -- a part of the work slice cleared
+pub cleared : (n : ℕ) (xs ys : List ℕ) → n ≤ length xs → ys ≡ replicate (length (take n xs)) 0 → ys ++ drop n xs ≡ replicate n 0 ++ drop n xs
+cleared n xs ys h e = rw (e, length-take-le n xs h)
+
+pub clear_length : (n : ℕ) (xs : List ℕ) → n ≤ length xs → length (replicate n 0 ++ drop n xs) ≡ length xs
+clear_length n xs h = length-append (replicate n 0) (drop n xs) ∙ rw (length-replicate {A = ℕ} n 0, length-drop) (omega arith)
+
 pub clear_zero : (n : ℕ) (xs : List ℕ) (i : ℕ) → i < n → get_or (replicate n 0 ++ drop n xs) i 0 ≡ 0
 clear_zero n xs i h = get_or-append (replicate n 0) (drop n xs) 0 i (rw length-replicate h) ∙ get_or-replicate n i 0 0 h
 

@@ -113,7 +113,7 @@ written_more m b v j fresh values now e = rw (add-one j, e, get_or-map (λ (x : 
 unfoldable pub first_fresh : List ℕ → List ℕ → List ℕ → Lists → ℕ → Lists
 first_fresh before counts fresh L t v = L v ++ take (min (t - 24 * v) (get_or counts v 0 - get_or before v 0)) (drop (24 * v) fresh)
 
-module _ (k : ℕ) (before counts fresh : List ℕ) (L : Lists) (size : length fresh ≡ 96) (start : (v : ℕ) → v < 4 → length (L v) ≡ get_or before v 0)
+module _ (k : ℕ) (before counts fresh : List ℕ) (L : Lists) (start : (v : ℕ) → v < 4 → length (L v) ≡ get_or before v 0)
     (few : (v : ℕ) → v < 4 → get_or counts v 0 ≤ get_or before v 0 + 24) (room : (v : ℕ) → v < 4 → get_or counts v 0 ≤ most k)
     (grown : (v : ℕ) → v < 4 → get_or before v 0 ≤ get_or counts v 0) where
   pub fresh_none : lay_values k (first_fresh before counts fresh L (24 * 0)) ≡ lay_values k L
@@ -125,76 +125,77 @@ module _ (k : ℕ) (before counts fresh : List ℕ) (L : Lists) (size : length f
   fresh_all v e = lay_same k (first_fresh before counts fresh L (24 * v)) (with_fresh before counts fresh L) (λ w h.
       let z : min (24 * v - 24 * w) (get_or counts w 0 - get_or before w 0) ≡ get_or counts w 0 - get_or before w 0 = omega (arith, few w h) in rw z)
 
-  -- how many values of a variable stand there
-  listed_size : (t v : ℕ) → v < 4 → length (first_fresh before counts fresh L t v) ≡ get_or before v 0 + min (t - 24 * v) (get_or counts v 0 - get_or before v 0)
-  unfolding first_fresh
-  listed_size t v h =
-      length-append (L v) _
-      ∙ rw (start v h, length-take-le (min (t - 24 * v) (get_or counts v 0 - get_or before v 0)) (drop (24 * v) fresh) (rw (length-drop, size) (omega (arith, few v h))))
-
-  -- two places of the variable v leave the other variables' lists alike
-  same : (v w i j : ℕ) → w < 4 → i ≤ 24 → j ≤ 24 → (w ≡ v → ⊥) → first_fresh before counts fresh L (24 * v + i) w ≡ first_fresh before counts fresh L (24 * v + j) w
-  unfolding first_fresh
-  same v w i j h hi hj n = ⊎_elim
-      (λ p.
-      let g : get_or counts w 0 - get_or before w 0 ≤ 24 = omega (arith, few w h) in
-      rw (min_right (24 * v + i - 24 * w) (get_or counts w 0 - get_or before w 0) (omega arith), min_right (24 * v + j - 24 * w) (get_or counts w 0 - get_or before w 0) (omega arith)))
-      (λ p.
-      let x : 24 * v + i - 24 * w ≡ 0 = omega (arith, n) in
-      let y : 24 * v + j - 24 * w ≡ 0 = omega (arith, n) in
-      rw (x, y))
-      (lt_or_ge w v)
-
-  -- a fresh value goes to the end of its variable's list
-  module _ (v j : ℕ) (h : v < 4) (p : j < get_or counts v 0 - get_or before v 0) where
-    there : min (24 * v + j - 24 * v) (get_or counts v 0 - get_or before v 0) ≡ j
-    there = let z : 24 * v + j - 24 * v ≡ j = omega arith in rw z (min_left j (get_or counts v 0 - get_or before v 0) (omega arith))
-
-    one_more : min (24 * v + suc j - 24 * v) (get_or counts v 0 - get_or before v 0) ≡ suc j
-    one_more = let z : 24 * v + suc j - 24 * v ≡ suc j = omega arith in rw z (min_left (suc j) (get_or counts v 0 - get_or before v 0) (omega arith))
-
-    next : first_fresh before counts fresh L (24 * v + suc j) v ≡ first_fresh before counts fresh L (24 * v + j) v ++ get_or fresh (24 * v + j) 0 ∷ []
+  module _ (size : length fresh ≡ 96) where
+    -- how many values of a variable stand there
+    listed_size : (t v : ℕ) → v < 4 → length (first_fresh before counts fresh L t v) ≡ get_or before v 0 + min (t - 24 * v) (get_or counts v 0 - get_or before v 0)
     unfolding first_fresh
-    next =
-        let l : j < length (drop (24 * v) fresh) = rw (length-drop, size) (omega (arith, few v h)) in
-        rw (one_more, there, take-suc (drop (24 * v) fresh) j 0 l, get_or-drop (24 * v) fresh j 0) (sym (append_assoc (L v) (take j (drop (24 * v) fresh)) (get_or fresh (24 * v + j) 0 ∷ [])))
+    listed_size t v h =
+        length-append (L v) _
+        ∙ rw (start v h, length-take-le (min (t - 24 * v) (get_or counts v 0 - get_or before v 0)) (drop (24 * v) fresh) (rw (length-drop, size) (omega (arith, few v h))))
 
-    length_here : length (first_fresh before counts fresh L (24 * v + j) v) ≡ get_or before v 0 + j
-    length_here = listed_size (24 * v + j) v h ∙ rw there
+    -- two places of the variable v leave the other variables' lists alike
+    same : (v w i j : ℕ) → w < 4 → i ≤ 24 → j ≤ 24 → (w ≡ v → ⊥) → first_fresh before counts fresh L (24 * v + i) w ≡ first_fresh before counts fresh L (24 * v + j) w
+    unfolding first_fresh
+    same v w i j h hi hj n = ⊎_elim
+        (λ p.
+        let g : get_or counts w 0 - get_or before w 0 ≤ 24 = omega (arith, few w h) in
+        rw (min_right (24 * v + i - 24 * w) (get_or counts w 0 - get_or before w 0) (omega arith), min_right (24 * v + j - 24 * w) (get_or counts w 0 - get_or before w 0) (omega arith)))
+        (λ p.
+        let x : 24 * v + i - 24 * w ≡ 0 = omega (arith, n) in
+        let y : 24 * v + j - 24 * w ≡ 0 = omega (arith, n) in
+        rw (x, y))
+        (lt_or_ge w v)
 
-    fits : (w : ℕ) → w < 4 → length (first_fresh before counts fresh L (24 * v + j) w) ≤ most k
-    fits w q = rw (listed_size (24 * v + j) w q) (omega (arith, room w q, grown w q))
+    -- a fresh value goes to the end of its variable's list
+    module _ (v j : ℕ) (h : v < 4) (p : j < get_or counts v 0 - get_or before v 0) where
+      there : min (24 * v + j - 24 * v) (get_or counts v 0 - get_or before v 0) ≡ j
+      there = let z : 24 * v + j - 24 * v ≡ j = omega arith in rw z (min_left j (get_or counts v 0 - get_or before v 0) (omega arith))
 
-    fresh_one : set (lay_values k (first_fresh before counts fresh L (24 * v + j))) (v * most k + get_or before v 0 + j) (get_or fresh (24 * v + j) 0) ≡ lay_values k (first_fresh before counts fresh L (24 * v + suc j))
-    fresh_one =
-        let z : v * most k + get_or before v 0 + j ≡ v * most k + length (first_fresh before counts fresh L (24 * v + j) v) = omega (arith, length_here) in
-        rw z
-        (lay_set k (first_fresh before counts fresh L (24 * v + j)) (first_fresh before counts fresh L (24 * v + suc j)) v (get_or fresh (24 * v + j) 0) fits h
-        (rw length_here (omega (arith, room v h))) next (λ w q n. same v w (suc j) j q (omega (arith, few v h)) (omega (arith, few v h)) n))
+      one_more : min (24 * v + suc j - 24 * v) (get_or counts v 0 - get_or before v 0) ≡ suc j
+      one_more = let z : 24 * v + suc j - 24 * v ≡ suc j = omega arith in rw z (min_left (suc j) (get_or counts v 0 - get_or before v 0) (omega arith))
 
-  -- the fresh values of one variable, up to the place j
-  written_to : (v j : ℕ) (values : List ℕ) → v < 4 → j ≤ get_or counts v 0 - get_or before v 0 → values ≡ lay_values k (first_fresh before counts fresh L (24 * v))
-      → written (most k) (get_or before v 0) fresh v j values ≡ lay_values k (first_fresh before counts fresh L (24 * v + j))
-  unfolding written
-  written_to v zero values h q e = let z : 24 * v + 0 ≡ 24 * v = omega arith in rw z e
-  written_to v (suc j) values h q e = rw (written_to v j values h (omega arith) e) (fresh_one v j h (omega arith))
+      next : first_fresh before counts fresh L (24 * v + suc j) v ≡ first_fresh before counts fresh L (24 * v + j) v ++ get_or fresh (24 * v + j) 0 ∷ []
+      unfolding first_fresh
+      next =
+          let l : j < length (drop (24 * v) fresh) = rw (length-drop, size) (omega (arith, few v h)) in
+          rw (one_more, there, take-suc (drop (24 * v) fresh) j 0 l, get_or-drop (24 * v) fresh j 0) (sym (append_assoc (L v) (take j (drop (24 * v) fresh)) (get_or fresh (24 * v + j) 0 ∷ [])))
 
-  -- all of them
-  whole : (v : ℕ) → v < 4 → first_fresh before counts fresh L (24 * v + (get_or counts v 0 - get_or before v 0)) v ≡ first_fresh before counts fresh L (24 * (v + 1)) v
-  unfolding first_fresh
-  whole v h =
-      let g : get_or counts v 0 - get_or before v 0 ≤ 24 = omega (arith, few v h) in
-      rw (min_right (24 * v + (get_or counts v 0 - get_or before v 0) - 24 * v) (get_or counts v 0 - get_or before v 0) (omega arith), min_right (24 * (v + 1) - 24 * v) (get_or counts v 0 - get_or before v 0) (omega arith))
+      length_here : length (first_fresh before counts fresh L (24 * v + j) v) ≡ get_or before v 0 + j
+      length_here = listed_size (24 * v + j) v h ∙ rw there
 
-  pub fresh_more : (v : ℕ) (values : List ℕ) → v < 4 → values ≡ lay_values k (first_fresh before counts fresh L (24 * v))
-      → written (most k) (get_or before v 0) fresh v (get_or counts v 0 - get_or before v 0) values ≡ lay_values k (first_fresh before counts fresh L (24 * (v + 1)))
-  fresh_more v values h e =
-      written_to v (get_or counts v 0 - get_or before v 0) values h (omega arith) e
-      ∙ lay_same k (first_fresh before counts fresh L (24 * v + (get_or counts v 0 - get_or before v 0))) (first_fresh before counts fresh L (24 * (v + 1))) (λ w q. ⊎_elim
-      (λ n. let z : w ≡ v = n in rw z (whole v h))
-      (λ n.
-      let g : get_or counts v 0 - get_or before v 0 ≤ 24 = omega (arith, few v h) in
-      let u : 24 ≤ 24 = omega arith in
-      let z : 24 * (v + 1) ≡ 24 * v + 24 = omega arith in
-      rw z (same v w (get_or counts v 0 - get_or before v 0) 24 q g u n))
-      (same_or_not w v))
+      fits : (w : ℕ) → w < 4 → length (first_fresh before counts fresh L (24 * v + j) w) ≤ most k
+      fits w q = rw (listed_size (24 * v + j) w q) (omega (arith, room w q, grown w q))
+
+      fresh_one : set (lay_values k (first_fresh before counts fresh L (24 * v + j))) (v * most k + get_or before v 0 + j) (get_or fresh (24 * v + j) 0) ≡ lay_values k (first_fresh before counts fresh L (24 * v + suc j))
+      fresh_one =
+          let z : v * most k + get_or before v 0 + j ≡ v * most k + length (first_fresh before counts fresh L (24 * v + j) v) = omega (arith, length_here) in
+          rw z
+          (lay_set k (first_fresh before counts fresh L (24 * v + j)) (first_fresh before counts fresh L (24 * v + suc j)) v (get_or fresh (24 * v + j) 0) fits h
+          (rw length_here (omega (arith, room v h))) next (λ w q n. same v w (suc j) j q (omega (arith, few v h)) (omega (arith, few v h)) n))
+
+    -- the fresh values of one variable, up to the place j
+    written_to : (v j : ℕ) (values : List ℕ) → v < 4 → j ≤ get_or counts v 0 - get_or before v 0 → values ≡ lay_values k (first_fresh before counts fresh L (24 * v))
+        → written (most k) (get_or before v 0) fresh v j values ≡ lay_values k (first_fresh before counts fresh L (24 * v + j))
+    unfolding written
+    written_to v zero values h q e = let z : 24 * v + 0 ≡ 24 * v = omega arith in rw z e
+    written_to v (suc j) values h q e = rw (written_to v j values h (omega arith) e) (fresh_one v j h (omega arith))
+
+    -- all of them
+    whole : (v : ℕ) → v < 4 → first_fresh before counts fresh L (24 * v + (get_or counts v 0 - get_or before v 0)) v ≡ first_fresh before counts fresh L (24 * (v + 1)) v
+    unfolding first_fresh
+    whole v h =
+        let g : get_or counts v 0 - get_or before v 0 ≤ 24 = omega (arith, few v h) in
+        rw (min_right (24 * v + (get_or counts v 0 - get_or before v 0) - 24 * v) (get_or counts v 0 - get_or before v 0) (omega arith), min_right (24 * (v + 1) - 24 * v) (get_or counts v 0 - get_or before v 0) (omega arith))
+
+    pub fresh_more : (v : ℕ) (values : List ℕ) → v < 4 → values ≡ lay_values k (first_fresh before counts fresh L (24 * v))
+        → written (most k) (get_or before v 0) fresh v (get_or counts v 0 - get_or before v 0) values ≡ lay_values k (first_fresh before counts fresh L (24 * (v + 1)))
+    fresh_more v values h e =
+        written_to v (get_or counts v 0 - get_or before v 0) values h (omega arith) e
+        ∙ lay_same k (first_fresh before counts fresh L (24 * v + (get_or counts v 0 - get_or before v 0))) (first_fresh before counts fresh L (24 * (v + 1))) (λ w q. ⊎_elim
+        (λ n. let z : w ≡ v = n in rw z (whole v h))
+        (λ n.
+        let g : get_or counts v 0 - get_or before v 0 ≤ 24 = omega (arith, few v h) in
+        let u : 24 ≤ 24 = omega arith in
+        let z : 24 * (v + 1) ≡ 24 * v + 24 = omega arith in
+        rw z (same v w (get_or counts v 0 - get_or before v 0) 24 q g u n))
+        (same_or_not w v))

@@ -1,8 +1,13 @@
 -- What it is to write an event's fresh values into the value slice. Assumes nothing: these are definitions.
-use Rattle.std.specs.Prelude.{ℕ, zero, suc, ◌+◌, ◌*◌, ◌≤◌, ◌<◌, ◌≡◌, List, length, get_or, set}
+use Rattle.std.specs.Prelude.{ℕ, zero, suc, ◌+◌, ◌*◌, ◌≤◌, ◌<◌, ◌≡◌, List, Option, Some, None, length, get_or, set}
 use Rattle.meaning.specs.Tables.{most, list_of, lay_values}
 use Rattle.numbers.specs.declared.Asked.{Asked}
 use Rattle.numbers.specs.Asking.{with_counts}
+
+-- the lowest variable that is short, or 4 where none is
+unfoldable pub lowest : Option ℕ → ℕ
+lowest None = 4
+lowest (Some v) = v
 
 -- what `write_fresh` may assume
 pub record Writable (k : ℕ) (before : List ℕ) (a : Asked) (values : List ℕ) : Type 0 where

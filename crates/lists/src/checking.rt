@@ -1,5 +1,5 @@
 // The check of the lists in the value slice. What each function promises is in specs/Slots.antt.
-ghost use Rattle.std.specs.Prelude.{◌≡◌, ◌++◌, ◌*◌, ◌<◌, ◌≤◌, eqb, length, get_or, take, drop, replicate};
+ghost use Rattle.std.specs.Prelude.{◌≡◌, ◌*◌, ◌<◌, ◌≤◌, eqb, length, get_or, take, drop};
 ghost use Rattle.trees.specs.Kept.{all_below};
 ghost use Rattle.meaning.specs.Tables;
 ghost use Rattle.meaning.specs.Tables.{list_right, distinct};
@@ -7,16 +7,6 @@ ghost use Rattle.numbers.specs.Asking.{with_counts};
 ghost use Rattle.lists.specs.Slots.{part_right, Roomy, Checked, Slots, slot_of, next_of, Searchable, Sought};
 
 use numbers::most;
-
-// Fills the first n numbers with 0.
-fn clear(work: &mut [u32], n: usize)
-    requires { n ≤ length work.old }
-    ensures { work.new ≡ replicate n 0 ++ drop n work.old }
-{
-    for i in 0..n {
-        work[i] = 0;
-    }
-}
 
 // The slot at which the search for y begins, of `size`: all bits of y take part, so that values in steps of whatever number spread.
 fn slot(y: u32, size: usize) -> usize
@@ -33,10 +23,7 @@ fn next(size: usize, p: usize) -> usize
     requires { p < size }
     ensures { (result ≡ next_of size p) × (result < size) }
 {
-    if p + 1 == size {
-        return 0;
-    }
-    p + 1
+    if p + 1 == size { 0 } else { p + 1 }
 }
 
 // The slot at which the search for the value at place n ends: a free one, or one that has an earlier place of this value.
@@ -46,13 +33,8 @@ fn seek(list: &[u32], size: usize, work: &[u32], n: usize) -> usize
 {
     let y = list[n];
     let mut p = slot(y, size);
-    let mut q = work[p] as usize;
-    while q != 0 {
-        if list[q - 1] == y {
-            return p;
-        }
+    while work[p] != 0 && list[work[p] as usize - 1] != y {
         p = next(size, p);
-        q = work[p] as usize;
     }
     p
 }
@@ -62,11 +44,7 @@ fn slots(count: usize, room: usize) -> usize
     requires { (count ≤ 1023) × (1024 ≤ room) }
     ensures { Slots count room result }
 {
-    let size = 3 * count + 1;
-    if room < size {
-        return room;
-    }
-    size
+    room.min(3 * count + 1)
 }
 
 // Whether no value stands twice in the list. A slot has 1 more than a place of the list, or 0 where it is free; the place stands in
@@ -76,7 +54,7 @@ fn all_differ(list: &[u32], room: usize, work: &mut [u32]) -> bool
     ensures { Checked room work.old work.new (distinct list.now) result }
 {
     let size = slots(list.len(), room);
-    clear(work, size);
+    work[..size].fill(0);
     for j in 0..list.len() {
         let p = seek(list, size, work, j);
         if work[p] != 0 {
@@ -91,9 +69,9 @@ fn all_differ(list: &[u32], room: usize, work: &mut [u32]) -> bool
 fn all_zero(list: &[u32]) -> bool
     ensures { result ≡ all_below (length list.now) (λ j. eqb (get_or list.now j 0) 0) }
 {
-    let mut bits: u32 = 0;
-    for i in 0..list.len() {
-        bits = bits | list[i];
+    let mut bits = 0;
+    for x in list {
+        bits |= *x;
     }
     bits == 0
 }
@@ -103,10 +81,7 @@ fn list_right(m: usize, count: usize, part: &[u32], room: usize, work: &mut [u32
     requires { Roomy room work.old × (m ≤ 1023) × (length part.now ≡ m) }
     ensures { Checked room work.old work.new (part_right m count part.now) result }
 {
-    if m < count {
-        return false;
-    }
-    if !all_zero(&part[count..m]) {
+    if m < count || !all_zero(&part[count..m]) {
         return false;
     }
     all_differ(&part[0..count], room, work)

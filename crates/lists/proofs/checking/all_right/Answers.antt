@@ -16,7 +16,7 @@ inside : (c : In-loop-v) → let l = c in let a = l.args in l.loop-v.v * a.m + a
 inside c = part_inside c.loop-v.v c.args.m c.args.m (omega arith) (omega arith)
 
 pub loop-v-init : goal.loop-v-init
-loop-v-init c = (omega arith, refl, refl, λ w h. absurd (omega arith))
+loop-v-init c = (refl, refl, λ w h. absurd (omega arith))
 
 pub overflow_mul-at : goal.overflow_mul-at
 overflow_mul-at c = omega (arith, part_inside c.loop-v.v c.args.m c.args.m (omega arith) (omega arith), c.requires.1)
@@ -33,7 +33,7 @@ list_right-requires c =
     let s = l in
     let a = s.args in
     let z : l.loop-v.v * a.m + a.m - l.loop-v.v * a.m ≡ a.m = omega arith in (
-      record { some = s.requires.0.some; inside = omega (arith, l.loop-v.invariant.1, s.requires.0.inside) },
+      record { some = s.requires.0.some; inside = omega (arith, l.loop-v.invariant.0, s.requires.0.inside) },
       s.requires.1,
       rw z (length-take-le a.m (drop (l.loop-v.v * a.m) a.values.now) (rw (length-drop, s.requires.2) (omega (arith, inside (goal.at.list_right-requires c).In-loop-v)))),
     )
@@ -46,7 +46,7 @@ returns-then-not-list_right c =
     let z : l.loop-v.v * a.m + a.m - l.loop-v.v * a.m ≡ a.m = omega arith in
     record {
       answer = all_false 4 (λ v. part_right a.m (get_or a.counts v 0) (take a.m (drop (v * a.m) a.values.now))) l.loop-v.v (omega arith) (sym (rw z at d.answer) ∙ not-true _ c.if-not-list_right.true-raw);
-      beyond = d.beyond ∙ l.loop-v.invariant.2;
+      beyond = d.beyond ∙ l.loop-v.invariant.1;
     }
 
 pub loop-v-preserved : goal.loop-v-preserved
@@ -55,10 +55,9 @@ loop-v-preserved c =
     let a = l.args in
     let w = c.list_right in
     let z : l.loop-v.v * a.m + a.m - l.loop-v.v * a.m ≡ a.m = omega arith in (
-      omega arith,
-      w.auto.work ∙ l.loop-v.invariant.1,
-      w.ensures.beyond ∙ l.loop-v.invariant.2,
-      below_more _ _ l.loop-v.invariant.3 (sym (rw z at w.ensures.answer) ∙ not-false _ c.if-not-list_right.false-raw),
+      w.auto.work ∙ l.loop-v.invariant.0,
+      w.ensures.beyond ∙ l.loop-v.invariant.1,
+      below_more _ _ l.loop-v.invariant.2 (sym (rw z at w.ensures.answer) ∙ not-false _ c.if-not-list_right.false-raw),
     )
 
 pub returns : goal.returns
@@ -67,6 +66,6 @@ returns c =
     let s = l in
     let a = s.args in
     record {
-      answer = all_true 4 (λ v. part_right a.m (get_or a.counts v 0) (take a.m (drop (v * a.m) a.values.now))) (λ v h. l.loop-v.invariant.3 v (omega arith));
-      beyond = l.loop-v.invariant.2;
+      answer = all_true 4 (λ v. part_right a.m (get_or a.counts v 0) (take a.m (drop (v * a.m) a.values.now))) (λ v h. l.loop-v.invariant.2 v (omega arith));
+      beyond = l.loop-v.invariant.1;
     }

@@ -9,6 +9,6 @@ pub returns-then-p-size : goal.returns-then-p-size
 unfolding next_of
 returns-then-p-size c = (sym (rw (eq-eqb _ _ c.if-p-size.true)), omega arith)
 
-pub returns : goal.returns
+pub returns-else-p-size : goal.returns-else-p-size
 unfolding next_of
-returns c = (sym (rw (ne_eqb _ _ c.if-p-size.false)), omega (arith, c.if-p-size.false))
+returns-else-p-size c = (sym (rw (ne_eqb _ _ c.if-p-size.false)), omega (arith, c.if-p-size.false))

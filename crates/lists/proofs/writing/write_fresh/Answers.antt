@@ -1,5 +1,6 @@
 use native.Mathlib.Omega.{arith}
 use Prim.Native.Nat.{ℕ, ◌<◌}
+use mathlib.Core.List.{List}
 use mathlib.Core.Path.{◌≡◌, refl, sym, ◌∙◌}
 use lib.ListN.{length, get_or, length-map}
 use Rattle.meaning.specs.declared.Value.{Value}
@@ -15,52 +16,23 @@ start : (s : Start) (v : ℕ) → v < 4 → length (list_of s.args.k (with_count
 start s v h = list_length s.args.k s.args.before s.args.values.now v h s.requires.parts (omega (arith, s.requires.grown v h, s.requires.room v h))
 
 -- the array of fresh values
-size : (s : Start) → length (bare s.args.asked.fresh) ≡ 96
-size s = length-map s.args.asked.fresh (λ (x : Value). x.0) ∙ (omega arith)
-
-pub most-m-requires : goal.most-m-requires
-most-m-requires c = c.requires.bits
-
-pub overflow_cast-m : goal.overflow_cast-m
-overflow_cast-m c = let s = c in omega (arith, c.most-m.ensures, most_le s.args.k s.requires.bits)
+sized : (fresh : List Value) → length fresh ≡ 96 → length (bare fresh) ≡ 96
+sized fresh e = length-map fresh (λ (x : Value). x.0) ∙ e
 
 pub loop-v-init : goal.loop-v-init
-loop-v-init c =
-    let s = c in
-    let a = s.args in (
-      omega arith,
-      refl,
-      sym (fresh_none a.k a.before a.asked.counts (bare a.asked.fresh) (list_of a.k (with_counts a.before) a.values.now) (size (goal.at.loop-v-init c).Start) (start (goal.at.loop-v-init c).Start) s.requires.few s.requires.room s.requires.grown ∙ s.requires.laid),
-    )
+loop-v-init c = (refl, sym (fresh_none c.args.k c.args.before c.args.asked.now.counts (bare c.args.asked.now.fresh) (list_of c.args.k (with_counts c.args.before) c.args.values.now) (start (goal.at.loop-v-init c).Start) c.requires.few c.requires.room c.requires.grown ∙ c.requires.laid))
 
 pub write_list-requires : goal.write_list-requires
 write_list-requires c =
-    let s = c in
     let m = c.most-m.ensures in
-    let l = c.loop-v in
-    let v : l.v < 4 = omega (arith, c.loop-v-test.true) in
-    record { small = rw m (most_le s.args.k s.requires.bits); variable = v; parts = rw m (l.invariant.1 ∙ s.requires.parts); grown = s.requires.grown l.v v; few = s.requires.few l.v v; room = rw m (s.requires.room l.v v) }
+    let v : c.loop-v.v < 4 = c.loop-v-test.true in
+    record { small = rw m (most_le c.args.k c.requires.bits); variable = v; parts = rw m (c.loop-v.invariant.0 ∙ c.requires.parts); grown = c.requires.grown c.loop-v.v v; few = c.requires.few c.loop-v.v v; room = rw m (c.requires.room c.loop-v.v v) }
 
 pub loop-v-preserved : goal.loop-v-preserved
-loop-v-preserved c =
-    let s = c in
-    let a = s.args in
-    let l = c.loop-v in
-    let w = c.write_list in
-    let m = c.most-m.ensures in
-    let v : l.v < 4 = omega (arith, c.loop-v-test.true) in (
-      omega arith,
-      w.auto.values ∙ l.invariant.1,
-      w.ensures ∙ rw m (fresh_more a.k a.before a.asked.counts (bare a.asked.fresh) (list_of a.k (with_counts a.before) a.values.now) (size (goal.at.loop-v-preserved c).Start) (start (goal.at.loop-v-preserved c).Start) s.requires.few s.requires.room s.requires.grown l.v l.values v l.invariant.2),
-    )
-
-pub shape_of-values : goal.shape_of-values
-shape_of-values c = c.loop-v.invariant.1
+loop-v-preserved c = (
+  c.write_list.auto.values ∙ c.loop-v.invariant.0,
+  c.write_list.ensures ∙ rw c.most-m.ensures (fresh_more c.args.k c.args.before c.args.asked.now.counts (bare c.args.asked.now.fresh) (list_of c.args.k (with_counts c.args.before) c.args.values.now) (start (goal.at.loop-v-preserved c).Start) c.requires.few c.requires.room c.requires.grown (sized c.args.asked.now.fresh (omega arith)) c.loop-v.v c.loop-v.values c.loop-v-test.true c.loop-v.invariant.1),
+)
 
 pub returns : goal.returns
-returns c =
-    let s = c in
-    let a = s.args in
-    let l = c.loop-v in
-    let z : l.v ≡ 4 = omega (arith, c.loop-v-test.false) in
-    l.invariant.2 ∙ fresh_all a.k a.before a.asked.counts (bare a.asked.fresh) (list_of a.k (with_counts a.before) a.values.now) (size (goal.at.returns c).Start) (start (goal.at.returns c).Start) s.requires.few s.requires.room s.requires.grown l.v z
+returns c = c.loop-v.invariant.1 ∙ fresh_all c.args.k c.args.before c.args.asked.now.counts (bare c.args.asked.now.fresh) (list_of c.args.k (with_counts c.args.before) c.args.values.now) (start (goal.at.returns c).Start) c.requires.few c.requires.room c.requires.grown c.loop-v.v (omega arith)

@@ -1,6 +1,5 @@
--- `write_fresh` meets its contract. The loop's invariant: the fresh values of the variables before v are written. The measure is the count of variables
--- left. Assumes nothing.
-use Prim.Native.Nat.{◌*◌, ◌≤◌, ◌-◌}
+-- `write_fresh` meets its contract. The loop's invariant: the fresh values of the variables before v are written. Assumes nothing.
+use Prim.Native.Nat.{◌*◌}
 use mathlib.Core.Path.{◌≡◌}
 use lib.ListN.{length}
 use Rattle.meaning.specs.Tables.{list_of, lay_values}
@@ -9,8 +8,6 @@ use Rattle.lists.proofs.WritingLaws.{first_fresh}
 use Rattle.lists.proofs.writing.write_fresh.Given as goal
 
 abbrev pub invariant-loop-v : goal.invariant-loop-v
-invariant-loop-v l = (l.v ≤ 4) × (length l.values ≡ length l.initial.values)
-    × (l.values ≡ lay_values l.k (first_fresh l.before l.after (bare l.fresh) (list_of l.k (with_counts l.before) l.initial.values) (24 * l.v)))
-
-abbrev pub decreases-loop-v : goal.decreases-loop-v
-decreases-loop-v l = 4 - l.v
+invariant-loop-v l =
+    (length l.values ≡ length l.initial.values)
+    × (l.values ≡ lay_values l.k (first_fresh l.before l.asked.counts (bare l.asked.fresh) (list_of l.k (with_counts l.before) l.initial.values) (24 * l.v)))
