@@ -1,12 +1,10 @@
 -- Laws of `Put`: byte after byte, and one text behind another. Assumes nothing.
-use Prim.Native.Nat.{ℕ, suc, ◌+◌, ◌-◌, ◌*◌, ◌/◌, ◌%◌, ◌≤◌, ◌<◌}
+use Prim.Native.Nat.{ℕ, ◌+◌, ◌-◌, ◌*◌, ◌/◌, ◌%◌, ◌≤◌}
 use native.Mathlib.Omega.{arith}
-use native.Mathlib.Nat.{add-zero}
-use native.Mathlib.Numerals.{add-one}
 use mathlib.Core.Path.{◌≡◌, refl, sym, ap, subst, ◌∙◌}
 use mathlib.Core.List.{List, [], ◌∷◌, ◌++◌, append_assoc, append-nil}
-use lib.ListN.{length, take, drop, set, get_or, length-append, length-set, take-append-drop}
-use lib.Seq.{take-suc, take-suc-set, take_all, take_at, length-take-le, drop-set-lt, drop-drop}
+use lib.ListN.{length, take, drop, length-append, take-append-drop}
+use lib.Seq.{take_at, length-take-le, drop-drop}
 use borrow.Rule.Slice.PartMut.{put_mid, mid_len, same_len_mid, drop_put}
 use Rattle.lines.specs.Numeral.{numeral}
 use Rattle.lines.specs.Format.{spaced}
@@ -16,52 +14,6 @@ use Rattle.answers.specs.Answers.{Put, word_line}
 -- what two lists have in common from a place on they have in common from any later place on
 pub drop_later : (xs ys : List ℕ) (n m : ℕ) → drop n xs ≡ drop n ys → drop (n + m) xs ≡ drop (n + m) ys
 drop_later xs ys n m e = sym (drop-drop m n xs) ∙ ap (drop m) e ∙ drop-drop m n ys
-
--- the bytes before `at` are as they were, the first i of the text stand behind them, and the bytes after those are as they were
-pub record Putting (before : List ℕ) (at : ℕ) (text after : List ℕ) (i : ℕ) : Type 0 where
-  pub few : i ≤ length text
-  pub size : length after ≡ length before
-  pub shown : take (at + i) after ≡ take at before ++ take i text
-  pub rest : drop (at + i) after ≡ drop (at + i) before
-
-pub putting_none : (before : List ℕ) (at : ℕ) (text : List ℕ) → Putting before at text before 0
-putting_none before at text = record { few = omega arith; size = refl; shown = ap (λ (n : ℕ). take n before) (add-zero at) ∙ sym (append-nil (take at before)); rest = refl }
-
-pub putting_more : {before : List ℕ} {at : ℕ} {text after : List ℕ} {i : ℕ} → at + i < length before → Putting before at text after i
-    → i < length text → Putting before at text (set after (at + i) (get_or text i 0)) (i + 1)
-putting_more {before} {at} {text} {after} {i} room p h =
-    record {
-      few = omega arith;
-      size = length-set after (at + i) (get_or text i 0) ∙ p.size;
-      shown = ap (λ (n : ℕ). take n (set after (at + i) (get_or text i 0))) next
-          ∙ take-suc-set after (at + i) (get_or text i 0) inside
-          ∙ ap (λ (l : List ℕ). l ++ (get_or text i 0 ∷ [])) p.shown
-          ∙ append_assoc (take at before) (take i text) (get_or text i 0 ∷ [])
-          ∙ ap (λ (l : List ℕ). take at before ++ l) (sym (take-suc text i 0 h) ∙ ap (λ (n : ℕ). take n text) (sym (add-one i)));
-      rest = drop-set-lt (at + (i + 1)) after (at + i) (get_or text i 0) (omega arith) ∙ later;
-    }
-  where
-    next : at + (i + 1) ≡ suc (at + i)
-    next = omega arith
-
-    later : drop (at + (i + 1)) after ≡ drop (at + (i + 1)) before
-    later = subst (λ (n : ℕ). drop n after ≡ drop n before) further (drop_later after before (at + i) 1 p.rest)
-      where
-        further : (at + i) + 1 ≡ at + (i + 1)
-        further = omega arith
-
-    inside : at + i < length after
-    inside = omega (arith, p.size)
-
-pub putting_all : {before : List ℕ} {at : ℕ} {text after : List ℕ} {i : ℕ} → at + length text ≤ length before → Putting before at text after i
-    → length text ≤ i → Put before at text after (at + i)
-putting_all {before} {at} {text} {after} {i} room p h =
-    record {
-      past = omega (arith, p.few);
-      inside = omega (arith, p.few, p.size);
-      shown = p.shown ∙ ap (λ (l : List ℕ). take at before ++ l) (take_all i text h);
-      rest = p.rest;
-    }
 
 -- a text that is copied over a part of the slice
 pub put_copied : {before : List ℕ} {at : ℕ} {text copy : List ℕ} → at + length text ≤ length before → copy ≡ text
@@ -79,19 +31,15 @@ put_copied {before} {at} {text} {copy} h e =
       rest = drop_put at (at + length text) before copy (omega arith) h many;
     }
 
+pub copied_long : (before : List ℕ) (at : ℕ) {text copy : List ℕ} → at + length text ≤ length before → copy ≡ text
+    → length (put_mid at ((at + length text) - at) before copy) ≡ length before
+copied_long before at {text} {copy} h e =
+    let many : length copy ≡ (at + length text) - at = ap length e ∙ omega arith in
+    same_len_mid at ((at + length text) - at) before copy (many ∙ sym (mid_len at (at + length text) before h))
+
 -- no text
 pub put_none : {before : List ℕ} {at : ℕ} → at ≤ length before → Put before at [] before at
 put_none {before} {at} h = record { past = omega arith; inside = h; shown = sym (append-nil (take at before)); rest = refl }
-
--- one byte
-pub put_byte : {before : List ℕ} {at : ℕ} (b : ℕ) → at < length before → Put before at (b ∷ []) (set before at b) (at + 1)
-put_byte {before} {at} b h =
-    record {
-      past = refl;
-      inside = omega (arith, length-set before at b);
-      shown = ap (λ (n : ℕ). take n (set before at b)) (add-one at) ∙ take-suc-set before at b h;
-      rest = drop-set-lt (at + 1) before at b (omega arith);
-    }
 
 -- one text behind another
 pub put_both : {before : List ℕ} {at : ℕ} {text mid : List ℕ} {n : ℕ} {more after : List ℕ} {next : ℕ} → Put before at text mid n

@@ -1,2 +1,3 @@
--- What the contracts cite: the lines of the output.
+-- What the contracts cite: the lines of the output, and what it is to put them into a sheet.
 pub mod Answers
+pub mod Sheets
