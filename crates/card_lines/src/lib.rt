@@ -4,285 +4,160 @@
 
 mod parsing; // parsing.rt: numbers and facts of a line
 
-use crate::parsing::{Parsed, Token, fact_from, number_at};
+use crate::parsing::{fact, number};
 use card_records::Fact;
-use card_text::{create, fail, say, say_number, unlink};
+use card_text::{Said, Streams, create, fail, opened, say, unlink};
+use card_writer::Sheet;
 use std::fs::File;
-use std::io::{Read, Stderr, Stdin};
+use std::io::{Cursor, Read, Stderr, Write};
 use std::rt::Files;
 
-// The block under way: its number, the count of its records, the count of lines, the count of bytes of the line that is held, and whether all
-// went well.
-#[derive(Clone, Copy)]
-struct Sheet {
+// The card under way: where its blocks go, the block that has records and is not written yet, its number, and the line that is being read with
+// its number.
+#[derive(Drop)]
+struct Writing<'a> {
+    to: &'a mut File,
+    stderr: Stderr,
+    sheet: Option<Sheet>,
     number: u64,
-    records: usize,
+    text: Cursor<[u8; 512]>,
     line: u64,
-    held: usize,
-    good: bool,
-    more: bool,
 }
 
-// The sheet where something is wrong: what, and in which line.
-fn refused(stderr: Stderr, s: Sheet, what: &[u8]) -> Sheet {
-    say(stderr, b"card: line ");
-    say_number(stderr, s.line);
-    say(stderr, what);
-    let mut r = s;
-    r.good = false;
-    r
-}
+impl Writing<'_> {
+    // Says what is wrong, and in which line.
+    fn refused<T>(&self, what: &str) -> Result<T, Said> {
+        let mut stderr = self.stderr;
+        let line = self.line;
+        let _ = writeln!(stderr, "card: line {line}{what}");
+        Err(Said)
+    }
 
-// Ends the block and writes it.
-fn write_block(to: &mut File, block: &mut [u8; 512]) -> bool {
-    card_writer::end_block(block);
-    card_text::write_all(to, block)
-}
+    // Ends a block and writes it.
+    fn write_block(&mut self, sheet: Sheet) -> Result<(), Said> {
+        let block = sheet.end();
+        if self.to.write_all(&block).is_err() {
+            return self.refused(": the card cannot be written");
+        }
+        Ok(())
+    }
 
-// One record more in a block that has room.
-fn add_in(stderr: Stderr, block: &mut [u8; 512], s: Sheet, f: Fact) -> Sheet {
-    let i = s.records;
-    if 21 <= i {
-        return refused(stderr, s, b": the card cannot be written\n");
-    }
-    let number = s.number;
-    if 4294967295 < number {
-        return refused(stderr, s, b": the card has more than 2^32 blocks\n");
-    }
-    let mut r = s;
-    r.records = i + 1;
-    if i == 0 {
-        card_writer::start_block(block, number as u32);
-        card_writer::add_fact(block, 0, f);
-        return r;
-    }
-    card_writer::add_fact(block, i, f);
-    r
-}
-
-// One record more; a block with 21 is written first.
-fn add(to: &mut File, stderr: Stderr, block: &mut [u8; 512], s: Sheet, f: Fact) -> Sheet {
-    if s.records < 21 {
-        return add_in(stderr, block, s, f);
-    }
-    if !write_block(to, block) {
-        return refused(stderr, s, b": the card cannot be written\n");
-    }
-    let mut r = s;
-    r.records = 0;
-    r.number = s.number.wrapping_add(1);
-    add_in(stderr, block, r, f)
-}
-
-// The facts of a moment, from the place past its stamp on: 1 to 8.
-fn add_facts(
-    to: &mut File,
-    stderr: Stderr,
-    line: &[u8],
-    from: usize,
-    stamp: u32,
-    block: &mut [u8; 512],
-    first: Sheet,
-) -> Sheet {
-    let mut s = first;
-    let mut at = from;
-    let mut left: usize = 8;
-    while 0 < left {
-        let Parsed::Fact(f, next) = fact_from(line, at, stamp) else {
-            return refused(stderr, s, b" is no moment\n");
+    // One record more; a block with 21 is written first.
+    fn add(&mut self, f: Fact) -> Result<(), Said> {
+        if let Some(sheet) = self.sheet
+            && 21 <= sheet.records
+        {
+            self.write_block(sheet)?;
+            self.sheet = None;
+            self.number = self.number.wrapping_add(1);
+        }
+        let Ok(number) = u32::try_from(self.number) else {
+            return self.refused(": the card has more than 2^32 blocks");
         };
-        s = add(to, stderr, block, s, f);
-        if !s.good {
-            return s;
+        let mut sheet = match self.sheet {
+            Some(sheet) if sheet.records < 21 => sheet,
+            _ => Sheet::begin(number),
+        };
+        sheet.add(f);
+        self.sheet = Some(sheet);
+        Ok(())
+    }
+
+    // The facts of a moment: 1 to 8.
+    fn add_facts(&mut self, facts: &[u8], stamp: u32) -> Result<(), Said> {
+        let mut rest = facts;
+        for _ in 0..8 {
+            let Some((f, next)) = fact(rest, stamp) else {
+                return self.refused(" is no moment");
+            };
+            self.add(f)?;
+            if f.last {
+                return Ok(());
+            }
+            rest = next;
         }
-        if f.last {
-            return s;
+        self.refused(" has more than 8 facts")
+    }
+
+    // The line is whole: a stamp, a colon and a space, and the facts.
+    fn end_line(&mut self) -> Result<(), Said> {
+        let held = (self.text.position() as usize).min(512);
+        let mut text = [0; 512];
+        text.copy_from_slice(self.text.get_ref());
+        match number(&text[..held]) {
+            Some((stamp, [b':', b' ', facts @ ..])) if !facts.is_empty() => {
+                self.add_facts(facts, stamp)?;
+            }
+            _ => return self.refused(" is no moment"),
         }
-        at = next;
-        left -= 1;
+        self.text.set_position(0);
+        self.line = self.line.wrapping_add(1);
+        Ok(())
     }
-    refused(stderr, s, b" has more than 8 facts\n")
-}
 
-// A line: a stamp, a colon and a space, and the facts.
-fn add_line(to: &mut File, stderr: Stderr, line: &[u8], block: &mut [u8; 512], s: Sheet) -> Sheet {
-    let Token::Number(stamp, at) = number_at(line, 0) else {
-        return refused(stderr, s, b" is no moment\n");
-    };
-    if line.len() <= at {
-        return refused(stderr, s, b" is no moment\n");
-    }
-    if line[at] != b':' {
-        return refused(stderr, s, b" is no moment\n");
-    }
-    if line.len() - at < 3 {
-        return refused(stderr, s, b" is no moment\n");
-    }
-    if line[at + 1] != b' ' {
-        return refused(stderr, s, b" is no moment\n");
-    }
-    add_facts(to, stderr, line, at + 2, stamp, block, s)
-}
-
-// The line that is held is whole.
-fn end_line(
-    to: &mut File,
-    stderr: Stderr,
-    line: &[u8; 512],
-    block: &mut [u8; 512],
-    s: Sheet,
-) -> Sheet {
-    let all: &[u8] = line;
-    let held = s.held;
-    if 512 < held {
-        return refused(stderr, s, b" is too long\n");
-    }
-    let mut r = add_line(to, stderr, &all[0..held], block, s);
-    r.held = 0;
-    r.line = r.line.wrapping_add(1);
-    r
-}
-
-// One byte of the input.
-fn add_byte(
-    to: &mut File,
-    stderr: Stderr,
-    b: u8,
-    line: &mut [u8; 512],
-    block: &mut [u8; 512],
-    s: Sheet,
-) -> Sheet {
-    if b == b'\n' {
-        return end_line(to, stderr, line, block, s);
-    }
-    let held = s.held;
-    if 512 <= held {
-        return refused(stderr, s, b" is too long\n");
-    }
-    line[held] = b;
-    let mut r = s;
-    r.held = held + 1;
-    r
-}
-
-// A part of the input.
-fn add_part(
-    to: &mut File,
-    stderr: Stderr,
-    part: &[u8],
-    line: &mut [u8; 512],
-    block: &mut [u8; 512],
-    first: Sheet,
-) -> Sheet {
-    let mut s = first;
-    let mut i: usize = 0;
-    while i < part.len() {
-        s = add_byte(to, stderr, part[i], line, block, s);
-        if !s.good {
-            return s;
+    // A part of the input.
+    fn add_part(&mut self, part: &[u8]) -> Result<(), Said> {
+        for b in part {
+            if *b == b'\n' {
+                self.end_line()?;
+            } else if self.text.write_all(&[*b]).is_err() {
+                return self.refused(" is too long");
+            }
         }
-        i += 1;
+        Ok(())
     }
-    s
-}
 
-// What is left at the end of the input: a line without its line end, and a block that is not full.
-fn add_end(
-    to: &mut File,
-    stderr: Stderr,
-    line: &[u8; 512],
-    block: &mut [u8; 512],
-    first: Sheet,
-) -> Sheet {
-    let mut s = first;
-    if s.held != 0 {
-        s = end_line(to, stderr, line, block, s);
+    // What is left at the end of the input: a line without its line end, and a block that is not full.
+    fn end(&mut self) -> Result<(), Said> {
+        if self.text.position() != 0 {
+            self.end_line()?;
+        }
+        match self.sheet {
+            Some(sheet) => self.write_block(sheet),
+            None => Ok(()),
+        }
     }
-    s.more = false;
-    if !s.good {
-        return s;
-    }
-    if s.records == 0 {
-        return s;
-    }
-    if write_block(to, block) {
-        return s;
-    }
-    refused(stderr, s, b": the card cannot be written\n")
-}
-
-// The next part of the input.
-fn add_some(
-    mut stdin: Stdin,
-    to: &mut File,
-    stderr: Stderr,
-    line: &mut [u8; 512],
-    block: &mut [u8; 512],
-    s: Sheet,
-) -> Sheet {
-    let mut part = [0u8; 65536];
-    let Ok(n) = stdin.read(&mut part) else {
-        return refused(stderr, s, b": standard input cannot be read\n");
-    };
-    if n == 0 {
-        return add_end(to, stderr, line, block, s);
-    }
-    add_part(to, stderr, &part[..n], line, block, s)
 }
 
 // The whole input.
-fn write_all(stdin: Stdin, to: &mut File, stderr: Stderr) -> bool {
-    let mut line = [0u8; 512];
-    let mut block = [0u8; 512];
-    let mut s = Sheet {
+fn write_all(streams: Streams, to: &mut File) -> Result<(), Said> {
+    let mut stdin = streams.stdin;
+    let mut writing = Writing {
+        to,
+        stderr: streams.stderr,
+        sheet: None,
         number: 0,
-        records: 0,
+        text: Cursor::new([0; 512]),
         line: 1,
-        held: 0,
-        good: true,
-        more: true,
     };
-    let mut turns = u64::MAX;
-    while 0 < turns {
-        if !s.good {
-            return false;
+    let mut part = [0u8; 65536];
+    for _ in 0..u64::MAX {
+        match stdin.read(&mut part) {
+            Ok(0) => return writing.end(),
+            Ok(n) => writing.add_part(&part[..n])?,
+            Err(_) => return writing.refused(": standard input cannot be read"),
         }
-        if !s.more {
-            return true;
-        }
-        s = add_some(stdin, to, stderr, &mut line, &mut block, s);
-        turns -= 1;
     }
-    false
+    Err(Said)
 }
 
 // Writes the lines into the open file of this name; what is wrong is said.
-fn write_into(stdin: Stdin, to: &mut File, stderr: Stderr, name: &[u8]) -> bool {
-    if !write_all(stdin, to, stderr) {
-        return false;
-    }
+fn write_into(streams: Streams, to: &mut File, name: &[u8]) -> Result<(), Said> {
+    write_all(streams, to)?;
     // The system may tell only now that what was written found no room.
-    if to.sync_all().is_ok() {
-        return true;
+    if to.sync_all().is_err() {
+        fail(streams.stderr, name, b" cannot be written\n");
+        return Err(Said);
     }
-    fail(stderr, name, b" cannot be written\n");
-    false
+    Ok(())
 }
 
 // Writes the card of this name.
-pub fn write<R: Files<File = File>>(rt: &R, stdin: Stdin, stderr: Stderr, name: &[u8]) -> bool {
-    match create(rt, name) {
-        Err(why) => {
-            card_text::refused(stderr, name, why);
-            false
-        }
-        Ok(made) => {
-            let mut to = made;
-            if write_into(stdin, &mut to, stderr, name) {
-                return true;
-            }
-            let _ = unlink(rt, name);
-            false
-        }
+pub fn write<R: Files<File = File>>(rt: &R, streams: Streams, name: &[u8]) -> Result<(), Said> {
+    let mut to = opened(streams.stderr, name, create(rt, name))?;
+    let written = write_into(streams, &mut to, name);
+    if written.is_err() {
+        let _ = unlink(rt, name);
     }
+    written
 }

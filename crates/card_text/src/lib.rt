@@ -1,91 +1,75 @@
-// Text for standard output and standard error, put into a lent slice. What finds no room is left out; the callers empty the slice in time.
-// Then what the programs share of reading and writing: whole slices, the files that a path names, and what is said where one is refused.
+// What the programs share of reading and writing: their streams, a page of text that is written out in time, the files that a path names, and
+// what is said where one is refused. What finds no room on a page is left out; the callers write a page out before it is full.
 #![tactic(auto)]
 
 ghost use Rattle.std.specs.Prelude.{◌≤◌, length};
 
 use std::env::{Env, FillError};
 use std::fs;
-use std::fs::OpenOptions;
-use std::io::{Cursor, Error, ErrorKind, IsTerminal, Read, Stderr, Stdout, Write};
+use std::fs::{File, OpenOptions};
+use std::io::{Cursor, Error, ErrorKind, IsTerminal, Read, Stderr, Stdin, Stdout, Write};
 use std::rt::Files;
 
-// Puts one byte, and answers the place past it.
-pub fn put_byte(out: &mut [u8], at: usize, b: u8) -> usize {
-    if at < out.len() {
-        out[at] = b;
-        return at + 1;
+// Something is wrong, and standard error says what.
+#[derive(Clone, Copy)]
+pub struct Said;
+
+// The program's three streams.
+#[derive(Clone, Copy)]
+pub struct Streams {
+    pub stdin: Stdin,
+    pub stdout: Stdout,
+    pub stderr: Stderr,
+}
+
+// Text for standard output that waits to be written.
+pub type Page = Cursor<[u8; 65536]>;
+
+// From so many bytes on a page is written out: no block and no line takes as many more as a page has.
+const FULL: u64 = 60000;
+
+// An empty page.
+pub fn page() -> Page {
+    Cursor::new([0; 65536])
+}
+
+// Writes the page to standard output and empties it, or says that it cannot.
+pub fn write_out(streams: Streams, page: &mut Page) -> Result<(), Said> {
+    let past = (page.position() as usize).min(65536);
+    page.set_position(0);
+    let mut stdout = streams.stdout;
+    if stdout.write_all(&page.get_ref()[..past]).is_err() {
+        say(streams.stderr, b"card: standard output cannot be written\n");
+        return Err(Said);
     }
-    at
+    Ok(())
 }
 
-// Puts bytes, and answers the place past them.
-pub fn put(out: &mut [u8], from: usize, bytes: &[u8]) -> usize {
-    let mut at = from;
-    let mut i: usize = 0;
-    while i < bytes.len() {
-        at = put_byte(out, at, bytes[i]);
-        i += 1;
+// Writes the page out where it is full.
+pub fn turn(streams: Streams, page: &mut Page) -> Result<(), Said> {
+    if page.position() < FULL {
+        return Ok(());
     }
-    at
+    write_out(streams, page)
 }
 
-// Puts a number's digits, and answers the place past them.
-pub fn put_number(out: &mut [u8], at: usize, n: u64) -> usize {
-    let mut digits = [0u8; 20];
-    let k = io::decimal(n, &mut digits);
-    put(out, at, &digits[..k])
-}
-
-// Writes all of the bytes; false where that cannot be done, and then some may have been written.
-pub fn write_all<W: Write>(to: &mut W, bytes: &[u8]) -> bool {
-    to.write_all(bytes).is_ok()
-}
-
-// Writes a number's digits; false where that cannot be done.
-pub fn write_number<W: Write>(to: &mut W, n: u64) -> bool {
-    let mut digits = [0u8; 20];
-    let k = io::decimal(n, &mut digits);
-    write_all(to, &digits[..k])
-}
-
-// Reads until the slice is full, the input ends or a read fails, and answers how many bytes stand at the front of the slice.
-pub fn read_full<R: Read>(from: &mut R, buf: &mut [u8]) -> usize
-    ensures { result ≤ length buf.new }
+// Reads until the slice is full, the input ends or a read fails, and answers what was read: the front of the slice.
+pub fn read_full<'a, R: Read>(from: &mut R, buf: &'a mut [u8]) -> &'a [u8]
+    ensures { length result.now ≤ length buf.old }
 {
     let mut done = 0;
     while done < buf.len() {
-        let Ok(n) = from.read(&mut buf[done..]) else {
-            return done;
-        };
-        if n == 0 {
-            return done;
+        match from.read(&mut buf[done..]) {
+            Ok(0) | Err(_) => break,
+            Ok(n) => done += n,
         }
-        done += n;
     }
-    done
-}
-
-// Writes the first `at` bytes to standard output, and says so where it cannot.
-pub fn flush(mut stdout: Stdout, stderr: Stderr, out: &[u8], at: usize) -> bool {
-    if out.len() < at {
-        return false;
-    }
-    if write_all(&mut stdout, &out[0..at]) {
-        return true;
-    }
-    say(stderr, b"card: standard output cannot be written\n");
-    false
+    &buf[..done]
 }
 
 // Writes to standard error.
 pub fn say(mut stderr: Stderr, bytes: &[u8]) {
-    write_all(&mut stderr, bytes);
-}
-
-// Writes a number to standard error.
-pub fn say_number(mut stderr: Stderr, n: u64) {
-    write_number(&mut stderr, n);
+    let _ = stderr.write_all(bytes);
 }
 
 // Says that something cannot be done with a file.
@@ -96,14 +80,9 @@ pub fn fail(stderr: Stderr, name: &[u8], what: &[u8]) {
 }
 
 // Every 8,192 blocks, the count so far, where standard error is a terminal.
-pub fn progress(stderr: Stderr, blocks: u64) {
-    if blocks % 8192 != 0 {
-        return;
-    }
-    if stderr.is_terminal() {
-        say(stderr, b"\r");
-        say_number(stderr, blocks);
-        say(stderr, b" blocks");
+pub fn progress(mut stderr: Stderr, blocks: u64) {
+    if blocks % 8192 == 0 && stderr.is_terminal() {
+        let _ = write!(stderr, "\r{blocks} blocks");
     }
 }
 
@@ -141,18 +120,36 @@ pub fn create<R: Files>(rt: &R, name: &[u8]) -> std::io::Result<R::File> {
         .open(rt, path(name)?)
 }
 
-// Empties the file of this name, or makes it where it is missing, and opens it to write it.
-pub fn open_overwrite<R: Files>(rt: &R, name: &[u8]) -> std::io::Result<R::File> {
-    fs::create(rt, path(name)?)
-}
-
 // Takes away the file of this name.
 pub fn unlink<R: Files>(rt: &R, name: &[u8]) -> std::io::Result<()> {
     fs::remove_file(rt, path(name)?)
 }
 
+// The opened file; or says why the system refuses the file of this name.
+pub fn opened(stderr: Stderr, name: &[u8], file: std::io::Result<File>) -> Result<File, Said> {
+    match file {
+        Ok(file) => Ok(file),
+        Err(why) => {
+            refused(stderr, name, why);
+            Err(Said)
+        }
+    }
+}
+
+// Notes that all went well: empties the file that the first argument names, or makes it where it is missing, and writes a line.
+pub fn done<R: Env + Files<File = File>>(rt: &R) {
+    let mut name = [0u8; 4096];
+    if let Ok(n) = rt.arg(1, &mut name)
+        && let Ok(path) = path(&name[..n])
+        && let Ok(made) = fs::create(rt, path)
+    {
+        let mut to = made;
+        let _ = to.write_all(b"done\n");
+    }
+}
+
 // Says why the system refuses a file: its name, a colon and the system's words for the error, without the number that std writes behind them.
-pub fn refused(stderr: Stderr, name: &[u8], why: Error) {
+fn refused(stderr: Stderr, name: &[u8], why: Error) {
     let mut text = Cursor::new([0u8; 128]);
     let _ = write!(text, "{why}");
     let all = text.into_inner();
