@@ -1,36 +1,15 @@
--- A card cut into pieces by the code: the piece at a place, and those past it. Assumes nothing.
-use Prim.Native.Nat.{ℕ, ◌+◌, ◌-◌, ◌≤◌, ◌<◌, min}
+-- A card cut into pieces by the code: the next piece, and those past it. Assumes nothing.
+use Prim.Native.Nat.{ℕ, ◌≤◌, ◌<◌, min}
 use native.Mathlib.Omega.{arith}
 use mathlib.Core.Path.{◌≡◌, refl, sym, ap, ◌∙◌}
 use mathlib.Core.Bool.{Bool, true, false}
 use mathlib.Core.List.{List, [], ◌∷◌, ◌++◌, append-nil}
 use lib.Dec.{ltb}
-use lib.ListN.{length, take, drop, length-drop, length-append, drop_of_length-le}
-use lib.Seq.{drop-drop, take_all, take_at, drop_at}
+use lib.ListN.{length, take, drop, length-append, drop_of_length-le}
+use lib.Seq.{take_all, take_at, drop_at}
 use borrow.Author.Tests.{ltb-true, ltb-false}
 use Rattle.cards.specs.Blocks.{piece_of, pieces}
 use Rattle.cards.proofs.PieceLaws.{pieces_some}
-
--- the piece at a place, and those past it
-pub piece_end : (card : List ℕ) (at end : ℕ) → at < length card → end ≡ min (at + 512) (length card)
-    → pieces (drop at card) ≡ piece_of (take (end - at) (drop at card)) ∷ pieces (drop end card)
-piece_end card at end h e =
-    pieces_some (drop at card) (omega (arith, length-drop at card)) ∙ rw (drop-drop 512 at card) (go (ltb (length card) (at + 512)) refl)
-  where
-    go : (q : Bool) → ltb (length card) (at + 512) ≡ q
-        → (piece_of (take 512 (drop at card)) ∷ pieces (drop (at + 512) card)) ≡ (piece_of (take (end - at) (drop at card)) ∷ pieces (drop end card))
-    go true f =
-        let short : length card < at + 512 = ltb-true (length card) (at + 512) f in
-        let last : end ≡ length card = omega arith in
-        let none : drop (at + 512) card ≡ drop end card = drop_of_length-le card {i = at + 512} (omega arith) ∙ sym (drop_of_length-le card {i = end} (omega arith)) in
-        let all : take 512 (drop at card) ≡ take (end - at) (drop at card) =
-        take_all 512 (drop at card) (omega (arith, length-drop at card)) ∙ sym (take_all (end - at) (drop at card) (omega (arith, length-drop at card))) in
-        rw (none, all)
-    go false f =
-        let long : at + 512 ≤ length card = ltb-false (length card) (at + 512) f in
-        let here : end ≡ at + 512 = omega arith in
-        let size : end - at ≡ 512 = omega arith in
-        rw (size, here)
 
 length-zero : (bs : List ℕ) → length bs ≡ 0 → bs ≡ []
 length-zero [] e = refl
@@ -41,6 +20,9 @@ pub record Cut (bytes here rest : List ℕ) : Type 0 where
   pub parts : bytes ≡ here ++ rest
   pub size : length here ≡ min 512 (length bytes)
   pub some : 0 < length bytes
+
+pub cut_of : (n : ℕ) (bytes here rest : List ℕ) → n ≡ 512 → bytes ≡ here ++ rest → length here ≡ min n (length bytes) → 0 < length bytes → Cut bytes here rest
+cut_of n bytes here rest e f g h = record { parts = f; size = rw e at g; some = h }
 
 pub pieces_cut : (bytes here rest : List ℕ) → Cut bytes here rest → pieces bytes ≡ piece_of here ∷ pieces rest
 pieces_cut bytes here rest c = pieces_some bytes c.some ∙ go (ltb (length bytes) 512) refl

@@ -1,10 +1,10 @@
 -- What a block that stays is: its number, its length and its count of records. Assumes nothing.
-use Prim.Native.Nat.{ℕ, suc, ◌<◌}
+use Prim.Native.Nat.{ℕ, suc, ◌-◌, ◌<◌}
 use native.Mathlib.Omega.{arith}
 use mathlib.Core.Path.{◌≡◌, refl, ap, ◌∙◌}
 use mathlib.Core.Bool.{Bool, true, false}
 use mathlib.Core.List.{List}
-use lib.Dec.{ltb}
+use lib.Dec.{eqb, ltb, eqb-suc-suc}
 use lib.ListN.{length, get_or}
 use Rattle.std.proofs.Common.{Option, Result, Ok, Err}
 use Rattle.cards.specs.Bytes.{bytes_of, filled}
@@ -35,6 +35,10 @@ stays_next bytes c g e = go (piece_of bytes) e
     go : (p : Piece) → judged_piece p c ≡ Ok g → 0 < g.next
     go (good b) h = settled_next b.number c.next _ g h
     go (faulty why) h = absurd (let z : ◌≡◌ {A = ℕ} 0 1 = cc in omega arith)
+
+-- a number that the next one is one above
+pub next_is : (next n : ℕ) → 0 < next → eqb next (suc n) ≡ eqb (next - 1) n
+next_is next n h = let whole : next ≡ suc (next - 1) = omega arith in ap (λ (m : ℕ). eqb m (suc n)) whole ∙ eqb-suc-suc (next - 1) n
 
 -- byte 1 of a good block is the count of its records
 pub count_byte : (b : Block) → get_or (block_bytes b) 1 0 ≡ length b.records

@@ -13,14 +13,14 @@ ghost use Rattle.card_block.specs.Shapes.{Shaped};
 
 use crate::moments::{Moment, walk};
 use crate::shape::shaped;
-use crate::sums::{checked, number_at, size_of};
+use crate::sums::{checked, number_at};
 
-// Why a block goes, and where the reader stops.
+// Why a block goes, and where the reader stops; the number stands for it in the list of a mended card.
 #[derive(Clone, Copy, PartialEq, Eq)]
 pub enum Reason {
-    Check,
-    Shape,
-    Number,
+    Check = 1,
+    Shape = 2,
+    Number = 3,
 }
 
 // What is carried from block to block: the number that runs on, and the moment that is open.
@@ -70,7 +70,7 @@ fn judge_block(piece: &[u8], before: Carried) -> Result<Carried, Reason>
     } else {
         None
     };
-    let moment = walk(piece, size_of(piece), held)?;
+    let moment = walk(piece, records(piece), held)?;
     if number < before.next {
         return Err(Reason::Number);
     }

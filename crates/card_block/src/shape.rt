@@ -4,7 +4,8 @@ ghost use Rattle.cards.specs.Bytes.{same};
 ghost use Rattle.cards.specs.Blocks.{body, block_of};
 ghost use Rattle.card_block.specs.Shapes.{record_shaped};
 
-use crate::sums::{size_of, zeros};
+use crate::records;
+use crate::sums::zeros;
 
 // 24 bytes are a record's: at most 3 values, a flag of 0 or 1, two zero bytes, and 0 past the values.
 fn record_shaped(bytes: &[u8]) -> bool
@@ -23,15 +24,15 @@ pub fn shaped(piece: &[u8]) -> bool
     requires { length piece.now ≡ 512 }
     ensures { result ≡ same (body (block_of piece.now)) (take 510 piece.now) }
 {
-    let records = size_of(piece);
-    if piece[0] != 75 || 21 < records {
+    let count = records(piece);
+    if piece[0] != 75 || 21 < count {
         return false;
     }
-    for i in 0..records {
+    for i in 0..count {
         let at = 6 + 24 * i;
         if !record_shaped(&piece[at..at + 24]) {
             return false;
         }
     }
-    zeros(&piece[6 + 24 * records..510])
+    zeros(&piece[6 + 24 * count..510])
 }

@@ -1,5 +1,5 @@
 // The check of a block, numbers of four bytes, and unused bytes.
-ghost use Rattle.std.specs.Prelude.{◌+◌, ◌≤◌, ◌≡◌, ◌∷◌, [], length, take, drop, get_or};
+ghost use Rattle.std.specs.Prelude.{◌+◌, ◌≤◌, ◌≡◌, ◌∷◌, [], length, take, drop};
 ghost use Rattle.cards.specs.Bytes.{check, number_of, same};
 ghost use Rattle.card_block.specs.Shapes.{unused};
 
@@ -38,14 +38,6 @@ pub fn number_at(s: &[u8], at: usize) -> u32
     ensures { result ≡ number_of (take 4 (drop at s.now)) }
 {
     u32::from_le_bytes([s[at], s[at + 1], s[at + 2], s[at + 3]])
-}
-
-// The count of a block's records.
-pub fn size_of(piece: &[u8]) -> usize
-    requires { 2 ≤ length piece.now }
-    ensures { result ≡ get_or piece.now 1 0 }
-{
-    usize::from(piece[1])
 }
 
 // The bytes are all 0.

@@ -1,9 +1,9 @@
 -- The look ahead over a card, piece by piece. Assumes nothing.
-use Prim.Native.Nat.{ℕ, ◌<◌, min}
+use Prim.Native.Nat.{ℕ}
 use native.Mathlib.Omega.{arith}
 use mathlib.Core.Path.{◌≡◌, refl, sym, ap, ◌∙◌}
 use mathlib.Core.Bool.{Bool, true, false}
-use mathlib.Core.List.{List, ◌∷◌, ◌++◌}
+use mathlib.Core.List.{List, ◌∷◌}
 use lib.ListN.{length}
 use Rattle.cards.specs.Blocks.{piece_of, pieces}
 use Rattle.cards.specs.Reading.{Before}
@@ -29,10 +29,6 @@ pub record Looking (all : List ℕ) (carried c : Carried) (rest : List ℕ) : Ty
 
 pub looking_start : (all : List ℕ) (c : Carried) → Looking all c c all
 looking_start all c = record { on = λ f h. record { next = f; carries = h; leads = refl } }
-
--- the next piece of the rest
-pub cut_of : (n : ℕ) (bytes here left : List ℕ) → n ≡ 512 → bytes ≡ here ++ left → length here ≡ min n (length bytes) → 0 < length bytes → Cut bytes here left
-cut_of n bytes here left e f g h = record { parts = f; size = rw e at g; some = h }
 
 module _ {all rest : List ℕ} {carried c : Carried} (l : Looking all carried c rest) (here left : List ℕ) (cut : Cut rest here left) (r : ControlFlow Bool Carried) (w : r ≡ looked here c) where
   right : (f : Before) (k : Carries f carried) → LooksRight (l.on f k).next here r

@@ -1,10 +1,11 @@
 -- What a piece comes to, test by test, and a block that is put with some of its records. Assumes nothing.
+use Rattle.card_block.proofs.StayLaws.{next_is}
 use Prim.Native.Nat.{ℕ, suc, ◌+◌, ◌-◌, ◌*◌, ◌≤◌, ◌<◌}
 use native.Mathlib.Omega.{arith}
 use mathlib.Core.Path.{◌≡◌, sym, ap, ◌∙◌}
 use mathlib.Core.Bool.{Bool, true, false, not, ◌&&◌}
 use mathlib.Core.List.{List, [], ◌∷◌, ◌++◌}
-use lib.Dec.{eqb, eqb-suc-suc}
+use lib.Dec.{eqb}
 use lib.ListN.{take, drop, get_or}
 use lib.Seq.{drop-drop}
 use borrow.Author.Tests.{eq-eqb, ne_eqb}
@@ -64,22 +65,18 @@ pub weighed_gone : (bytes : List ℕ) (c : Carried) (begun : Bool) (why : Reason
 unfolding weighed weighed_by
 weighed_gone bytes c begun why e = rw e
 
--- the next number is one above the block's
-shift : (next at : ℕ) → 0 < next → eqb next (suc at) ≡ eqb (next - 1) at
-shift next at h = let whole : next ≡ suc (next - 1) = omega arith in ap (λ (n : ℕ). eqb n (suc at)) whole ∙ eqb-suc-suc (next - 1) at
-
 module _ (bytes : List ℕ) (c g : Carried) (e : judgement bytes c ≡ Ok g) (n : 0 < g.next) where
   pub weighed_kept : (begun on : Bool) (h : Held) → on ≡ (begun && eqb (g.next - 1) c.next) → h ≡ kept_by bytes g on → Ok h ≡ weighed bytes c begun
   unfolding weighed weighed_by
-  weighed_kept begun on h f k = rw (e, shift g.next c.next n, sym f) (ap Ok k)
+  weighed_kept begun on h f k = rw (e, next_is g.next c.next n, sym f) (ap Ok k)
 
   pub looked_on_law : (r : ControlFlow Bool Carried) → g.next - 1 ≡ c.next → r ≡ looked_on bytes g → r ≡ looked bytes c
   unfolding looked looked_by looked_gap
-  looked_on_law r h w = w ∙ rw (e, shift g.next c.next n, eq-eqb (g.next - 1) c.next h)
+  looked_on_law r h w = w ∙ rw (e, next_is g.next c.next n, eq-eqb (g.next - 1) c.next h)
 
   pub looked_gap_law : (g.next - 1 ≡ c.next → ⊥) → Break false ≡ looked bytes c
   unfolding looked looked_by looked_gap
-  looked_gap_law h = rw (e, shift g.next c.next n, ne_eqb (g.next - 1) c.next h)
+  looked_gap_law h = rw (e, next_is g.next c.next n, ne_eqb (g.next - 1) c.next h)
 
 pub looked_past : (bytes : List ℕ) (c : Carried) (why : Reason) → judgement bytes c ≡ Err why → Continue c ≡ looked bytes c
 unfolding looked looked_by

@@ -11,10 +11,10 @@ ghost use Rattle.cards.specs.Blocks.{block_of, block_bytes, pieces};
 ghost use Rattle.cards.specs.Reading.{Before};
 ghost use Rattle.cards.specs.Piecewise.{flagged_ahead};
 ghost use Rattle.card_block.specs.Shapes.{records_from, Shaped};
-ghost use Rattle.card_block.specs.Judging.{Carries, meant};
+ghost use Rattle.card_block.specs.Judging.{Carries};
 ghost use Rattle.card_writer.specs.Sheets.{block_with};
 ghost use Rattle.card_mender.specs.Weighing.{weighed, kept_by, stay_to};
-ghost use Rattle.card_mender.specs.Lines.{word, MendsTo};
+ghost use Rattle.card_mender.specs.Lines.{MendsTo};
 ghost use Rattle.card_mender.specs.Turning.{Whole, PutHeld, Ready, Turns};
 
 use crate::flags::{past_first, past_last};
@@ -89,17 +89,6 @@ pub struct State {
     pub put: usize,
 }
 
-// The word of a reason in the list.
-fn word_of(why: Reason) -> u32
-    ensures { result ≡ word (meant why) }
-{
-    match why {
-        Reason::Check => 1,
-        Reason::Shape => 2,
-        Reason::Number => 3,
-    }
-}
-
 // How far the records of a block stay: all of them where a flagged one comes later, or where none is past the last flagged one.
 fn stay_to(rest: &[u8], held: Held) -> usize
     ensures { (f : Before) → Carries f held.carried → result ≡ stay_to (flagged_ahead f (pieces rest.now)) held }
@@ -143,7 +132,7 @@ fn turn(
 {
     match weigh(piece, s.carried, s.begun) {
         Err(why) => {
-            put_line(list, place, word_of(why), 0);
+            put_line(list, place, why as u32, 0);
             s
         }
         Ok(held) => {

@@ -1,10 +1,10 @@
 -- One step of the reader, and the steps over a card: what is still to come, from here, gives the whole. Assumes nothing.
-use Prim.Native.Nat.{ℕ, suc, ◌+◌, ◌-◌, ◌<◌, min}
+use Prim.Native.Nat.{ℕ, suc, ◌+◌, ◌-◌, ◌<◌}
 use native.Mathlib.Omega.{arith}
 use native.Mathlib.Numerals.{add-one}
 use mathlib.Core.Path.{◌≡◌, refl, sym, ap, ◌∙◌}
 use mathlib.Core.Bool.{Bool, true, false, not, ◌&&◌}
-use mathlib.Core.List.{List, [], ◌∷◌, ◌++◌}
+use mathlib.Core.List.{List, [], ◌∷◌}
 use lib.Dec.{eqb, eqb-suc-suc}
 use lib.ListN.{length, get_or}
 use borrow.Author.Tests.{eq-eqb, ne_eqb}
@@ -23,10 +23,10 @@ use Rattle.card_block.specs.declared.Reason.{Reason}
 use Rattle.card_block.specs.declared.Reason.TheVariants.{Shape}
 use Rattle.card_block.specs.declared.moments.Moment.{Moment}
 use Rattle.std.specs.Bool.{⊤}
-use Rattle.std.proofs.Common.{Option, Some, None, Result, Ok, Err, is_some, is_none, ◌⊎◌, inl, inr, min}
+use Rattle.std.proofs.Common.{Option, Some, None, Result, Ok, Err, is_some, is_none, ◌⊎◌, inl, inr}
 use Rattle.card_block.specs.Judging.{open_at, judgement, nothing, Carries, meant, Kept, Judges}
 use Rattle.card_block.proofs.Judgements.{judgement_right, carries_start}
-use Rattle.card_block.proofs.StayLaws.{count_byte}
+use Rattle.card_block.proofs.StayLaws.{next_is, count_byte}
 use Rattle.card_reader.specs.declared.Onward.{Onward}
 use Rattle.card_reader.specs.declared.Stop.{Stop}
 use Rattle.card_reader.specs.declared.Stop.TheVariants.{Goes, Open}
@@ -34,13 +34,10 @@ use Rattle.card_reader.specs.Finding.{Finds}
 use Rattle.card_reader.specs.Stepping.{onward_by, stepped_by, stepped_to, stepped}
 
 -- the code's tests
-shift : (next at : ℕ) → 0 < next → eqb next (suc at) ≡ eqb (next - 1) at
-shift next at h = let whole : next ≡ suc (next - 1) = omega arith in ap (λ (n : ℕ). eqb n (suc at)) whole ∙ eqb-suc-suc (next - 1) at
-
 pub gap_open : (carried next : Carried) (records : ℕ) → 0 < next.next → (next.next - 1 ≡ carried.next → ⊥) → is_some carried.moment ≡ true
     → Err Open ≡ stepped_by carried next records
 unfolding stepped_by onward_by
-gap_open carried next records h e f = rw (shift next.next carried.next h, ne_eqb (next.next - 1) carried.next e) (go carried.moment f)
+gap_open carried next records h e f = rw (next_is next.next carried.next h, ne_eqb (next.next - 1) carried.next e) (go carried.moment f)
   where
     go : (m : Option Moment) → is_some m ≡ true → Err Open ≡ onward_by false (is_none m) next records
     go None f = absurd (cc)
@@ -50,7 +47,7 @@ pub goes_on : (carried next : Carried) (records : ℕ) → 0 < next.next
     → is_some carried.moment ≡ false ⊎ next.next - 1 ≡ carried.next
     → Ok (record { carried = next; anew = not (eqb (next.next - 1) carried.next); records = records }) ≡ stepped_by carried next records
 unfolding stepped_by onward_by
-goes_on carried next records h e = rw (shift next.next carried.next h) (go (eqb (next.next - 1) carried.next) refl carried.moment e)
+goes_on carried next records h e = rw (next_is next.next carried.next h) (go (eqb (next.next - 1) carried.next) refl carried.moment e)
   where
     go : (p : Bool) → eqb (next.next - 1) carried.next ≡ p → (m : Option Moment) → is_some m ≡ false ⊎ next.next - 1 ≡ carried.next
         → Ok (record { carried = next; anew = not p; records = records }) ≡ onward_by p (is_none m) next records
@@ -122,10 +119,6 @@ pub record Reached (card : List ℕ) (c : Carried) (place held : ℕ) (rest : Li
 
 pub reached_start : (card : List ℕ) → Reached card nothing 0 0 card
 reached_start card = record { before = start; carries = carries_start; leads = refl }
-
--- the next piece of the rest
-pub cut_of : (n : ℕ) (bytes here left : List ℕ) → n ≡ 512 → bytes ≡ here ++ left → length here ≡ min n (length bytes) → 0 < length bytes → Cut bytes here left
-cut_of n bytes here left e f g h = record { parts = f; size = rw e at g; some = h }
 
 module _ {card : List ℕ} {c : Carried} {place held : ℕ} {rest : List ℕ} (r : Reached card c place held rest) (here left : List ℕ) (cut : Cut rest here left)
     (j : Result Onward Stop) (w : j ≡ stepped here c) where

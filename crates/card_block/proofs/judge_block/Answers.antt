@@ -10,7 +10,7 @@ use Rattle.card_block.proofs.judge_block.Goals.{then-number-before, else-number-
 pub returns-in_err-moment : goal.returns-in_err-moment
 returns-in_err-moment c =
     let p = err_from_is_err_and c.from_residual.result c.from_residual.ensures.1 in
-    let a = judged_with c.args.piece.now c.args.before c.requires _ _ (c.from-number.ensures ∙ c.number_at.ensures) c.size_of.ensures c.if-number-before.held
+    let a = judged_with c.args.piece.now c.args.before c.requires _ _ (c.from-number.ensures ∙ c.number_at.ensures) c.records.ensures c.if-number-before.held
     (elim c.if-number-before.branch [
       | then-number-before w ↦ inl (w.if-number-before.true, w.held-is)
       | else-number-before w ↦ inr (w.if-number-before.false, w.held-is)
@@ -19,7 +19,7 @@ returns-in_err-moment c =
 
 pub returns-then-number-before-2 : goal.returns-then-number-before-2
 returns-then-number-before-2 c =
-    let a = judged_with c.args.piece.now c.args.before c.requires _ _ (c.from-number.ensures ∙ c.number_at.ensures) c.size_of.ensures c.if-number-before.held
+    let a = judged_with c.args.piece.now c.args.before c.requires _ _ (c.from-number.ensures ∙ c.number_at.ensures) c.records.ensures c.if-number-before.held
     (elim c.if-number-before.branch [
       | then-number-before w ↦ inl (w.if-number-before.true, w.held-is)
       | else-number-before w ↦ inr (w.if-number-before.false, w.held-is)
@@ -28,7 +28,7 @@ returns-then-number-before-2 c =
 
 pub returns : goal.returns
 returns c =
-    let a = judged_with c.args.piece.now c.args.before c.requires _ _ (c.from-number.ensures ∙ c.number_at.ensures) c.size_of.ensures c.if-number-before.held
+    let a = judged_with c.args.piece.now c.args.before c.requires _ _ (c.from-number.ensures ∙ c.number_at.ensures) c.records.ensures c.if-number-before.held
     (elim c.if-number-before.branch [
       | then-number-before w ↦ inl (w.if-number-before.true, w.held-is)
       | else-number-before w ↦ inr (w.if-number-before.false, w.held-is)

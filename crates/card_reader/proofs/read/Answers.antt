@@ -1,5 +1,6 @@
 use mathlib.Core.Path.{refl, sym, ◌∙◌}
-use Rattle.card_reader.proofs.StepLaws.{cut_of, reached_start, reached_bad, reached_open, reached_some, reached_none, reached_end_open, reached_end_fine, finds_fine, finds_bad, finds_open}
+use Rattle.card_block.proofs.PieceEnds.{cut_of}
+use Rattle.card_reader.proofs.StepLaws.{reached_start, reached_bad, reached_open, reached_some, reached_none, reached_end_open, reached_end_fine, finds_fine, finds_bad, finds_open}
 use Rattle.card_reader.proofs.read.Goals as goal
 
 pub loop-place-init : goal.loop-place-init

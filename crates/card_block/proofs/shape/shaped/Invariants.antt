@@ -3,4 +3,4 @@ use Rattle.card_block.proofs.TestLaws.{Tested}
 use Rattle.card_block.proofs.shape.shaped.Given as goal
 
 abbrev pub invariant-loop-i : goal.invariant-loop-i
-invariant-loop-i l = Tested l.piece l.records l.i
+invariant-loop-i l = Tested l.piece l.count l.i

@@ -1,5 +1,6 @@
 use mathlib.Core.Path.{refl, ◌∙◌}
-use Rattle.card_mender.proofs.LookLaws.{cut_of, looking_start, looking_ends, looking_on, looking_none}
+use Rattle.card_block.proofs.PieceEnds.{cut_of}
+use Rattle.card_mender.proofs.LookLaws.{looking_start, looking_ends, looking_on, looking_none}
 use Rattle.card_mender.proofs.looking.flagged_ahead.Goals as goal
 
 pub loop-piece-init : goal.loop-piece-init
