@@ -9,13 +9,14 @@ use lib.ListN.{length, take, drop, get_or}
 use borrow.Author.Tests.{ne_eqb}
 use lib.Seq.{drop-cons}
 use Rattle.trees.proofs.Tests.{false_true}
-use Rattle.text.specs.Words.{Word, name, number, constant, prefix, binary, quantifier, opening, closing, comma, dot, once, historically, previously, negation, sinces, ands, ors, implies, universal, existential, bytes_of, wordy, is_digit}
+use Rattle.std.specs.Prelude.{None}
+use Rattle.text.specs.Words.{Word, name, number, constant, prefix, binary, quantifier, opening, closing, comma, dot, once, historically, previously, negation, sinces, ands, ors, implies, universal, existential, bytes_of, wordy}
 use Rattle.text.specs.Machine.{Stage, wants, ended, named, binds, bound, argues, argued, stopped, give}
-use Rattle.text.specs.Reader.{gap, numerals, dash, at, Class, blank, letter, digit, minus, sign, foreign, class_of, joins, counts, begin}
+use Rattle.text.specs.Reader.{gap, numerals, dash, at, Class, blank, letter, digit, minus, sign, foreign, class_of, joins, grows, lead, counts, begin}
 use Rattle.text.specs.Shape.{shape}
 use Rattle.text.proofs.ClassLaws.{IsClass, is_letter_law, is_digit_law, is_blank, is_minus, is_sign, is_foreign, classed}
 use Rattle.spelling.specs.Codes.{code_of, class_number, mode_number}
-use Rattle.scan.specs.Looks.{Sound, Looks, Gives, Begins, Leads, Joins}
+use Rattle.scan.specs.Looks.{Sound, Shaped, Looks, Gives, GivesTo, Begins, BeginsTo, Leads, Joins}
 
 -- the words of one sign
 record SignCode (w : Word) : Type 0 where
@@ -89,18 +90,6 @@ as_foreign b c (is_minus l) z = absurd (omega arith)
 as_foreign b c (is_sign w e q p) z = absurd (omega (arith, (sign_code w b e q).most))
 as_foreign b c is_foreign z = refl
 
-pub digit_class : (b : ℕ) → class_number (class_of b) ≡ 1 → is_digit b ≡ true
-unfolding class_number
-digit_class b z = by (class_of b) (classed b) z
-  where
-    by : (c : Class) → IsClass b c → class_number c ≡ 1 → is_digit b ≡ true
-    by c (is_letter_law l) z = absurd (omega arith)
-    by c (is_digit_law l) z = l
-    by c (is_blank l) z = absurd (omega arith)
-    by c (is_minus l) z = absurd (omega arith)
-    by c (is_sign w e q p) z = absurd (omega (arith, (sign_code w b e q).least))
-    by c is_foreign z = absurd (omega arith)
-
 -- any other number is a sign's
 pub record Signed (c : Class) : Type 0 where
   pub the : Word
@@ -115,19 +104,6 @@ as_sign b c (is_blank l) h i j k m = absurd (k refl)
 as_sign b c (is_minus l) h i j k m = absurd (j refl)
 as_sign b c (is_sign w e q p) h i j k m = record { the = w; is = refl }
 as_sign b c is_foreign h i j k m = absurd (m refl)
-
--- a class other than those five has the number of a word
-class_code : (b : ℕ) (c : Class) → IsClass b c → (class_number c ≡ 18 → ⊥) → (class_number c ≡ 19 → ⊥) → class_number c < 18
-unfolding class_number
-class_code b c (is_letter_law l) k m = omega arith
-class_code b c (is_digit_law l) k m = omega arith
-class_code b c (is_blank l) k m = absurd (k refl)
-class_code b c (is_minus l) k m = omega arith
-class_code b c (is_sign w e q p) k m = (sign_code w b e q).most
-class_code b c is_foreign k m = absurd (m refl)
-
-pub class_lt : (b class : ℕ) → class ≡ class_number (class_of b) → (class ≡ 18 → ⊥) → (class ≡ 19 → ⊥) → class < 18
-class_lt b class e k m = rw e (class_code b (class_of b) (classed b) (λ z. k (e ∙ z)) (λ z. m (e ∙ z)))
 
 counts_mode : (t : Stage) → counts t ≡ eqb (mode_number (shape t).mode) 5
 unfolding counts shape mode_number
@@ -172,11 +148,36 @@ sign_number : (w : Word) → class_number (sign w) ≡ code_of w
 unfolding class_number
 sign_number w = refl
 
-module _ (text : List ℕ) (i mode depth class : ℕ) (h : i < length text) (m : mode < 8) (d : depth ≤ 2 * i + 1) (cl : class ≡ class_number (class_of (get_or text i 0))) where
-  sound : {mode' depth' : ℕ} → mode' < 8 → depth' ≤ 2 * i + 2 → Sound (i + 1) i mode' depth'
-  sound a b = record { low = a; shallow = omega arith; past = omega arith }
+-- a machine that has stopped stays so
+pub stopped_is : (t : Stage) → 7 ≡ mode_number (shape t).mode → t ≡ stopped
+unfolding mode_number shape
+stopped_is (wants ks) e = absurd (omega arith)
+stopped_is (ended f ks) e = absurd (omega arith)
+stopped_is (named p ks) e = absurd (omega arith)
+stopped_is (binds q ks) e = absurd (omega arith)
+stopped_is (bound q x ks) e = absurd (omega arith)
+stopped_is (argues p gs ks) e = absurd (omega arith)
+stopped_is (argued p gs ks) e = absurd (omega arith)
+stopped_is stopped e = refl
 
-  halted : Looks text (i + 1) 0 i 7 0 (at gap stopped)
+begin_over : (b : ℕ) (c : Class) → begin stopped b c ≡ at gap stopped
+unfolding begin lead grows joins counts give
+begin_over b blank = refl
+begin_over b letter = refl
+begin_over b digit = refl
+begin_over b minus = refl
+begin_over b (sign w) = refl
+begin_over b foreign = refl
+
+pub stays_stopped : (text : List ℕ) (i : ℕ) (t : Stage) (b : ℕ) (c : Class) → Shaped 7 0 t → Looks text i 0 0 7 0 (begin t b c)
+unfolding shape mode_number
+stays_stopped text i t b c s = rw (stopped_is t s.mode_is, begin_over b c) (refl, record { mode_is = refl; depth_is = refl })
+
+module _ (text : List ℕ) (i mode depth class : ℕ) (h : i < length text) (m : mode ≡ 7 → ⊥) (d : depth ≤ 2 * i + 1) (cl : class ≡ class_number (class_of (get_or text i 0))) where
+  sound : {from' mode' depth' : ℕ} → (mode' ≡ 7 → ⊥) → depth' ≤ 2 * i + 2 → from' ≤ i + 1 → Sound (i + 1) from' mode' depth'
+  sound a b f = record { live = a; shallow = omega arith; past = f }
+
+  halted : Looks text (i + 1) 0 0 7 0 (at gap stopped)
   unfolding shape mode_number
   halted = (refl, record { mode_is = refl; depth_is = refl })
 
@@ -187,66 +188,60 @@ module _ (text : List ℕ) (i mode depth class : ℕ) (h : i < length text) (m :
 
   pub letter_begins : (r : Bool) → Leads mode (get_or text i 0) r → class ≡ 0 → r ≡ true → Begins text i mode depth 1 i mode depth
   letter_begins r l e z = record {
-    sound = sound m (omega arith);
+    sound = sound m (omega arith) (omega arith);
     shows = λ t s. rw (as_letter (get_or text i 0) (class_of (get_or text i 0)) (classed (get_or text i 0)) (sym cl ∙ e), l.yes t s.mode_is z) (refl, s, one_byte);
   }
 
-  pub letter_stops : (r : Bool) → Leads mode (get_or text i 0) r → class ≡ 0 → r ≡ false → Begins text i mode depth 0 i 7 0
-  letter_stops r l e z = record {
-    sound = sound (omega arith) (omega arith);
-    shows = λ t s. rw (as_letter (get_or text i 0) (class_of (get_or text i 0)) (classed (get_or text i 0)) (sym cl ∙ e), l.no t s.mode_is z) halted;
-  }
+  pub letter_stops : (r : Bool) → Leads mode (get_or text i 0) r → class ≡ 0 → r ≡ false → BeginsTo text i mode depth None
+  letter_stops r l e z = λ t s. rw (as_letter (get_or text i 0) (class_of (get_or text i 0)) (classed (get_or text i 0)) (sym cl ∙ e), l.no t s.mode_is z) halted
 
-  pub digit_begins : class ≡ 1 → mode ≡ 5 → Begins text i mode depth 2 i mode depth
+  pub digit_begins : class ≡ 1 → mode ≡ 5 → Begins text i mode depth 2 0 mode depth
   digit_begins e z = record {
-    sound = sound m (omega arith);
+    sound = sound m (omega arith) (omega arith);
     shows = λ t s.
         let k : counts t ≡ true = counts_mode t ∙ rw (← s.mode_is, z) in
         rw (as_digit (get_or text i 0) (class_of (get_or text i 0)) (classed (get_or text i 0)) (sym cl ∙ e), begin_number t (get_or text i 0) k) (refl, s);
   }
 
-  pub digit_stops : class ≡ 1 → (mode ≡ 5 → ⊥) → Begins text i mode depth 0 i 7 0
-  digit_stops e z = record {
-    sound = sound (omega arith) (omega arith);
-    shows = λ t s.
-        let k : counts t ≡ false = counts_mode t ∙ rw (← s.mode_is) (ne_eqb mode 5 z) in
-        rw (as_digit (get_or text i 0) (class_of (get_or text i 0)) (classed (get_or text i 0)) (sym cl ∙ e), begin_no_number t (get_or text i 0) k) halted;
-  }
+  pub digit_stops : class ≡ 1 → (mode ≡ 5 → ⊥) → BeginsTo text i mode depth None
+  digit_stops e z = λ t s.
+      let k : counts t ≡ false = counts_mode t ∙ rw (← s.mode_is) (ne_eqb mode 5 z) in
+      rw (as_digit (get_or text i 0) (class_of (get_or text i 0)) (classed (get_or text i 0)) (sym cl ∙ e), begin_no_number t (get_or text i 0) k) halted
 
-  pub dash_begins : (r : Bool) → Joins mode r → class ≡ 11 → r ≡ true → Begins text i mode depth 3 i mode depth
+  pub dash_begins : (r : Bool) → Joins mode r → class ≡ 11 → r ≡ true → Begins text i mode depth 3 0 mode depth
   dash_begins r j e z = record {
-    sound = sound m (omega arith);
+    sound = sound m (omega arith) (omega arith);
     shows = λ t s.
         let k : joins t ≡ true = sym (j t s.mode_is) ∙ z in
         rw (as_minus (get_or text i 0) (class_of (get_or text i 0)) (classed (get_or text i 0)) (sym cl ∙ e), begin_dash t (get_or text i 0) k) (refl, s);
   }
 
-  pub dash_stops : (r : Bool) → Joins mode r → class ≡ 11 → r ≡ false → Begins text i mode depth 0 i 7 0
-  dash_stops r j e z = record {
-    sound = sound (omega arith) (omega arith);
-    shows = λ t s.
-        let k : joins t ≡ false = sym (j t s.mode_is) ∙ z in
-        rw (as_minus (get_or text i 0) (class_of (get_or text i 0)) (classed (get_or text i 0)) (sym cl ∙ e), begin_no_dash t (get_or text i 0) k) halted;
-  }
+  pub dash_stops : (r : Bool) → Joins mode r → class ≡ 11 → r ≡ false → BeginsTo text i mode depth None
+  dash_stops r j e z = λ t s.
+      let k : joins t ≡ false = sym (j t s.mode_is) ∙ z in
+      rw (as_minus (get_or text i 0) (class_of (get_or text i 0)) (classed (get_or text i 0)) (sym cl ∙ e), begin_no_dash t (get_or text i 0) k) halted
 
-  pub blank_begins : class ≡ 18 → Begins text i mode depth 0 i mode depth
+  pub blank_begins : class ≡ 18 → Begins text i mode depth 0 0 mode depth
   blank_begins e = record {
-    sound = sound m (omega arith);
+    sound = sound m (omega arith) (omega arith);
     shows = λ t s. rw (as_blank (get_or text i 0) (class_of (get_or text i 0)) (classed (get_or text i 0)) (sym cl ∙ e), begin_blank t (get_or text i 0)) (refl, s);
   }
 
-  pub foreign_stops : class ≡ 19 → Begins text i mode depth 0 i 7 0
-  foreign_stops e = record {
-    sound = sound (omega arith) (omega arith);
-    shows = λ t s. rw (as_foreign (get_or text i 0) (class_of (get_or text i 0)) (classed (get_or text i 0)) (sym cl ∙ e), begin_foreign t (get_or text i 0)) halted;
-  }
+  pub foreign_stops : class ≡ 19 → BeginsTo text i mode depth None
+  foreign_stops e = λ t s. rw (as_foreign (get_or text i 0) (class_of (get_or text i 0)) (classed (get_or text i 0)) (sym cl ∙ e), begin_foreign t (get_or text i 0)) halted
 
   pub sign_begins : (mode' depth' : ℕ) → (class ≡ 0 → ⊥) → (class ≡ 1 → ⊥) → (class ≡ 11 → ⊥) → (class ≡ 18 → ⊥) → (class ≡ 19 → ⊥) → Gives mode depth class mode' depth'
-      → Begins text i mode depth 0 i mode' depth'
+      → Begins text i mode depth 0 0 mode' depth'
   sign_begins mode' depth' a b c e f g = record {
-    sound = sound g.low (omega (arith, g.near));
+    sound = sound g.live (omega (arith, g.near)) (omega arith);
     shows = λ t s.
         let w : Signed (class_of (get_or text i 0)) =
         as_sign (get_or text i 0) (class_of (get_or text i 0)) (classed (get_or text i 0)) (λ z. a (cl ∙ z)) (λ z. b (cl ∙ z)) (λ z. c (cl ∙ z)) (λ z. e (cl ∙ z)) (λ z. f (cl ∙ z)) in
         rw (w.is, begin_sign t (get_or text i 0) w.the) (refl, g.gives t w.the s (cl ∙ ap class_number w.is ∙ sign_number w.the));
   }
+
+  pub sign_stops : (class ≡ 0 → ⊥) → (class ≡ 1 → ⊥) → (class ≡ 11 → ⊥) → (class ≡ 18 → ⊥) → (class ≡ 19 → ⊥) → GivesTo mode depth class None → BeginsTo text i mode depth None
+  sign_stops a b c e f g = λ t s.
+      let w : Signed (class_of (get_or text i 0)) =
+      as_sign (get_or text i 0) (class_of (get_or text i 0)) (classed (get_or text i 0)) (λ z. a (cl ∙ z)) (λ z. b (cl ∙ z)) (λ z. c (cl ∙ z)) (λ z. e (cl ∙ z)) (λ z. f (cl ∙ z)) in
+      rw (w.is, begin_sign t (get_or text i 0) w.the) (refl, g t w.the s (cl ∙ ap class_number w.is ∙ sign_number w.the))

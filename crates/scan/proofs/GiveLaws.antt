@@ -40,13 +40,13 @@ module _ (mode depth word n : ℕ) (is : n ≡ next_mode mode word) where
       by (ends r v y x) i a b c = absurd (omega arith)
       by (goes k r y v x) i a b c = absurd (y (omega arith))
 
-  pub opened : word ≡ 14 → n ≡ 0 → (t : Stage) (w : Word) → Shaped mode depth t → word ≡ code_of w → Shaped 0 (depth + 1) (give t w)
+  pub opened : word ≡ 14 → n ≡ 0 → (t : Stage) (w : Word) → Shaped mode depth t → word ≡ code_of w → Shaped n (depth + 1) (give t w)
   opened u e t w s c = by (rules (shape t).mode (shape t).depth w) (is ∙ here t w s c) s.mode_is s.depth_is c
     where
       by : Rules (shape t).mode (shape t).depth w → n ≡ next_mode (mode_number (shape t).mode) (code_of w) → mode ≡ mode_number (shape t).mode → depth ≡ (shape t).depth
-          → word ≡ code_of w → Shaped 0 (depth + 1) (give t w)
+          → word ≡ code_of w → Shaped n (depth + 1) (give t w)
       by (stops r x) i a b c = absurd (omega arith)
-      by (opens r v x) i a b c = shaped t w x (unfold mode_number in refl) (omega arith)
+      by (opens r v x) i a b c = shaped t w x (unfold mode_number in e) (omega arith)
       by (calls r v x) i a b c = absurd (omega arith)
       by (closes r v y x) i a b c = absurd (omega arith)
       by (ends r v y x) i a b c = absurd (omega arith)
@@ -64,16 +64,16 @@ module _ (mode depth word n : ℕ) (is : n ≡ next_mode mode word) where
       by (ends r v y x) i a b c = absurd (omega arith)
       by (goes k r y v x) i a b c = absurd (v.opened (omega arith))
 
-  pub finished : (n ≡ 7 → ⊥) → word ≡ 15 → mode ≡ 6 → (t : Stage) (w : Word) → Shaped mode depth t → word ≡ code_of w → Shaped 1 depth (give t w)
+  pub finished : (n ≡ 7 → ⊥) → word ≡ 15 → mode ≡ 6 → (t : Stage) (w : Word) → Shaped mode depth t → word ≡ code_of w → Shaped n depth (give t w)
   finished f u e t w s c = by (rules (shape t).mode (shape t).depth w) (is ∙ here t w s c) s.mode_is s.depth_is c
     where
       by : Rules (shape t).mode (shape t).depth w → n ≡ next_mode (mode_number (shape t).mode) (code_of w) → mode ≡ mode_number (shape t).mode → depth ≡ (shape t).depth
-          → word ≡ code_of w → Shaped 1 depth (give t w)
+          → word ≡ code_of w → Shaped n depth (give t w)
       by (stops r x) i a b c = absurd (f (omega arith))
       by (opens r v x) i a b c = absurd (omega arith)
       by (calls r v x) i a b c = absurd (omega arith)
       by (closes r v y x) i a b c = absurd (y (omega arith))
-      by (ends r v y x) i a b c = shaped t w x (unfold mode_number in refl) b
+      by (ends r v y x) i a b c = shaped t w x (unfold mode_number in (i ∙ r)) b
       by (goes k r y v x) i a b c = absurd (v.closed (omega arith))
 
   pub unopened : (n ≡ 7 → ⊥) → word ≡ 15 → (mode ≡ 6 → ⊥) → depth ≡ 0 → (t : Stage) (w : Word) → Shaped mode depth t → word ≡ code_of w → Shaped 7 0 (give t w)
@@ -88,15 +88,15 @@ module _ (mode depth word n : ℕ) (is : n ≡ next_mode mode word) where
       by (ends r v y x) i a b c = absurd (g (omega arith))
       by (goes k r y v x) i a b c = absurd (v.closed (omega arith))
 
-  pub shuts : (n ≡ 7 → ⊥) → word ≡ 15 → (mode ≡ 6 → ⊥) → (depth ≡ 0 → ⊥) → (t : Stage) (w : Word) → Shaped mode depth t → word ≡ code_of w → Shaped 1 (depth - 1) (give t w)
+  pub shuts : (n ≡ 7 → ⊥) → word ≡ 15 → (mode ≡ 6 → ⊥) → (depth ≡ 0 → ⊥) → (t : Stage) (w : Word) → Shaped mode depth t → word ≡ code_of w → Shaped n (depth - 1) (give t w)
   shuts f u g z t w s c = by (rules (shape t).mode (shape t).depth w) (is ∙ here t w s c) s.mode_is s.depth_is c
     where
       by : Rules (shape t).mode (shape t).depth w → n ≡ next_mode (mode_number (shape t).mode) (code_of w) → mode ≡ mode_number (shape t).mode → depth ≡ (shape t).depth
-          → word ≡ code_of w → Shaped 1 (depth - 1) (give t w)
+          → word ≡ code_of w → Shaped n (depth - 1) (give t w)
       by (stops r x) i a b c = absurd (f (omega arith))
       by (opens r v x) i a b c = absurd (omega arith)
       by (calls r v x) i a b c = absurd (omega arith)
-      by (closes r v y x) i a b c = shaped t w (x ∙ shut_some (shape t).depth (λ q. z (b ∙ q))) (unfold mode_number in refl) (omega arith)
+      by (closes r v y x) i a b c = shaped t w (x ∙ shut_some (shape t).depth (λ q. z (b ∙ q))) (unfold mode_number in (i ∙ r)) (omega arith)
       by (ends r v y x) i a b c = absurd (g (omega arith))
       by (goes k r y v x) i a b c = absurd (v.closed (omega arith))
 

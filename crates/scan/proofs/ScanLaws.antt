@@ -10,6 +10,7 @@ use mathlib.Core.Logic.{⊎_elim}
 use lib.ListN.{length, drop, get_or}
 use lib.Seq.{drop-cons, drop-length}
 use Rattle.trees.proofs.Tests.{false_true}
+use Rattle.std.specs.Prelude.{None}
 use Rattle.text.specs.Grammar.{Reading, RuleText, HasReading, Place}
 use Rattle.text.specs.Machine.{Stage, wants, ended, named, binds, bound, argues, argued, stopped, Result, refused, reads}
 use Rattle.text.specs.Reader.{gap, letters, numerals, dash, State, at, grows, joins, counts, step, run, finish, start, read, place_from, place_of}
@@ -19,7 +20,7 @@ use Rattle.text.proofs.GoesOnLaws.{Going, Alive}
 use Rattle.text.proofs.AliveLaws.{step_next, place_going, place_here}
 use Rattle.text.proofs.FoundLaws.{stop_reads}
 use Rattle.spelling.specs.Codes.{mode_number}
-use Rattle.scan.specs.Looks.{Sound, Looks, Steps, Ending}
+use Rattle.scan.specs.Looks.{Sound, Looks, Steps, StepsTo, Ending}
 
 going_mode : (t : Stage) → (t ≡ stopped → ⊥) → mode_number (shape t).mode < 7
 unfolding mode_number shape
@@ -73,7 +74,7 @@ pub scan_begins : (text : List ℕ) → Scanning text 0 0 0 0 0
 unfolding read place_of start shape mode_number parens
 scan_begins text = record {
   inside = omega arith;
-  sound = record { low = omega arith; shallow = omega arith; past = omega arith };
+  sound = record { live = λ e. omega arith; shallow = omega arith; past = omega arith };
   state = at gap (wants []);
   looks = (refl, record { mode_is = refl; depth_is = refl });
   alive = tt;
@@ -85,25 +86,22 @@ none_read : (text : List ℕ) → ((f : Reading) → read text ≡ reads f → �
 none_read text n f h = n f (complete text f h)
 
 module _ (text : List ℕ) (i pending from mode depth : ℕ) (c : Scanning text i pending from mode depth) where
-  module _ (h : i < length text) (pending' from' mode' depth' : ℕ) (s : Steps text i pending from mode depth pending' from' mode' depth') where
-    after : Looks text (i + 1) pending' from' mode' depth' (step c.state (get_or text i 0))
-    after = s.shows c.state c.looks
-
+  module _ (h : i < length text) where
     reading_on : read text ≡ finish (run (step c.state (get_or text i 0)) (drop (suc i) text))
     unfolding run
     reading_on = c.reading ∙ rw (drop-cons text i 0 h)
 
-    pub scan_stops : mode' ≡ 7 → ((f : Reading) → RuleText text f → ⊥) × Place text i
-    scan_stops e = ⊎_elim
-        (λ a. absurd (omega (arith, alive_mode text (i + 1) pending' from' mode' depth' (step c.state (get_or text i 0)) after a)))
+    pub scan_stops : StepsTo text i pending from mode depth None → ((f : Reading) → RuleText text f → ⊥) × Place text i
+    scan_stops s = ⊎_elim
+        (λ a. absurd (omega (arith, alive_mode text (i + 1) 0 0 7 0 (step c.state (get_or text i 0)) (s c.state c.looks) a)))
         (λ z.
         let p : place_of text ≡ i =
         c.placing ∙ rw (drop-cons text i 0 h, place_here c.state (get_or text i 0) (drop (suc i) text) z) (omega arith) in
         (none_read text (λ f r. stop_reads (drop (suc i) text) f (rw (← z) (sym reading_on ∙ r))), rw p at (place text)))
         (step_next c.state (get_or text i 0) c.alive)
 
-    pub scan_more : (mode' ≡ 7 → ⊥) → Scanning text (i + 1) pending' from' mode' depth'
-    scan_more n = ⊎_elim
+    pub scan_more : (pending' from' mode' depth' : ℕ) → Steps text i pending from mode depth pending' from' mode' depth' → Scanning text (i + 1) pending' from' mode' depth'
+    scan_more pending' from' mode' depth' s = ⊎_elim
         (λ a. record {
           inside = omega arith;
           sound = s.sound;
@@ -113,8 +111,11 @@ module _ (text : List ℕ) (i pending from mode depth : ℕ) (c : Scanning text 
           reading = rw (add-one i) reading_on;
           placing = c.placing ∙ rw (drop-cons text i 0 h, place_going c.state (get_or text i 0) (drop (suc i) text) a, add-one i) (omega arith);
         })
-        (λ z. absurd (n (stopped_mode text (i + 1) pending' from' mode' depth' (rw z at after))))
+        (λ z. absurd (s.sound.live (stopped_mode text (i + 1) pending' from' mode' depth' (rw z at after))))
         (step_next c.state (get_or text i 0) c.alive)
+      where
+        after : Looks text (i + 1) pending' from' mode' depth' (step c.state (get_or text i 0))
+        after = s.shows c.state c.looks
 
   module _ (h : length text ≤ i) (r : Bool) (e : Ending text pending from mode depth r) where
     at_end : i ≡ length text
@@ -143,7 +144,7 @@ module _ (text : List ℕ) (i pending from mode depth : ℕ) (c : Scanning text 
     pub scan_whole : r ≡ true → HasReading text
     scan_whole z = reads_some (read text) refl (sym told ∙ z)
 
-    pub scan_short : r ≡ false → ((f : Reading) → RuleText text f → ⊥) × Place text i
+    pub scan_short : r ≡ false → ((f : Reading) → RuleText text f → ⊥) × Place text (length text)
     scan_short z =
-        let p : place_of text ≡ i = c.placing ∙ rw none_left (unfold place_from in omega arith) in
+        let p : place_of text ≡ length text = c.placing ∙ rw none_left (unfold place_from in omega arith) in
         (none_read text (λ f y. reads_none (read text) f y (sym told ∙ z)), rw p at (place text))

@@ -7,15 +7,18 @@ use mathlib.Core.List.{List, [], ◌∷◌, ◌++◌}
 use lib.ListN.{length, take, drop, get_or, length-drop}
 use lib.Seq.{take-suc, get_or-drop}
 use borrow.Author.Tests.{ne_eqb}
-use Rattle.trees.proofs.Tests.{not_true}
+use Rattle.std.specs.Prelude.{Option, Some, None}
+use Rattle.std.specs.Bool.{MatchBool}
+use Rattle.std.specs.Char.{IsAsciiDigit, IsNotAsciiDigit}
+use Rattle.std.proofs.lemmas.Bool.Decides.{nat_tests}
 use Rattle.text.specs.Words.{is_word_byte, is_digit, number, binary, implies, word_of}
-use Rattle.text.specs.Machine.{Stage, stopped, give}
+use Rattle.text.specs.Machine.{Stage, stopped, give, result}
 use Rattle.text.specs.Reader.{gap, letters, numerals, dash, State, at, class_of, grows, begin, step, finish}
 use Rattle.text.specs.Shape.{shape, is_read}
-use Rattle.text.proofs.ClassLaws.{class_digit}
-use Rattle.spelling.specs.Codes.{code_of, class_number, mode_number}
-use Rattle.scan.specs.Looks.{Sound, Looks, Gives, Begins, Steps, Grows, MayEnd, Ending}
-use Rattle.scan.proofs.BeginLaws.{digit_class}
+use Rattle.spelling.specs.Codes.{code_of, mode_number}
+use Rattle.scan.specs.Looks.{Sound, Looks, Gives, Begins, Steps, StepsTo, GivesTo, BeginsTo, EndsAfter, Grows, MayEnd, Ending}
+use Rattle.scan.specs.declared.looks.Look.{Look}
+use Rattle.scan.proofs.BeginLaws.{stopped_is, stays_stopped}
 
 -- the machine's step, equation by equation
 step_gap : (t : Stage) (b : ℕ) → step (at gap t) b ≡ begin t b (class_of b)
@@ -54,6 +57,11 @@ step_no_arrow : (t : Stage) (b : ℕ) → (b ≡ 62 → ⊥) → step (at dash t
 unfolding step
 step_no_arrow t b n = rw (ne_eqb b 62 n, step)
 
+-- a digit as std tests it
+pub digit_as : (b : ℕ) (r : Bool) → MatchBool r (IsAsciiDigit b) (IsNotAsciiDigit b) → r ≡ is_digit b
+unfolding is_digit
+digit_as b r m = grind (arith, nat_tests)
+
 number_code : (w : List ℕ) → code_of (number w) ≡ 1
 unfolding code_of
 number_code w = refl
@@ -64,12 +72,9 @@ arrow_code = refl
 
 module _ (text : List ℕ) (i pending from mode depth : ℕ) (h : i < length text) (s : Sound i from mode depth) where
   stays : Sound (i + 1) from mode depth
-  stays = record { low = s.low; shallow = omega (arith, s.shallow); past = omega (arith, s.past) }
+  stays = record { live = s.live; shallow = omega (arith, s.shallow); past = omega (arith, s.past) }
 
-  stops : Sound (i + 1) i 7 0
-  stops = record { low = omega arith; shallow = omega arith; past = omega arith }
-
-  halted : Looks text (i + 1) 0 i 7 0 (at gap stopped)
+  halted : Looks text (i + 1) 0 0 7 0 (at gap stopped)
   unfolding shape mode_number
   halted = (refl, record { mode_is = refl; depth_is = refl })
 
@@ -91,6 +96,19 @@ module _ (text : List ℕ) (i pending from mode depth : ℕ) (h : i < length tex
       by (at (numerals w) t) l = absurd (omega (arith, l.0))
       by (at dash t) l = absurd (omega (arith, l.0))
 
+  pub gap_stops : pending ≡ 0 → BeginsTo text i mode depth None → StepsTo text i pending from mode depth None
+  gap_stops e b = by
+    where
+      by : (u : State) → Looks text i pending from mode depth u → Looks text (i + 1) 0 0 7 0 (step u (get_or text i 0))
+      by (at gap t) l = rw (step_gap t (get_or text i 0)) (b t l.1)
+      by (at (letters w) t) l = absurd (omega (arith, l.0))
+      by (at (numerals w) t) l = absurd (omega (arith, l.0))
+      by (at dash t) l = absurd (omega (arith, l.0))
+
+  pub gap_next : (o : Option Look) → pending ≡ 0 → BeginsTo text i mode depth o → StepsTo text i pending from mode depth o
+  gap_next None e b = gap_stops e b
+  gap_next (Some l) e b = gap_steps _ _ _ _ e b
+
   -- letters
   pub letters_more : (r : Bool) → pending ≡ 1 → is_word_byte (get_or text i 0) ≡ true → Grows mode r → r ≡ true → Steps text i pending from mode depth pending from mode depth
   letters_more r e b g z = record { sound = stays; shows = by }
@@ -102,10 +120,10 @@ module _ (text : List ℕ) (i pending from mode depth : ℕ) (h : i < length tex
       by (at (numerals w) t) l = absurd (omega (arith, l.0))
       by (at dash t) l = absurd (omega (arith, l.0))
 
-  pub letters_stop : (r : Bool) → pending ≡ 1 → is_word_byte (get_or text i 0) ≡ true → Grows mode r → r ≡ false → Steps text i pending from mode depth 0 i 7 0
-  letters_stop r e b g z = record { sound = stops; shows = by }
+  pub letters_stop : (r : Bool) → pending ≡ 1 → is_word_byte (get_or text i 0) ≡ true → Grows mode r → r ≡ false → StepsTo text i pending from mode depth None
+  letters_stop r e b g z = by
     where
-      by : (u : State) → Looks text i pending from mode depth u → Looks text (i + 1) 0 i 7 0 (step u (get_or text i 0))
+      by : (u : State) → Looks text i pending from mode depth u → Looks text (i + 1) 0 0 7 0 (step u (get_or text i 0))
       by (at gap t) l = absurd (omega (arith, l.0))
       by (at (letters w) t) l = rw (step_ungrown w t (get_or text i 0) b (sym (g t l.1.mode_is) ∙ z)) halted
       by (at (numerals w) t) l = absurd (omega (arith, l.0))
@@ -123,26 +141,48 @@ module _ (text : List ℕ) (i pending from mode depth : ℕ) (h : i < length tex
       by (at (numerals w) t) l = absurd (omega (arith, l.0))
       by (at dash t) l = absurd (omega (arith, l.0))
 
+  pub letters_next : (word mode₁ depth₁ : ℕ) (o : Option Look) → pending ≡ 1 → is_word_byte (get_or text i 0) ≡ false
+      → word ≡ code_of (word_of (take (i - from) (drop from text))) → Gives mode depth word mode₁ depth₁ → BeginsTo text i mode₁ depth₁ o
+      → StepsTo text i pending from mode depth o
+  letters_next word mode₁ depth₁ None e b c g k = by
+    where
+      by : (u : State) → Looks text i pending from mode depth u → Looks text (i + 1) 0 0 7 0 (step u (get_or text i 0))
+      by (at gap t) l = absurd (omega (arith, l.0))
+      by (at (letters w) t) l =
+          rw (step_ended w t (get_or text i 0) b) (k (give t (word_of w)) (g.gives t (word_of w) l.1 (c ∙ ap (λ (x : List ℕ). code_of (word_of x)) l.2)))
+      by (at (numerals w) t) l = absurd (omega (arith, l.0))
+      by (at dash t) l = absurd (omega (arith, l.0))
+  letters_next word mode₁ depth₁ (Some m) e b c g k = letters_end word mode₁ depth₁ _ _ _ _ e b c g k
+
+  -- and a word that cannot come there
+  pub letters_none : (word : ℕ) → pending ≡ 1 → is_word_byte (get_or text i 0) ≡ false
+      → word ≡ code_of (word_of (take (i - from) (drop from text))) → GivesTo mode depth word None → StepsTo text i pending from mode depth None
+  letters_none word e b c g = by
+    where
+      by : (u : State) → Looks text i pending from mode depth u → Looks text (i + 1) 0 0 7 0 (step u (get_or text i 0))
+      by (at gap t) l = absurd (omega (arith, l.0))
+      by (at (letters w) t) l =
+          rw (step_ended w t (get_or text i 0) b) (stays_stopped text (i + 1) (give t (word_of w)) (get_or text i 0) (class_of (get_or text i 0)) (g t (word_of w) l.1 (c ∙ ap (λ (x : List ℕ). code_of (word_of x)) l.2)))
+      by (at (numerals w) t) l = absurd (omega (arith, l.0))
+      by (at dash t) l = absurd (omega (arith, l.0))
+
   -- digits
-  pub digits_more : pending ≡ 2 → is_word_byte (get_or text i 0) ≡ true → class_number (class_of (get_or text i 0)) ≡ 1 → Steps text i pending from mode depth pending from mode depth
+  pub digits_more : pending ≡ 2 → is_word_byte (get_or text i 0) ≡ true → is_digit (get_or text i 0) ≡ true → Steps text i pending from mode depth pending from mode depth
   digits_more e b z = record { sound = stays; shows = by }
     where
       by : (u : State) → Looks text i pending from mode depth u → Looks text (i + 1) pending from mode depth (step u (get_or text i 0))
       by (at gap t) l = absurd (omega (arith, l.0))
       by (at (letters w) t) l = absurd (omega (arith, l.0))
-      by (at (numerals w) t) l = rw (step_digit w t (get_or text i 0) b (digit_class (get_or text i 0) z)) (e, l.1)
+      by (at (numerals w) t) l = rw (step_digit w t (get_or text i 0) b z) (e, l.1)
       by (at dash t) l = absurd (omega (arith, l.0))
 
-  pub digits_stop : pending ≡ 2 → is_word_byte (get_or text i 0) ≡ true → (class_number (class_of (get_or text i 0)) ≡ 1 → ⊥) → Steps text i pending from mode depth 0 i 7 0
-  digits_stop e b z = record { sound = stops; shows = by }
+  pub digits_stop : pending ≡ 2 → is_word_byte (get_or text i 0) ≡ true → is_digit (get_or text i 0) ≡ false → StepsTo text i pending from mode depth None
+  digits_stop e b z = by
     where
-      none : is_digit (get_or text i 0) ≡ false
-      none = not_true (is_digit (get_or text i 0)) (λ y. z (ap class_number (class_digit (get_or text i 0) y) ∙ unfold class_number in refl))
-
-      by : (u : State) → Looks text i pending from mode depth u → Looks text (i + 1) 0 i 7 0 (step u (get_or text i 0))
+      by : (u : State) → Looks text i pending from mode depth u → Looks text (i + 1) 0 0 7 0 (step u (get_or text i 0))
       by (at gap t) l = absurd (omega (arith, l.0))
       by (at (letters w) t) l = absurd (omega (arith, l.0))
-      by (at (numerals w) t) l = rw (step_undigit w t (get_or text i 0) b none) halted
+      by (at (numerals w) t) l = rw (step_undigit w t (get_or text i 0) b z) halted
       by (at dash t) l = absurd (omega (arith, l.0))
 
   pub digits_end : (mode₁ depth₁ pending' from' mode' depth' : ℕ) → pending ≡ 2 → is_word_byte (get_or text i 0) ≡ false
@@ -155,21 +195,51 @@ module _ (text : List ℕ) (i pending from mode depth : ℕ) (h : i < length tex
       by (at (numerals w) t) l = rw (step_counted w t (get_or text i 0) b) (k.shows (give t (number w)) (g.gives t (number w) l.1 (sym (number_code w))))
       by (at dash t) l = absurd (omega (arith, l.0))
 
+  pub digits_next : (mode₁ depth₁ : ℕ) (o : Option Look) → pending ≡ 2 → is_word_byte (get_or text i 0) ≡ false → Gives mode depth 1 mode₁ depth₁ → BeginsTo text i mode₁ depth₁ o
+      → StepsTo text i pending from mode depth o
+  digits_next mode₁ depth₁ None e b g k = by
+    where
+      by : (u : State) → Looks text i pending from mode depth u → Looks text (i + 1) 0 0 7 0 (step u (get_or text i 0))
+      by (at gap t) l = absurd (omega (arith, l.0))
+      by (at (letters w) t) l = absurd (omega (arith, l.0))
+      by (at (numerals w) t) l = rw (step_counted w t (get_or text i 0) b) (k (give t (number w)) (g.gives t (number w) l.1 (sym (number_code w))))
+      by (at dash t) l = absurd (omega (arith, l.0))
+  digits_next mode₁ depth₁ (Some m) e b g k = digits_end mode₁ depth₁ _ _ _ _ e b g k
+
+  pub digits_none : pending ≡ 2 → is_word_byte (get_or text i 0) ≡ false → GivesTo mode depth 1 None → StepsTo text i pending from mode depth None
+  digits_none e b g = by
+    where
+      by : (u : State) → Looks text i pending from mode depth u → Looks text (i + 1) 0 0 7 0 (step u (get_or text i 0))
+      by (at gap t) l = absurd (omega (arith, l.0))
+      by (at (letters w) t) l = absurd (omega (arith, l.0))
+      by (at (numerals w) t) l =
+          rw (step_counted w t (get_or text i 0) b) (stays_stopped text (i + 1) (give t (number w)) (get_or text i 0) (class_of (get_or text i 0)) (g t (number w) l.1 (sym (number_code w))))
+      by (at dash t) l = absurd (omega (arith, l.0))
+
   -- `-`
   pub arrow_steps : (mode' depth' : ℕ) → (pending ≡ 0 → ⊥) → (pending ≡ 1 → ⊥) → (pending ≡ 2 → ⊥) → get_or text i 0 ≡ 62 → Gives mode depth 11 mode' depth'
-      → Steps text i pending from mode depth 0 i mode' depth'
-  arrow_steps mode' depth' p q r e g = record { sound = record { low = g.low; shallow = omega (arith, g.near, s.shallow); past = omega arith }; shows = by }
+      → Steps text i pending from mode depth 0 0 mode' depth'
+  arrow_steps mode' depth' p q r e g = record { sound = record { live = g.live; shallow = omega (arith, g.near, s.shallow); past = omega arith }; shows = by }
     where
-      by : (u : State) → Looks text i pending from mode depth u → Looks text (i + 1) 0 i mode' depth' (step u (get_or text i 0))
+      by : (u : State) → Looks text i pending from mode depth u → Looks text (i + 1) 0 0 mode' depth' (step u (get_or text i 0))
       by (at gap t) l = absurd (p l.0)
       by (at (letters w) t) l = absurd (q l.0)
       by (at (numerals w) t) l = absurd (r l.0)
       by (at dash t) l = rw (step_arrow t (get_or text i 0) e) (refl, g.gives t (binary implies) l.1 (sym arrow_code))
 
-  pub arrow_stops : (pending ≡ 0 → ⊥) → (pending ≡ 1 → ⊥) → (pending ≡ 2 → ⊥) → (get_or text i 0 ≡ 62 → ⊥) → Steps text i pending from mode depth 0 i 7 0
-  arrow_stops p q r n = record { sound = stops; shows = by }
+  pub arrow_none : (pending ≡ 0 → ⊥) → (pending ≡ 1 → ⊥) → (pending ≡ 2 → ⊥) → get_or text i 0 ≡ 62 → GivesTo mode depth 11 None → StepsTo text i pending from mode depth None
+  arrow_none p q r e g = by
     where
-      by : (u : State) → Looks text i pending from mode depth u → Looks text (i + 1) 0 i 7 0 (step u (get_or text i 0))
+      by : (u : State) → Looks text i pending from mode depth u → Looks text (i + 1) 0 0 7 0 (step u (get_or text i 0))
+      by (at gap t) l = absurd (p l.0)
+      by (at (letters w) t) l = absurd (q l.0)
+      by (at (numerals w) t) l = absurd (r l.0)
+      by (at dash t) l = rw (step_arrow t (get_or text i 0) e) (refl, g t (binary implies) l.1 (sym arrow_code))
+
+  pub arrow_stops : (pending ≡ 0 → ⊥) → (pending ≡ 1 → ⊥) → (pending ≡ 2 → ⊥) → (get_or text i 0 ≡ 62 → ⊥) → StepsTo text i pending from mode depth None
+  arrow_stops p q r n = by
+    where
+      by : (u : State) → Looks text i pending from mode depth u → Looks text (i + 1) 0 0 7 0 (step u (get_or text i 0))
       by (at gap t) l = absurd (p l.0)
       by (at (letters w) t) l = absurd (q l.0)
       by (at (numerals w) t) l = absurd (r l.0)
@@ -184,21 +254,19 @@ module _ (text : List ℕ) (pending from mode depth : ℕ) where
   gap_ends r e m (at (numerals w) t) l = absurd (omega (arith, l.0))
   gap_ends r e m (at dash t) l = absurd (omega (arith, l.0))
 
-  pub letters_ends : (r : Bool) (word mode' depth' : ℕ) → pending ≡ 1 → word ≡ code_of (word_of (take (length text - from) (drop from text)))
-      → Gives mode depth word mode' depth' → MayEnd mode' depth' r → Ending text pending from mode depth r
+  pub letters_ends : (r : Bool) (word : ℕ) → pending ≡ 1 → word ≡ code_of (word_of (take (length text - from) (drop from text))) → EndsAfter mode depth word r → Ending text pending from mode depth r
   unfolding finish
-  letters_ends r word mode' depth' e c g m (at gap t) l = absurd (omega (arith, l.0))
-  letters_ends r word mode' depth' e c g m (at (letters w) t) l =
-      m (give t (word_of w)) (g.gives t (word_of w) l.1 (c ∙ ap (λ (x : List ℕ). code_of (word_of x)) l.2))
-  letters_ends r word mode' depth' e c g m (at (numerals w) t) l = absurd (omega (arith, l.0))
-  letters_ends r word mode' depth' e c g m (at dash t) l = absurd (omega (arith, l.0))
+  letters_ends r word e c g (at gap t) l = absurd (omega (arith, l.0))
+  letters_ends r word e c g (at (letters w) t) l = g t (word_of w) l.1 (c ∙ ap (λ (x : List ℕ). code_of (word_of x)) l.2)
+  letters_ends r word e c g (at (numerals w) t) l = absurd (omega (arith, l.0))
+  letters_ends r word e c g (at dash t) l = absurd (omega (arith, l.0))
 
-  pub digits_ends : (r : Bool) (mode' depth' : ℕ) → pending ≡ 2 → Gives mode depth 1 mode' depth' → MayEnd mode' depth' r → Ending text pending from mode depth r
+  pub digits_ends : (r : Bool) → pending ≡ 2 → EndsAfter mode depth 1 r → Ending text pending from mode depth r
   unfolding finish
-  digits_ends r mode' depth' e g m (at gap t) l = absurd (omega (arith, l.0))
-  digits_ends r mode' depth' e g m (at (letters w) t) l = absurd (omega (arith, l.0))
-  digits_ends r mode' depth' e g m (at (numerals w) t) l = m (give t (number w)) (g.gives t (number w) l.1 (sym (number_code w)))
-  digits_ends r mode' depth' e g m (at dash t) l = absurd (omega (arith, l.0))
+  digits_ends r e g (at gap t) l = absurd (omega (arith, l.0))
+  digits_ends r e g (at (letters w) t) l = absurd (omega (arith, l.0))
+  digits_ends r e g (at (numerals w) t) l = g t (number w) l.1 (sym (number_code w))
+  digits_ends r e g (at dash t) l = absurd (omega (arith, l.0))
 
   pub dash_ends : (pending ≡ 0 → ⊥) → (pending ≡ 1 → ⊥) → (pending ≡ 2 → ⊥) → Ending text pending from mode depth false
   unfolding finish is_read
@@ -206,3 +274,11 @@ module _ (text : List ℕ) (pending from mode depth : ℕ) where
   dash_ends p q r (at (letters w) t) l = absurd (q l.0)
   dash_ends p q r (at (numerals w) t) l = absurd (r l.0)
   dash_ends p q r (at dash t) l = refl
+
+-- the end after a word
+pub after_ends : (mode depth word mode' depth' : ℕ) (r : Bool) → Gives mode depth word mode' depth' → MayEnd mode' depth' r → EndsAfter mode depth word r
+after_ends mode depth word mode' depth' r g m t w s c = m (give t w) (g.gives t w s c)
+
+pub after_none : (mode depth word : ℕ) → GivesTo mode depth word None → EndsAfter mode depth word false
+unfolding result is_read
+after_none mode depth word g t w s c = rw (stopped_is (give t w) (g t w s c).mode_is)

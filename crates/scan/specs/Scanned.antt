@@ -1,10 +1,9 @@
 -- What the scan answers. Assumes nothing.
-use Rattle.std.specs.Prelude.{ℕ, List}
+use Rattle.std.specs.Prelude.{ℕ, List, Result, Ok, Err}
 use Rattle.text.specs.Grammar.{Reading, RuleText, HasReading, Place}
-use Rattle.scan.specs.declared.Reached.{Reached}
-use Rattle.scan.specs.declared.Reached.TheVariants.{Whole, Stops}
+use Rattle.scan.specs.declared.Stop.{Stop}
 
 -- a rule text, or none and the place of refusal 3
-abbrev pub Scanned : List ℕ → Reached → Type 0
-Scanned bytes Whole = HasReading bytes
-Scanned bytes (Stops i) = ((f : Reading) → RuleText bytes f → ⊥) × Place bytes i
+abbrev pub Scanned : List ℕ → Result (Unit {0}) Stop → Type 0
+Scanned bytes (Ok u) = HasReading bytes
+Scanned bytes (Err s) = ((f : Reading) → RuleText bytes f → ⊥) × Place bytes s.place

@@ -5,60 +5,65 @@
 mod looks;
 
 ghost use Rattle.std.specs.Prelude.{◌≡◌, ◌<◌, ◌≤◌, length};
-ghost use Rattle.scan.specs.Looks.{Sound, Ending};
+ghost use Rattle.spelling.specs.Kinds.{kind_code};
+ghost use Rattle.spelling.specs.Modes.{mode_code};
+ghost use Rattle.scan.specs.Looks.{Sound, EndsAfter, Ending};
+ghost use Rattle.scan.specs.Pending.{pending_code, from_code};
 ghost use Rattle.scan.specs.Scanned.{Scanned};
 
-use looks::{Look, give, may_end, step};
+use looks::{Look, Pending, Shape, give, may_end, step};
+use spelling::kinds::Kind;
+use spelling::modes::Mode;
 use spelling::words::word_of;
 
-// A rule text, or the place of refusal 3.
-#[derive(Drop)]
-pub enum Reached {
-    Whole,
-    Stops(usize),
+// The first place at which no rule text can go on.
+#[derive(Clone, Copy)]
+pub struct Stop {
+    pub place: usize,
+}
+
+// Whether the text may end after one word more.
+fn ends_after(shape: Shape, word: Kind) -> bool
+    requires { shape.depth < 18446744073709551615 }
+    ensures { EndsAfter (mode_code shape.mode) shape.depth (kind_code word) result }
+{
+    match give(shape, word) {
+        Some(last) => may_end(last),
+        None => false,
+    }
 }
 
 // Whether the text may end after the bytes that the look shows.
 fn ends(text: &[u8], l: Look) -> bool
-    requires { Sound (length text.now) l.from l.mode l.depth }
-    ensures { Ending text.now l.pending l.from l.mode l.depth result }
+    requires { Sound (length text.now) (from_code l.pending) (mode_code l.shape.mode) l.shape.depth }
+    ensures { Ending text.now (pending_code l.pending) (from_code l.pending) (mode_code l.shape.mode) l.shape.depth result }
 {
-    let pending = l.pending;
-    let from = l.from;
-    if pending == 0 {
-        return may_end(l.mode, l.depth);
+    match l.pending {
+        Pending::Nothing => may_end(l.shape),
+        Pending::Letters(from) => ends_after(l.shape, word_of(&text[from..])),
+        Pending::Digits => ends_after(l.shape, Kind::Constant),
+        Pending::Dash => false,
     }
-    if pending == 1 {
-        let word = word_of(&text[from..]);
-        let s = give(l.mode, l.depth, word);
-        return may_end(s.mode, s.depth);
-    }
-    if pending == 2 {
-        let s = give(l.mode, l.depth, 1);
-        return may_end(s.mode, s.depth);
-    }
-    false
 }
 
-pub fn scan(text: &[u8]) -> Reached
+pub fn scan(text: &[u8]) -> Result<(), Stop>
     ensures { Scanned text.now result }
 {
     let mut l = Look {
-        pending: 0,
-        from: 0,
-        mode: 0,
-        depth: 0,
+        pending: Pending::Nothing,
+        shape: Shape {
+            mode: Mode::Operand,
+            depth: 0,
+        },
     };
-    let mut i = 0;
-    while i < text.len() {
-        l = step(text, i, l);
-        if l.mode == 7 {
-            return Reached::Stops(i);
-        }
-        i += 1;
+    for i in 0..text.len() {
+        let Some(next) = step(text, i, l) else {
+            return Err(Stop { place: i });
+        };
+        l = next;
     }
     if ends(text, l) {
-        return Reached::Whole;
+        return Ok(());
     }
-    Reached::Stops(i)
+    Err(Stop { place: text.len() })
 }

@@ -1,254 +1,210 @@
-// What the scan keeps between two bytes, and one byte's step. The modes and words by number are those of the crate spelling.
+// What the scan keeps between two bytes, and one byte's step.
 ghost use Rattle.std.specs.Prelude.{◌≡◌, ◌<◌, ◌≤◌, ◌+◌, ◌*◌, length};
-ghost use Rattle.scan.specs.Looks.{Sound, Gives, Begins, Steps, MayEnd, Joins, Grows, Leads};
+ghost use Rattle.spelling.specs.Kinds.{kind_code};
+ghost use Rattle.spelling.specs.Modes.{mode_code};
+ghost use Rattle.scan.specs.Looks.{Sound, GivesTo, BeginsTo, StepsTo, MayEnd, Joins, Grows, Leads};
+ghost use Rattle.scan.specs.Pending.{pending_code, from_code};
 
-use spelling::bytes::{class_of, is_word_byte};
-use spelling::modes::next_mode;
+use spelling::bytes::{Beginning, class_of, is_word_byte};
+use spelling::kinds::Kind;
+use spelling::modes::{Mode, next_mode};
 use spelling::words::word_of;
 
-// What is pending of a word: 0 nothing, 1 letters from `from` on, 2 digits, 3 `-`. And what must come, and how many parentheses are open.
-#[derive(Drop)]
-pub struct Look {
-    pub pending: u8,
-    pub from: usize,
-    pub mode: u8,
-    pub depth: usize,
+// What is pending of a word: nothing, letters from a place on, digits, or `-`.
+#[derive(Clone, Copy)]
+pub enum Pending {
+    Nothing,
+    Letters(usize),
+    Digits,
+    Dash,
 }
 
 // What must come, and how many parentheses are open.
-#[derive(Drop)]
+#[derive(Clone, Copy)]
 pub struct Shape {
-    pub mode: u8,
+    pub mode: Mode,
     pub depth: usize,
 }
 
-// A word comes.
-pub fn give(mode: u8, depth: usize, word: u8) -> Shape
-    requires { (mode < 8) × (word < 18) × (depth < 18446744073709551615) }
-    ensures { Gives mode depth word result.mode result.depth }
+#[derive(Clone, Copy)]
+pub struct Look {
+    pub pending: Pending,
+    pub shape: Shape,
+}
+
+// A word comes: the shape after it, or none where no rule text can go on.
+pub fn give(shape: Shape, word: Kind) -> Option<Shape>
+    requires { shape.depth < 18446744073709551615 }
+    ensures { GivesTo (mode_code shape.mode) shape.depth (kind_code word) result }
 {
-    let next = next_mode(mode, word);
-    if next == 7 {
-        return Shape { mode: 7, depth: 0 };
+    let mode = next_mode(shape.mode, word);
+    if mode == Mode::Nothing {
+        return None;
     }
-    if word == 14 {
-        if next == 0 {
-            return Shape {
-                mode: 0,
-                depth: depth + 1,
-            };
+    let depth = shape.depth;
+    match word {
+        Kind::Open => {
+            if mode == Mode::Operand {
+                return Some(Shape {
+                    mode,
+                    depth: depth + 1,
+                });
+            }
+            Some(Shape { mode, depth })
         }
-        return Shape {
-            mode: next,
-            depth: depth,
-        };
-    }
-    if word == 15 {
-        if mode == 6 {
-            return Shape {
-                mode: 1,
-                depth: depth,
-            };
+        Kind::Close => {
+            if shape.mode == Mode::AfterArgument {
+                return Some(Shape { mode, depth });
+            }
+            if depth == 0 {
+                return None;
+            }
+            Some(Shape {
+                mode,
+                depth: depth - 1,
+            })
         }
-        if depth == 0 {
-            return Shape { mode: 7, depth: 0 };
-        }
-        return Shape {
-            mode: 1,
-            depth: depth - 1,
-        };
-    }
-    Shape {
-        mode: next,
-        depth: depth,
+        _ => Some(Shape { mode, depth }),
     }
 }
 
 // Whether an operator may come.
-fn joins(mode: u8) -> bool
-    ensures { Joins mode result }
+fn joins(mode: Mode) -> bool
+    ensures { Joins (mode_code mode) result }
 {
-    if mode == 1 {
-        return true;
-    }
-    mode == 2
+    matches!(mode, Mode::Operator | Mode::AfterName)
 }
 
 // Whether a word of letters may come, of one letter or more.
-fn grows(mode: u8) -> bool
-    ensures { Grows mode result }
+fn grows(mode: Mode) -> bool
+    ensures { Grows (mode_code mode) result }
 {
-    if mode == 0 {
-        return true;
-    }
-    if mode == 3 {
-        return true;
-    }
-    mode == 5
+    matches!(mode, Mode::Operand | Mode::Variable | Mode::Argument)
 }
 
 // Whether a word may begin with the letter: where an operator may come, the letter is `S`.
-fn leads(mode: u8, b: u8) -> bool
-    ensures { Leads mode b result }
+fn leads(mode: Mode, b: u8) -> bool
+    ensures { Leads (mode_code mode) b result }
 {
-    if grows(mode) {
-        return true;
-    }
-    if b != b'S' {
-        return false;
-    }
-    joins(mode)
+    grows(mode) || b == b'S' && joins(mode)
 }
 
 // Whether the end may come.
-pub fn may_end(mode: u8, depth: usize) -> bool
-    ensures { MayEnd mode depth result }
+pub fn may_end(shape: Shape) -> bool
+    ensures { MayEnd (mode_code shape.mode) shape.depth result }
 {
-    if depth != 0 {
-        return false;
-    }
-    joins(mode)
+    shape.depth == 0 && joins(shape.mode)
 }
 
 // A byte comes where nothing is pending.
-fn begin(text: &[u8], at: usize, mode: u8, depth: usize) -> Look
-    requires { (at < length text.now) × (mode < 8) × (depth ≤ 2 * at + 1) }
-    ensures { Begins text.now at mode depth result.pending result.from result.mode result.depth }
+fn begin(text: &[u8], at: usize, shape: Shape) -> Option<Look>
+    requires { (at < length text.now) × (mode_code shape.mode ≡ 7 → ⊥) × (shape.depth ≤ 2 * at + 1) }
+    ensures { BeginsTo text.now at (mode_code shape.mode) shape.depth result }
 {
     let b = text[at];
-    let class = class_of(b);
-    let stopped = Look {
-        pending: 0,
-        from: at,
-        mode: 7,
-        depth: 0,
+    let word = match class_of(b) {
+        Beginning::Word(word) => word,
+        Beginning::Space => {
+            return Some(Look {
+                pending: Pending::Nothing,
+                shape,
+            });
+        }
+        Beginning::Foreign => return None,
     };
-    if class == 0 {
-        if leads(mode, b) {
-            return Look {
-                pending: 1,
-                from: at,
-                mode: mode,
-                depth: depth,
-            };
+    match word {
+        Kind::Name => {
+            if leads(shape.mode, b) {
+                return Some(Look {
+                    pending: Pending::Letters(at),
+                    shape,
+                });
+            }
+            None
         }
-        return stopped;
-    }
-    if class == 1 {
-        if mode == 5 {
-            return Look {
-                pending: 2,
-                from: at,
-                mode: mode,
-                depth: depth,
-            };
+        Kind::Constant => {
+            if shape.mode == Mode::Argument {
+                return Some(Look {
+                    pending: Pending::Digits,
+                    shape,
+                });
+            }
+            None
         }
-        return stopped;
-    }
-    if class == 11 {
-        if joins(mode) {
-            return Look {
-                pending: 3,
-                from: at,
-                mode: mode,
-                depth: depth,
-            };
+        Kind::Implies => {
+            if joins(shape.mode) {
+                return Some(Look {
+                    pending: Pending::Dash,
+                    shape,
+                });
+            }
+            None
         }
-        return stopped;
-    }
-    if class == 18 {
-        return Look {
-            pending: 0,
-            from: at,
-            mode: mode,
-            depth: depth,
-        };
-    }
-    if class == 19 {
-        return stopped;
-    }
-    let s = give(mode, depth, class);
-    Look {
-        pending: 0,
-        from: at,
-        mode: s.mode,
-        depth: s.depth,
+        _ => {
+            let after = give(shape, word)?;
+            Some(Look {
+                pending: Pending::Nothing,
+                shape: after,
+            })
+        }
     }
 }
 
 // A byte comes after letters.
-fn after_letters(text: &[u8], at: usize, l: Look) -> Look
-    requires at_in_bounds { (at < length text.now) × Sound at l.from l.mode l.depth }
-    requires pending_value { l.pending ≡ 1 }
-    ensures { Steps text.now at l.pending l.from l.mode l.depth result.pending result.from result.mode result.depth }
+fn after_letters(text: &[u8], at: usize, from: usize, shape: Shape) -> Option<Look>
+    requires { (at < length text.now) × Sound at from (mode_code shape.mode) shape.depth }
+    ensures { StepsTo text.now at 1 from (mode_code shape.mode) shape.depth result }
 {
     if is_word_byte(text[at]) {
-        if grows(l.mode) {
-            return l;
+        if grows(shape.mode) {
+            return Some(Look {
+                pending: Pending::Letters(from),
+                shape,
+            });
         }
-        return Look {
-            pending: 0,
-            from: at,
-            mode: 7,
-            depth: 0,
-        };
+        return None;
     }
-    let from = l.from;
-    let word = word_of(&text[from..at]);
-    let s = give(l.mode, l.depth, word);
-    begin(text, at, s.mode, s.depth)
+    let after = give(shape, word_of(&text[from..at]))?;
+    begin(text, at, after)
 }
 
 // A byte comes after digits.
-fn after_digits(text: &[u8], at: usize, l: Look) -> Look
-    requires at_in_bounds { (at < length text.now) × Sound at l.from l.mode l.depth }
-    requires pending_value { l.pending ≡ 2 }
-    ensures { Steps text.now at l.pending l.from l.mode l.depth result.pending result.from result.mode result.depth }
+fn after_digits(text: &[u8], at: usize, shape: Shape) -> Option<Look>
+    requires { (at < length text.now) × Sound at 0 (mode_code shape.mode) shape.depth }
+    ensures { StepsTo text.now at 2 0 (mode_code shape.mode) shape.depth result }
 {
     let b = text[at];
     if is_word_byte(b) {
-        if class_of(b) == 1 {
-            return l;
+        if b.is_ascii_digit() {
+            return Some(Look {
+                pending: Pending::Digits,
+                shape,
+            });
         }
-        return Look {
-            pending: 0,
-            from: at,
-            mode: 7,
-            depth: 0,
-        };
+        return None;
     }
-    let s = give(l.mode, l.depth, 1);
-    begin(text, at, s.mode, s.depth)
+    let after = give(shape, Kind::Constant)?;
+    begin(text, at, after)
 }
 
-// A byte comes.
-pub fn step(text: &[u8], at: usize, l: Look) -> Look
-    requires { (at < length text.now) × Sound at l.from l.mode l.depth }
-    ensures { Steps text.now at l.pending l.from l.mode l.depth result.pending result.from result.mode result.depth }
+// A byte comes: the look after it, or none where no rule text can go on.
+pub fn step(text: &[u8], at: usize, l: Look) -> Option<Look>
+    requires { (at < length text.now) × Sound at (from_code l.pending) (mode_code l.shape.mode) l.shape.depth }
+    ensures { StepsTo text.now at (pending_code l.pending) (from_code l.pending) (mode_code l.shape.mode) l.shape.depth result }
 {
-    let pending = l.pending;
-    if pending == 0 {
-        return begin(text, at, l.mode, l.depth);
-    }
-    if pending == 1 {
-        return after_letters(text, at, l);
-    }
-    if pending == 2 {
-        return after_digits(text, at, l);
-    }
-    if text[at] == b'>' {
-        let s = give(l.mode, l.depth, 11);
-        return Look {
-            pending: 0,
-            from: at,
-            mode: s.mode,
-            depth: s.depth,
-        };
-    }
-    Look {
-        pending: 0,
-        from: at,
-        mode: 7,
-        depth: 0,
+    match l.pending {
+        Pending::Nothing => begin(text, at, l.shape),
+        Pending::Letters(from) => after_letters(text, at, from, l.shape),
+        Pending::Digits => after_digits(text, at, l.shape),
+        Pending::Dash => {
+            if text[at] != b'>' {
+                return None;
+            }
+            let after = give(l.shape, Kind::Implies)?;
+            Some(Look {
+                pending: Pending::Nothing,
+                shape: after,
+            })
+        }
     }
 }

@@ -1,5 +1,6 @@
 -- What holds of each kind of word holds of any, kinds with one number are one, and `==` compares numbers. Assumes nothing.
-use Prim.Native.Nat.{ℕ}
+use Prim.Native.Nat.{ℕ, ◌<◌}
+use native.Mathlib.Omega.{arith}
 use mathlib.Core.Path.{◌≡◌, refl, sym, ap, ◌∙◌}
 use mathlib.Core.List.{List, [], ◌∷◌}
 use lib.ListN.{get_or}
@@ -89,3 +90,12 @@ mode_back Nothing = refl
 
 pub mode_same : (l m : Mode) → mode_code l ≡ mode_code m → l ≡ m
 mode_same l m e = sym (mode_back l) ∙ ap (λ (n : ℕ). get_or modes_in_order n Operand) e ∙ mode_back m
+
+pub mode_met : (l m : Mode) (r : Bool) → r ≡ sameb Mode.the_type l m → r ≡ true → mode_code l ≡ mode_code m
+mode_met l m r e t = eqb-true (mode_code l) (mode_code m) (sym (mode_equal l m) ∙ sym e ∙ t)
+
+pub mode_missed : (l m : Mode) (r : Bool) → r ≡ sameb Mode.the_type l m → r ≡ false → mode_code l ≡ mode_code m → ⊥
+mode_missed l m r e t = eqb-false (mode_code l) (mode_code m) (sym (mode_equal l m) ∙ sym e ∙ t)
+
+pub kind_lt : (k : Kind) → kind_code k < 18
+kind_lt = each (λ k. kind_code k < 18) (omega arith) (omega arith) (omega arith) (omega arith) (omega arith) (omega arith) (omega arith) (omega arith) (omega arith) (omega arith) (omega arith) (omega arith) (omega arith) (omega arith) (omega arith) (omega arith) (omega arith) (omega arith)

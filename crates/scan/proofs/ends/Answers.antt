@@ -1,20 +1,20 @@
--- `scan::ends` meets its contract, by what is pending. Assumes nothing.
+-- `ends` meets its contract, by what is pending. Assumes nothing.
 use native.Mathlib.Omega.{arith}
-use Rattle.spelling.proofs.KindLaws.{code_lt}
+use mathlib.Core.Path.{refl, ap}
+use Rattle.scan.specs.Pending.{pending_code}
 use Rattle.scan.proofs.StepLaws.{gap_ends, letters_ends, digits_ends, dash_ends}
 use Rattle.scan.proofs.ends.Goals as goal
 
-pub returns-then-pending-eq0 : goal.returns-then-pending-eq0
-returns-then-pending-eq0 c = gap_ends c.args.text.now _ c.args.l.from _ _ _ c.if-pending-eq0.true c.may_end.ensures
+pub returns-in-Nothing : goal.returns-in-Nothing
+returns-in-Nothing c = gap_ends c.args.text.now _ _ _ _ _ (ap pending_code c.in-Nothing.is) c.may_end.ensures
 
-pub give-s-requires : goal.give-s-requires
-give-s-requires c = (c.requires.low, rw c.word_of-word.ensures (code_lt _), omega (arith, c.requires.shallow, c.well_formed))
+pub returns-in-Letters : goal.returns-in-Letters
+returns-in-Letters c = rw c.in-Letters.is (letters_ends c.args.text.now 1 c.in-Letters.from _ _ _ _ refl c.word_of.ensures c.ends_after.ensures)
 
-pub returns-then-pending-eq1 : goal.returns-then-pending-eq1
-returns-then-pending-eq1 c = letters_ends c.args.text.now _ c.args.l.from _ _ _ _ _ _ c.if-pending-eq1.true c.word_of-word.ensures c.give-s.ensures c.may_end-then-pending-eq1.ensures
+pub returns-in-Digits : goal.returns-in-Digits
+returns-in-Digits c = digits_ends c.args.text.now _ _ _ _ _ (ap pending_code c.in-Digits.is) c.ends_after-in-Digits.ensures
 
-pub returns-then-pending-eq2 : goal.returns-then-pending-eq2
-returns-then-pending-eq2 c = digits_ends c.args.text.now _ c.args.l.from _ _ _ _ _ c.if-pending-eq2.true c.give-s-then-pending-eq2.ensures c.may_end-then-pending-eq2.ensures
-
-pub returns : goal.returns
-returns c = dash_ends c.args.text.now _ c.args.l.from _ _ c.if-pending-eq0.false c.if-pending-eq1.false c.if-pending-eq2.false
+pub returns-in-Dash : goal.returns-in-Dash
+returns-in-Dash c =
+    let e = ap pending_code c.in-Dash.is in
+    dash_ends c.args.text.now _ _ _ _ (λ u. omega (arith, e)) (λ u. omega (arith, e)) (λ u. omega (arith, e))

@@ -5,21 +5,11 @@ use Rattle.scan.proofs.scan.Goals as goal
 pub loop-i-init : goal.loop-i-init
 loop-i-init c = scan_begins _
 
-pub step-l-requires : goal.step-l-requires
-step-l-requires c = (omega arith, c.loop-i.invariant.sound)
-
-pub returns-then-l-eq7 : goal.returns-then-l-eq7
-returns-then-l-eq7 c = scan_stops _ _ _ _ _ _ c.loop-i.invariant (omega arith) _ _ _ _ c.step-l.ensures c.if-l-eq7.true
+pub returns-in_default : goal.returns-in_default
+returns-in_default c = scan_stops _ _ _ _ _ _ c.loop-i.invariant (omega arith) c.in_default.ensures
 
 pub loop-i-preserved : goal.loop-i-preserved
-loop-i-preserved c = scan_more _ _ _ _ _ _ c.loop-i.invariant (omega arith) _ _ _ _ c.step-l.ensures c.if-l-eq7.false
-
-pub ends-requires : goal.ends-requires
-ends-requires c = record {
-  low = c.loop-i.invariant.sound.low;
-  shallow = omega (arith, c.loop-i.invariant.sound.shallow, c.loop-i.invariant.inside);
-  past = omega (arith, c.loop-i.invariant.sound.past, c.loop-i.invariant.inside);
-}
+loop-i-preserved c = scan_more _ _ _ _ _ _ c.loop-i.invariant (omega arith) _ _ _ _ c.in-Some.ensures
 
 pub returns-then-ends : goal.returns-then-ends
 returns-then-ends c = scan_whole _ _ _ _ _ _ c.loop-i.invariant c.loop-i-test.false _ c.ends.ensures c.if-ends.true

@@ -1,17 +1,16 @@
 -- `looks::after_digits` meets its contract. Assumes nothing.
-use native.Mathlib.Omega.{arith}
-use mathlib.Core.Path.{sym, ◌∙◌}
-use Rattle.scan.proofs.StepLaws.{digits_more, digits_stop, digits_end}
+use mathlib.Core.Path.{refl, sym, ◌∙◌}
+use Rattle.scan.proofs.StepLaws.{digit_as, digits_more, digits_stop, digits_none, digits_next}
 use Rattle.scan.proofs.looks.after_digits.Goals as goal
 
-pub returns-then-class_of-eq1 : goal.returns-then-class_of-eq1
-returns-then-class_of-eq1 c = digits_more _ _ _ _ _ _ c.requires.at_in_bounds.0 c.requires.at_in_bounds.1 c.requires.pending_value (sym c.is_word_byte.ensures ∙ c.if-is_word_byte.true) (sym c.class_of.ensures ∙ c.if-class_of-eq1.true)
+pub returns-then-is_ascii_digit : goal.returns-then-is_ascii_digit
+returns-then-is_ascii_digit c = digits_more _ _ _ _ _ _ c.requires.0 c.requires.1 refl (sym c.is_word_byte.ensures ∙ c.if-is_word_byte.true) (sym (digit_as _ _ c.is_ascii_digit.ensures.cases) ∙ c.if-is_ascii_digit.true)
 
 pub returns-then-is_word_byte : goal.returns-then-is_word_byte
-returns-then-is_word_byte c = digits_stop _ _ _ _ _ _ c.requires.at_in_bounds.0 c.requires.at_in_bounds.1 c.requires.pending_value (sym c.is_word_byte.ensures ∙ c.if-is_word_byte.true) (λ z. c.if-class_of-eq1.false (c.class_of.ensures ∙ z))
+returns-then-is_word_byte c = digits_stop _ _ _ _ _ _ c.requires.0 c.requires.1 refl (sym c.is_word_byte.ensures ∙ c.if-is_word_byte.true) (sym (digit_as _ _ c.is_ascii_digit.ensures.cases) ∙ c.if-is_ascii_digit.false)
 
-pub begin-requires : goal.begin-requires
-begin-requires c = (c.requires.at_in_bounds.0, c.give-s.ensures.low, omega (arith, c.give-s.ensures.near, c.requires.at_in_bounds.1.shallow))
+pub returns-in_err-after : goal.returns-in_err-after
+returns-in_err-after c = rw c.from_residual.ensures (digits_none _ _ _ _ _ _ c.requires.0 c.requires.1 refl (sym c.is_word_byte.ensures ∙ c.if-is_word_byte.false) c.in_err-after.ensures)
 
 pub returns : goal.returns
-returns c = digits_end _ _ _ _ _ _ c.requires.at_in_bounds.0 c.requires.at_in_bounds.1 _ _ _ _ _ _ c.requires.pending_value (sym c.is_word_byte.ensures ∙ c.if-is_word_byte.false) c.give-s.ensures c.begin.ensures
+returns c = digits_next _ _ _ _ _ _ c.requires.0 c.requires.1 _ _ _ refl (sym c.is_word_byte.ensures ∙ c.if-is_word_byte.false) c.in_ok-after.ensures c.begin.ensures
