@@ -4,100 +4,81 @@ ghost use Rattle.std.specs.Prelude.{◌≡◌, ◌+◌, ◌*◌, ◌<◌, ◌≤
 ghost use Rattle.trees.specs.Table.{at, trees_of};
 ghost use Rattle.nodes.specs.Nodes.{Table};
 ghost use Rattle.making.specs.Tables.{Added, Shelf, Shelved};
+ghost use Rattle.making.specs.Loans.{SameLoans, made};
 ghost use Rattle.ages.specs.Ages.{older, next_age, ripe};
 ghost use Rattle.ages.proofs.AgeWalk.{chain, shown_t};
 ghost use Rattle.aging.specs.Dates.{limit_of, Short, age_of, Chain, Under, ReadBits, ReadAge};
 
 use crate::Bound;
-use making::Made;
-use making::table::make;
-use nodes::{Node, read};
+use making::lent::Lent;
+use nodes::Node;
 
 // The nodes of `count` bits of the age m, from the level `base` on: at each level one side is no.
-fn make_bits(
-    nodes: &mut [u32],
-    work: &mut [u32],
-    c: usize,
-    n: u32,
-    base: u32,
-    count: u32,
-    m: u32,
-) -> Option<Made>
-    requires shelf { Shelf nodes.old n work.old c }
+fn make_bits(lent: &mut Lent<'_>, c: usize, base: u32, count: u32, m: u32) -> Option<u32>
+    requires shelf { Shelf lent.old.nodes.now lent.old.count lent.old.work.now c }
     requires count_bound { base + count < 4294967296 }
-    ensures { Added (λ ns j. Shelved work.old ns j work.new c) nodes.old nodes.new n (chain base count m) result }
+    ensures same { SameLoans lent.old lent.new }
+    ensures added { Added (λ ns j. Shelved lent.old.work.now ns j lent.new.work.now c) lent.old.nodes.now lent.new.nodes.now lent.old.count (chain base count m) (made lent.new.count result) }
 {
     if count == 0 {
-        return Some(Made {
-            count: n,
-            reference: 1,
-        });
+        return Some(1);
     }
-    let d = make_bits(nodes, work, c, n, base + 1, count - 1, m / 2)?;
+    let d = make_bits(lent, c, base + 1, count - 1, m / 2)?;
     if m % 2 == 0 {
         let even = Node {
             level: base,
-            low: d.reference,
+            low: d,
             high: 0,
         };
-        return make(nodes, work, c, d.count, even);
+        return lent.make(c, even);
     }
     let odd = Node {
         level: base,
         low: 0,
-        high: d.reference,
+        high: d,
     };
-    make(nodes, work, c, d.count, odd)
+    lent.make(c, odd)
 }
 
 // The diagram of an age, made: no for none.
-pub fn make_age(
-    nodes: &mut [u32],
-    work: &mut [u32],
-    c: usize,
-    n: u32,
-    k: u32,
-    age: Option<u32>,
-) -> Option<Made>
-    requires shelf { Shelf nodes.old n work.old c }
+pub fn make_age(lent: &mut Lent<'_>, c: usize, k: u32, age: Option<u32>) -> Option<u32>
+    requires shelf { Shelf lent.old.nodes.now lent.old.count lent.old.work.now c }
     requires k_bound { (k ≤ 10) × IfSome age (λ m. m < 2048) }
-    ensures { Added (λ ns j. Shelved work.old ns j work.new c) nodes.old nodes.new n (shown_t k (age_of age)) result }
+    ensures same { SameLoans lent.old lent.new }
+    ensures added { Added (λ ns j. Shelved lent.old.work.now ns j lent.new.work.now c) lent.old.nodes.now lent.new.nodes.now lent.old.count (shown_t k (age_of age)) (made lent.new.count result) }
 {
     match age {
-        None => Some(Made {
-            count: n,
-            reference: 0,
-        }),
-        Some(m) => make_bits(nodes, work, c, n, 4 * k, 11, m),
+        None => Some(0),
+        Some(m) => make_bits(lent, c, 4 * k, 11, m),
     }
 }
 
 // The number whose `count` bits, from the level `base` on, are the diagram of p.
-fn read_bits(nodes: &[u32], n: u32, base: u32, count: u32, p: u32) -> u32
-    requires table { Table nodes.now n }
-    requires p_bound { (p < n + 2) × (count ≤ 11) × (base + count < 4294967296) × Chain base count (at (trees_of nodes.now n) p) }
-    ensures { ReadBits base count (at (trees_of nodes.now n) p) result }
+fn read_bits(lent: &Lent<'_>, base: u32, count: u32, p: u32) -> u32
+    requires table { Table lent.now.nodes.now lent.now.count }
+    requires p_bound { (p < lent.now.count + 2) × (count ≤ 11) × (base + count < 4294967296) × Chain base count (at (trees_of lent.now.nodes.now lent.now.count) p) }
+    ensures { ReadBits base count (at (trees_of lent.now.nodes.now lent.now.count) p) result }
 {
     if count == 0 {
         return 0;
     }
-    let x = read(nodes, n, p);
+    let x = lent.read(p);
     if x.low == 0 {
-        return 2 * read_bits(nodes, n, base + 1, count - 1, x.high) + 1;
+        return 2 * read_bits(lent, base + 1, count - 1, x.high) + 1;
     }
-    2 * read_bits(nodes, n, base + 1, count - 1, x.low)
+    2 * read_bits(lent, base + 1, count - 1, x.low)
 }
 
 // The age that the diagram of p, which asks no binding's level, shows.
-pub fn read_age(nodes: &[u32], n: u32, k: u32, p: u32) -> Option<u32>
-    requires table { Table nodes.now n }
-    requires p_bound { (p < n + 2) × (k ≤ 10) × Under k (at (trees_of nodes.now n) p) }
-    ensures { ReadAge k (at (trees_of nodes.now n) p) result }
+pub fn read_age(lent: &Lent<'_>, k: u32, p: u32) -> Option<u32>
+    requires table { Table lent.now.nodes.now lent.now.count }
+    requires p_bound { (p < lent.now.count + 2) × (k ≤ 10) × Under k (at (trees_of lent.now.nodes.now lent.now.count) p) }
+    ensures { ReadAge k (at (trees_of lent.now.nodes.now lent.now.count) p) result }
 {
     if p == 0 {
         return None;
     }
-    Some(read_bits(nodes, n, 4 * k, 11, p))
+    Some(read_bits(lent, 4 * k, 11, p))
 }
 
 // An old age after a step of t: within d there is none if over d, and longer than d has d + 1 for any longer. No age is over 1,024, so a

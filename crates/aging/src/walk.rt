@@ -7,6 +7,7 @@ ghost use Rattle.std.specs.Prelude.{◌+◌, ◌*◌, ◌<◌, ◌≤◌, length
 ghost use Rattle.trees.specs.Table.{at, trees_of};
 ghost use Rattle.nodes.specs.Nodes.{Zeroed};
 ghost use Rattle.making.specs.Tables.{Added, Shelf, Shelved};
+ghost use Rattle.making.specs.Loans.{SameLoans, made};
 ghost use Rattle.walks.specs.Walks.{Within};
 ghost use Rattle.walks.specs.Desks.{Desk, Remembered};
 ghost use Rattle.ages.specs.Ages.{top_age, age_t, ripe_t};
@@ -16,8 +17,8 @@ ghost use Rattle.aging.specs.Slates.{applied, Slate, Slated};
 
 use crate::age::{is_ripe, make_age, next_age, read_age};
 use crate::{Bound, Task};
-use making::Made;
-use making::memory::{Key, keep, recall, spot};
+use making::lent::{Layout, Lent};
+use making::memory::{Key, spot};
 use nodes::Node;
 use walks::parting::{Three, part};
 
@@ -33,47 +34,28 @@ fn ease(task: Task, x: Three) -> Three
 }
 
 // The task under the bindings' levels: one age, or a leaf.
-fn ended(
-    nodes: &mut [u32],
-    work: &mut [u32],
-    c: usize,
-    n: u32,
-    k: u32,
-    task: Task,
-    x: Three,
-) -> Option<Made>
-    requires shelf { Shelf nodes.old n work.old c }
-    requires k_bound { (k ≤ 10) × Short (bound_of task) × (x.l < 2) × (x.r < 2) × (x.o < n + 2) × Under k (at (trees_of nodes.old n) x.o) }
-    ensures { Added (λ ns j. Shelved work.old ns j work.new c) nodes.old nodes.new n (applied (does k task) (trees_of nodes.old n) x.l x.r x.o) result }
+fn ended(lent: &mut Lent<'_>, c: usize, k: u32, task: Task, x: Three) -> Option<u32>
+    requires shelf { Shelf lent.old.nodes.now lent.old.count lent.old.work.now c }
+    requires k_bound { (k ≤ 10) × Short (bound_of task) × (x.l < 2) × (x.r < 2) × (x.o < lent.old.count + 2) × Under k (at (trees_of lent.old.nodes.now lent.old.count) x.o) }
+    ensures same { SameLoans lent.old lent.new }
+    ensures added { Added (λ ns j. Shelved lent.old.work.now ns j lent.new.work.now c) lent.old.nodes.now lent.new.nodes.now lent.old.count (applied (does k task) (trees_of lent.old.nodes.now lent.old.count) x.l x.r x.o) (made lent.new.count result) }
 {
-    let old = read_age(nodes, n, k, x.o);
+    let old = read_age(lent, k, x.o);
     match task {
         Task::Ages(b, t) => {
             let age = next_age(b, t, x.l == 1, x.r == 1, old);
-            make_age(nodes, work, c, n, k, age)
+            make_age(lent, c, k, age)
         }
-        Task::Ripe(b) => Some(Made {
-            count: n,
-            reference: u32::from(is_ripe(b, old)),
-        }),
+        Task::Ripe(b) => Some(u32::from(is_ripe(b, old))),
     }
 }
 
 // The task on three diagrams, which ask at most the last `left` of the bindings' levels, and the old one the ages' levels too.
-fn walk(
-    nodes: &mut [u32],
-    work: &mut [u32],
-    c: usize,
-    slots: usize,
-    n: u32,
-    k: u32,
-    task: Task,
-    left: u32,
-    x: Three,
-) -> Option<Made>
-    requires slate { Slate (does k task) nodes.old n work.old c slots }
-    requires k_bound { (k ≤ 10) × Short (bound_of task) × (left ≤ 4 * k) × Within nodes.old n (4 * k) left x.l × Within nodes.old n (4 * k) left x.r × Dated nodes.old n k left (top_age (limit_of (bound_of task))) x.o }
-    ensures { Added (λ ns j. Slated work.old (does k task) ns j work.new c slots) nodes.old nodes.new n (applied (does k task) (trees_of nodes.old n) x.l x.r x.o) result }
+fn walk(lent: &mut Lent<'_>, layout: Layout, k: u32, task: Task, left: u32, x: Three) -> Option<u32>
+    requires slate { Slate (does k task) lent.old.nodes.now lent.old.count lent.old.work.now layout.c layout.slots }
+    requires k_bound { (k ≤ 10) × Short (bound_of task) × (left ≤ 4 * k) × Within lent.old.nodes.now lent.old.count (4 * k) left x.l × Within lent.old.nodes.now lent.old.count (4 * k) left x.r × Dated lent.old.nodes.now lent.old.count k left (top_age (limit_of (bound_of task))) x.o }
+    ensures same { SameLoans lent.old lent.new }
+    ensures added { Added (λ ns j. Slated lent.old.work.now (does k task) ns j lent.new.work.now layout.c layout.slots) lent.old.nodes.now lent.new.nodes.now lent.old.count (applied (does k task) (trees_of lent.old.nodes.now lent.old.count) x.l x.r x.o) (made lent.new.count result) }
 {
     let s = ease(task, x);
     let key = Key {
@@ -81,35 +63,22 @@ fn walk(
         second: s.r,
         third: s.o,
     };
-    let i = spot(c, slots, key);
-    if let Some(reference) = recall(work, i, key) {
-        return Some(Made {
-            count: n,
-            reference,
-        });
+    let i = spot(layout, key);
+    if let Some(reference) = lent.recall(i, key) {
+        return Some(reference);
     }
-    let fork = part(nodes, n, s);
+    let fork = part(lent, s);
     if 4 * k <= fork.level {
-        return ended(nodes, work, c, n, k, task, s);
+        return ended(lent, layout.c, k, task, s);
     }
-    let low = walk(nodes, work, c, slots, n, k, task, left - 1, fork.low)?;
-    let high = walk(
-        nodes,
-        work,
-        c,
-        slots,
-        low.count,
-        k,
-        task,
-        left - 1,
-        fork.high,
-    )?;
-    let made = Node {
+    let low = walk(lent, layout, k, task, left - 1, fork.low)?;
+    let high = walk(lent, layout, k, task, left - 1, fork.high)?;
+    let node = Node {
         level: fork.level,
-        low: low.reference,
-        high: high.reference,
+        low,
+        high,
     };
-    keep(nodes, work, c, high.count, i, key, made)
+    lent.keep(layout.c, i, key, node)
 }
 
 // Clears the numbers from `from` on and before `to`.
@@ -122,69 +91,44 @@ fn wipe(work: &mut [u32], from: usize, to: usize)
 
 // The task on three diagrams, with the memory cleared before, so that it stands for this task alone, and after, so that it stands for the other
 // walks' results again.
-fn run(
-    nodes: &mut [u32],
-    work: &mut [u32],
-    c: usize,
-    slots: usize,
-    n: u32,
-    k: u32,
-    task: Task,
-    x: Three,
-) -> Option<Made>
-    requires desk { Desk nodes.old n (4 * k + 11) work.old c slots }
-    requires k_bound { (k ≤ 10) × Short (bound_of task) × Plain nodes.old n k x.l × Plain nodes.old n k x.r × Ageing nodes.old n k (top_age (limit_of (bound_of task))) x.o }
-    ensures { Added (λ ns j. Remembered work.old ns j (4 * k + 11) work.new c slots) nodes.old nodes.new n (applied (does k task) (trees_of nodes.old n) x.l x.r x.o) result }
+fn run(lent: &mut Lent<'_>, layout: Layout, k: u32, task: Task, x: Three) -> Option<u32>
+    requires desk { Desk lent.old.nodes.now lent.old.count (4 * k + 11) lent.old.work.now layout.c layout.slots }
+    requires k_bound { (k ≤ 10) × Short (bound_of task) × Plain lent.old.nodes.now lent.old.count k x.l × Plain lent.old.nodes.now lent.old.count k x.r × Ageing lent.old.nodes.now lent.old.count k (top_age (limit_of (bound_of task))) x.o }
+    ensures same { SameLoans lent.old lent.new }
+    ensures added { Added (λ ns j. Remembered lent.old.work.now ns j (4 * k + 11) lent.new.work.now layout.c layout.slots) lent.old.nodes.now lent.new.nodes.now lent.old.count (applied (does k task) (trees_of lent.old.nodes.now lent.old.count) x.l x.r x.o) (made lent.new.count result) }
 {
-    let from = 5 * c;
-    wipe(work, from, 5 * c + 4 * slots);
-    let made = walk(nodes, work, c, slots, n, k, task, 4 * k, x);
-    wipe(work, from, from + 4 * slots);
-    made
+    let from = 5 * layout.c;
+    let work = &mut *lent.work;
+    wipe(work, from, 5 * layout.c + 4 * layout.slots);
+    let reference = walk(lent, layout, k, task, 4 * k, x);
+    let work = &mut *lent.work;
+    wipe(work, from, from + 4 * layout.slots);
+    reference
 }
 
 // The age diagram after a step of t, from the left side, the right side and the old ages together.
 pub fn age_walk(
-    nodes: &mut [u32],
-    work: &mut [u32],
-    c: usize,
-    slots: usize,
-    n: u32,
+    lent: &mut Lent<'_>,
+    layout: Layout,
     k: u32,
     b: Bound,
     t: u32,
     x: Three,
-) -> Option<Made>
-    requires desk { Desk nodes.old n (4 * k + 11) work.old c slots }
-    requires k_bound { (k ≤ 10) × Short b × Plain nodes.old n k x.l × Plain nodes.old n k x.r × Ageing nodes.old n k (top_age (limit_of b)) x.o }
-    ensures { Added (λ ns j. Remembered work.old ns j (4 * k + 11) work.new c slots) nodes.old nodes.new n (age_t k (limit_of b) t (at (trees_of nodes.old n) x.l) (at (trees_of nodes.old n) x.r) (at (trees_of nodes.old n) x.o)) result }
+) -> Option<u32>
+    requires desk { Desk lent.old.nodes.now lent.old.count (4 * k + 11) lent.old.work.now layout.c layout.slots }
+    requires k_bound { (k ≤ 10) × Short b × Plain lent.old.nodes.now lent.old.count k x.l × Plain lent.old.nodes.now lent.old.count k x.r × Ageing lent.old.nodes.now lent.old.count k (top_age (limit_of b)) x.o }
+    ensures same { SameLoans lent.old lent.new }
+    ensures added { Added (λ ns j. Remembered lent.old.work.now ns j (4 * k + 11) lent.new.work.now layout.c layout.slots) lent.old.nodes.now lent.new.nodes.now lent.old.count (age_t k (limit_of b) t (at (trees_of lent.old.nodes.now lent.old.count) x.l) (at (trees_of lent.old.nodes.now lent.old.count) x.r) (at (trees_of lent.old.nodes.now lent.old.count) x.o)) (made lent.new.count result) }
 {
-    run(nodes, work, c, slots, n, k, Task::Ages(b, t), x)
+    run(lent, layout, k, Task::Ages(b, t), x)
 }
 
 // The row's diagram from its ages.
-pub fn ripe_walk(
-    nodes: &mut [u32],
-    work: &mut [u32],
-    c: usize,
-    slots: usize,
-    n: u32,
-    k: u32,
-    b: Bound,
-    o: u32,
-) -> Option<Made>
-    requires desk { Desk nodes.old n (4 * k + 11) work.old c slots }
-    requires k_bound { (k ≤ 10) × Short b × Ageing nodes.old n k (top_age (limit_of b)) o }
-    ensures { Added (λ ns j. Remembered work.old ns j (4 * k + 11) work.new c slots) nodes.old nodes.new n (ripe_t k (limit_of b) (at (trees_of nodes.old n) o)) result }
+pub fn ripe_walk(lent: &mut Lent<'_>, layout: Layout, k: u32, b: Bound, o: u32) -> Option<u32>
+    requires desk { Desk lent.old.nodes.now lent.old.count (4 * k + 11) lent.old.work.now layout.c layout.slots }
+    requires k_bound { (k ≤ 10) × Short b × Ageing lent.old.nodes.now lent.old.count k (top_age (limit_of b)) o }
+    ensures same { SameLoans lent.old lent.new }
+    ensures added { Added (λ ns j. Remembered lent.old.work.now ns j (4 * k + 11) lent.new.work.now layout.c layout.slots) lent.old.nodes.now lent.new.nodes.now lent.old.count (ripe_t k (limit_of b) (at (trees_of lent.old.nodes.now lent.old.count) o)) (made lent.new.count result) }
 {
-    run(
-        nodes,
-        work,
-        c,
-        slots,
-        n,
-        k,
-        Task::Ripe(b),
-        Three { l: 0, r: 0, o },
-    )
+    run(lent, layout, k, Task::Ripe(b), Three { l: 0, r: 0, o })
 }

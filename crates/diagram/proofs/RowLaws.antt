@@ -21,17 +21,23 @@ use Rattle.diagram.specs.declared.Instruction.TheVariants.{Yes, And, Not, Since,
 use Rattle.making.specs.Tables.{Added}
 use Rattle.walks.specs.Walks.{Within}
 use Rattle.walks.specs.Desks.{Desk, Remembered}
-use Rattle.walks.specs.Complements.{Complemented}
+use Rattle.making.specs.Loans.{made}
+use Rattle.walks.specs.Complements.{Complemented, counted}
 use Rattle.walks.proofs.DeskLaws.{desk_stays}
 use Rattle.walks.proofs.MapLaws.{map_is}
 use Rattle.walks.proofs.ComplementLaws.{complement_fits}
 use Rattle.walks.proofs.Visited.{not_visits}
 use Rattle.nodes.specs.Nodes.{Grown, Stuck}
 use Rattle.diagram.specs.Steps.{Turn, facts, does, turns_say, turn_stages, instruction_says, task_says, drop_stages, stages_of, task_stages}
-use Rattle.diagram.specs.Works.{Leads, led, Base, Reached, Short, Worked, plainly, Plain, RowDone}
+use Rattle.diagram.specs.Works.{Leads, led, Base, Reached, Short, Worked, plainly, quietly, Plain, RowDone}
 use Rattle.nodes.proofs.ReadLaws.{grown_ref, stays}
 use Rattle.walks.proofs.SinceLaws.{and_since}
 use Rattle.diagram.proofs.RemovalLaws.{tree_eval, within_fine, stages_past, drops_past}
+
+-- an answer without visits, and the count of nodes
+pub quiet : (n : ℕ) (r : Option ℕ) → counted n (quietly r) ≡ plainly (made n r)
+quiet n None = refl
+quiet n (Some r) = refl
 
 -- one function's diagram was added
 one_reached : {levels : ℕ} {ns ms : List ℕ} {n m r : ℕ} {d : Tree} (f : Function) → tree_of levels f ≡ d → Grown ns ms n m r d → Reached levels ns ms n m r (f ∷ []) f

@@ -6,6 +6,7 @@ use Rattle.trees.specs.Table.{add_trees, at, trees_of}
 use Rattle.making.specs.declared.Number.{Number}
 use Rattle.making.specs.declared.Made.{Made}
 use Rattle.walks.specs.declared.Counted.{Counted}
+use Rattle.walks.specs.declared.Seen.{Seen}
 use Rattle.diagram.specs.declared.Instruction.{Instruction}
 use Rattle.diagram.specs.declared.Instruction.TheVariants.{Yes, And, Not, Since, Old, Drop}
 use Rattle.trees.specs.Sizes.{node_count}
@@ -84,6 +85,11 @@ Worked levels ns ns' n gs f w w' c slots (Some m) = Reached levels ns ns' n m.co
 abbrev pub plainly : Option Made → Option Counted
 plainly None = None
 plainly (Some m) = Some (record { count = m.count; reference = m.reference; visits = 0 })
+
+-- the same of a reference
+abbrev pub quietly : Option ℕ → Option Seen
+quietly None = None
+quietly (Some r) = Some (record { reference = r; visits = 0 })
 
 -- no complement was walked
 pub record Plain (w w' : List ℕ) (c v : ℕ) : Type 0 where

@@ -4,15 +4,18 @@ ghost use Rattle.std.specs.Prelude.{◌≡◌, ◌*◌, ◌≤◌, length, get_o
 ghost use Rattle.trees.specs.Bits.{drops};
 ghost use Rattle.trees.specs.Tree.{eval};
 ghost use Rattle.trees.specs.Table.{at, trees_of};
+ghost use Rattle.making.specs.Loans.{SameLoans, made};
+ghost use Rattle.walks.specs.Complements.{counted};
 ghost use Rattle.walks.specs.Walks.{Within};
 ghost use Rattle.walks.specs.Desks.{Desk};
 ghost use Rattle.diagram.specs.Steps.{drop_stages, does};
-ghost use Rattle.diagram.specs.Works.{Leads, Worked, Base, plainly, RowDone};
+ghost use Rattle.diagram.specs.Works.{Leads, Worked, Base, plainly, quietly, RowDone};
 
 use crate::Instruction;
 use making::Made;
+use making::lent::{Layout, Lent};
 use walks::parting::Three;
-use walks::{Counted, drop_walk, not_walk, since_walk};
+use walks::{Counted, Seen, drop_walk, not_walk, since_walk};
 
 // The reference of row a: no past the rows.
 fn pick(refs: &[u32; 64], a: u32) -> u32
@@ -31,39 +34,18 @@ fn first_level(k: u32, v: u32) -> u32
 }
 
 // The bits of the variable v removed one at a time, from bit k - 1 down to bit 0.
-fn drops_row(
-    nodes: &mut [u32],
-    work: &mut [u32],
-    c: usize,
-    slots: usize,
-    n: u32,
-    k: u32,
-    v: u32,
-    p: u32,
-) -> Option<Made>
-    requires k_bound { (k ≤ 10) × Desk nodes.old n (4 * k) work.old c slots }
-    requires within { Within nodes.old n (4 * k) (4 * k) p }
-    ensures { Worked (4 * k) nodes.old nodes.new n (drop_stages (v * k) k (eval (at (trees_of nodes.old n) p))) (drops (v * k) k (eval (at (trees_of nodes.old n) p))) work.old work.new c slots result }
+fn drops_row(lent: &mut Lent<'_>, layout: Layout, k: u32, v: u32, p: u32) -> Option<u32>
+    requires k_bound { (k ≤ 10) × Desk lent.old.nodes.now lent.old.count (4 * k) lent.old.work.now layout.c layout.slots }
+    requires within { Within lent.old.nodes.now lent.old.count (4 * k) (4 * k) p }
+    ensures same { SameLoans lent.old lent.new }
+    ensures worked { Worked (4 * k) lent.old.nodes.now lent.new.nodes.now lent.old.count (drop_stages (v * k) k (eval (at (trees_of lent.old.nodes.now lent.old.count) p))) (drops (v * k) k (eval (at (trees_of lent.old.nodes.now lent.old.count) p))) lent.old.work.now lent.new.work.now layout.c layout.slots (made lent.new.count result) }
 {
     let base = first_level(k, v);
-    let mut made = Made {
-        count: n,
-        reference: p,
-    };
+    let mut r = p;
     for b in (0..k).rev() {
-        made = drop_walk(
-            nodes,
-            work,
-            c,
-            slots,
-            made.count,
-            4 * k,
-            4 * k,
-            base + b,
-            made.reference,
-        )?;
+        r = drop_walk(lent, layout, 4 * k, 4 * k, base + b, r)?;
     }
-    Some(made)
+    Some(r)
 }
 
 // The answer of walks that count no visits.
@@ -76,6 +58,60 @@ pub fn uncounted(m: Option<Made>) -> Option<Counted>
         reference: made.reference,
         visits: 0,
     })
+}
+
+// The same of walks over lent slices.
+fn unvisited(reference: Option<u32>) -> Option<Seen>
+    ensures { result ≡ quietly reference }
+{
+    let reference = reference?;
+    Some(Seen {
+        reference,
+        visits: 0,
+    })
+}
+
+// The new diagram of row i over lent slices.
+fn walked(
+    lent: &mut Lent<'_>,
+    layout: Layout,
+    k: u32,
+    i: u32,
+    x: Instruction,
+    olds: &[u32; 64],
+    news: &[u32; 64],
+) -> Option<Seen>
+    requires k_bound { (k ≤ 10) × Desk lent.old.nodes.now lent.old.count (4 * k) lent.old.work.now layout.c layout.slots }
+    requires leads { Leads lent.old.nodes.now lent.old.count (4 * k) olds.now × Leads lent.old.nodes.now lent.old.count (4 * k) news.now }
+    ensures same { SameLoans lent.old lent.new }
+    ensures done { RowDone k lent.old.nodes.now lent.new.nodes.now lent.old.count olds.now news.now i (does x) lent.old.work.now lent.new.work.now layout.c layout.slots (counted lent.new.count result) }
+{
+    match x {
+        Instruction::Yes => unvisited(Some(1)),
+        Instruction::And(a, b) => {
+            let l = pick(news, a);
+            let o = pick(news, b);
+            unvisited(since_walk(lent, layout, 4 * k, 4 * k, Three { l, r: 0, o }))
+        }
+        Instruction::Not(a) => {
+            let p = pick(news, a);
+            not_walk(lent, layout, 4 * k, 4 * k, p)
+        }
+        Instruction::Since(a, b) => {
+            let l = pick(news, a);
+            let r = pick(news, b);
+            let o = pick(olds, i);
+            unvisited(since_walk(lent, layout, 4 * k, 4 * k, Three { l, r, o }))
+        }
+        Instruction::Old(a) => {
+            let p = pick(olds, a);
+            unvisited(Some(p))
+        }
+        Instruction::Drop(v, a) => {
+            let p = pick(news, a);
+            unvisited(drops_row(lent, layout, k, v, p))
+        }
+    }
 }
 
 // The new diagram of row i, whose instruction is x, and the visits where it is a complement; `olds` are the references before
@@ -96,38 +132,15 @@ pub fn row(
     requires leads { Leads nodes.old n (4 * k) olds.now × Leads nodes.old n (4 * k) news.now }
     ensures { RowDone k nodes.old nodes.new n olds.now news.now i (does x) work.old work.new c slots result }
 {
-    match x {
-        Instruction::Yes => Some(Counted {
-            count: n,
-            reference: 1,
-            visits: 0,
-        }),
-        Instruction::And(a, b) => {
-            let l = pick(news, a);
-            let o = pick(news, b);
-            uncounted(since_walk(nodes, work, c, slots, n, 4 * k, 4 * k, Three { l, r: 0, o }))
-        }
-        Instruction::Not(a) => {
-            let p = pick(news, a);
-            not_walk(nodes, work, c, slots, n, 4 * k, 4 * k, p)
-        }
-        Instruction::Since(a, b) => {
-            let l = pick(news, a);
-            let r = pick(news, b);
-            let o = pick(olds, i);
-            uncounted(since_walk(nodes, work, c, slots, n, 4 * k, 4 * k, Three { l, r, o }))
-        }
-        Instruction::Old(a) => {
-            let p = pick(olds, a);
-            Some(Counted {
-                count: n,
-                reference: p,
-                visits: 0,
-            })
-        }
-        Instruction::Drop(v, a) => {
-            let p = pick(news, a);
-            uncounted(drops_row(nodes, work, c, slots, n, k, v, p))
-        }
-    }
+    let mut lent = Lent {
+        nodes: &mut *nodes,
+        work: &mut *work,
+        count: n,
+    };
+    let seen = walked(&mut lent, Layout { c, slots }, k, i, x, olds, news)?;
+    Some(Counted {
+        count: lent.count,
+        reference: seen.reference,
+        visits: seen.visits,
+    })
 }

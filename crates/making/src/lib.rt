@@ -3,6 +3,7 @@
 #![tactic(auto)]
 
 pub mod into;
+pub mod lent;
 pub mod memory;
 pub mod table;
 

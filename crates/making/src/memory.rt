@@ -2,13 +2,9 @@
 // slot, by a mix of its numbers, and is compared in full. With c nodes in the node slice the slots stand in the work slice
 // from 5 * c on, at most 2 * c of them.
 ghost use Rattle.std.specs.Prelude.{◌≡◌, ◌+◌, ◌*◌, ◌<◌, ◌≤◌, length};
-ghost use Rattle.trees.specs.Tree.{mk};
-ghost use Rattle.trees.specs.Table.{at, trees_of};
-ghost use Rattle.making.specs.Tables.{Shelf, Spot, Looked, noted, Kept};
+ghost use Rattle.making.specs.Tables.{Spot, Looked, noted};
 
-use crate::Made;
-use crate::table::make;
-use nodes::Node;
+use crate::lent::Layout;
 use nodes::chain::slot;
 
 // The key of a result.
@@ -20,11 +16,11 @@ pub struct Key {
 }
 
 // Where the slot of a key begins.
-pub fn spot(c: usize, slots: usize, key: Key) -> usize
-    requires { (c ≤ 4096) × (1 ≤ slots) × (slots ≤ 2 * c) }
-    ensures { Spot c slots result }
+pub fn spot(layout: Layout, key: Key) -> usize
+    requires { (layout.c ≤ 4096) × (1 ≤ layout.slots) × (layout.slots ≤ 2 * layout.c) }
+    ensures { Spot layout.c layout.slots result }
 {
-    5 * c + 4 * slot(key.first, key.second, key.third, slots)
+    5 * layout.c + 4 * slot(key.first, key.second, key.third, layout.slots)
 }
 
 // The reference of the result that the slot at place i has for a key.
@@ -47,24 +43,4 @@ pub fn note(work: &mut [u32], i: usize, key: Key, r: u32)
     work[i + 1] = key.second;
     work[i + 2] = key.third;
     work[i + 3] = r + 1;
-}
-
-// The node x, made, and written down at place i as the result of a key.
-pub fn keep(
-    nodes: &mut [u32],
-    work: &mut [u32],
-    c: usize,
-    n: u32,
-    i: usize,
-    key: Key,
-    x: Node,
-) -> Option<Made>
-    requires shelf { Shelf nodes.old n work.old c }
-    requires low_bound { (x.low < n + 2) × (x.high < n + 2) }
-    requires room { i + 3 < length work.old }
-    ensures { Kept nodes.old nodes.new n (mk x.level (at (trees_of nodes.old n) x.low) (at (trees_of nodes.old n) x.high)) work.old work.new c i key.first key.second key.third result }
-{
-    let made = make(nodes, work, c, n, x)?;
-    note(work, i, key, made.reference);
-    Some(made)
 }

@@ -5,6 +5,7 @@ use Rattle.trees.specs.Table.{at, trees_of}
 use Rattle.nodes.specs.Nodes.{Grown, Stuck}
 use Rattle.visits.specs.Visits.{complement, Refines}
 use Rattle.walks.specs.declared.Counted.{Counted}
+use Rattle.walks.specs.declared.Seen.{Seen}
 use Rattle.walks.specs.Desks.{Desk}
 
 -- the map of complements as a list: a number for each of the c places
@@ -24,3 +25,8 @@ Complemented ns ns' n levels left p w w' c slots (Some m) =
     Grown ns ns' n m.count m.reference (not_t levels (at (trees_of ns n) p))
     × Desk ns' m.count levels w' c slots
     × Refines (complement ns left (trees_of ns n) (map_of c w) p) (trees_of ns' m.count) (map_of c w') m.reference m.visits
+
+-- what a walk that counts answers, with the count of nodes that was left
+abbrev pub counted : ℕ → Option Seen → Option Counted
+counted n None = None
+counted n (Some m) = Some (record { count = n; reference = m.reference; visits = m.visits })

@@ -9,17 +9,17 @@ ghost use Rattle.std.specs.Prelude.{◌≡◌, ◌+◌, ◌<◌, ◌≤◌};
 ghost use Rattle.trees.specs.Tree.{mk, not_t, since_t, drop_t};
 ghost use Rattle.trees.specs.Table.{at, trees_of};
 ghost use Rattle.making.specs.Tables.{Added};
+ghost use Rattle.making.specs.Loans.{SameLoans, made};
 ghost use Rattle.walks.specs.Walks.{Within, Eased};
 ghost use Rattle.walks.specs.Desks.{Desk, Remembered};
-ghost use Rattle.walks.specs.Complements.{KeptNot, Complemented};
+ghost use Rattle.walks.specs.Complements.{KeptNot, Complemented, counted};
 
 pub mod parting;
 
 use crate::parting::{Three, part};
-use making::Made;
-use making::memory::{Key, keep, recall, spot};
-use making::table::make;
-use nodes::{Node, read};
+use making::lent::{Layout, Lent};
+use making::memory::{Key, spot};
+use nodes::Node;
 
 // Since where l is yes, and o is not no: r or o.
 fn settle_or(r: u32, o: u32) -> Three
@@ -65,60 +65,50 @@ fn settle(x: Three) -> Three
 
 // Since, of three diagrams that ask at most the last `left` levels: r, or l and o. And is since with r no, or is since with l yes.
 pub fn since_walk(
-    nodes: &mut [u32],
-    work: &mut [u32],
-    c: usize,
-    slots: usize,
-    n: u32,
+    lent: &mut Lent<'_>,
+    layout: Layout,
     levels: u32,
     left: u32,
     x: Three,
-) -> Option<Made>
-    requires desk { Desk nodes.old n levels work.old c slots }
-    requires left_le_levels { (left ≤ levels) × Within nodes.old n levels left x.l × Within nodes.old n levels left x.r × Within nodes.old n levels left x.o }
-    ensures { Added (λ ns j. Remembered work.old ns j levels work.new c slots) nodes.old nodes.new n (since_t levels (at (trees_of nodes.old n) x.l) (at (trees_of nodes.old n) x.r) (at (trees_of nodes.old n) x.o)) result }
+) -> Option<u32>
+    requires desk { Desk lent.old.nodes.now lent.old.count levels lent.old.work.now layout.c layout.slots }
+    requires left_le_levels { (left ≤ levels) × Within lent.old.nodes.now lent.old.count levels left x.l × Within lent.old.nodes.now lent.old.count levels left x.r × Within lent.old.nodes.now lent.old.count levels left x.o }
+    ensures same { SameLoans lent.old lent.new }
+    ensures added { Added (λ ns j. Remembered lent.old.work.now ns j levels lent.new.work.now layout.c layout.slots) lent.old.nodes.now lent.new.nodes.now lent.old.count (since_t levels (at (trees_of lent.old.nodes.now lent.old.count) x.l) (at (trees_of lent.old.nodes.now lent.old.count) x.r) (at (trees_of lent.old.nodes.now lent.old.count) x.o)) (made lent.new.count result) }
 {
     let s = settle(x);
     if s.l == 0 {
-        return Some(Made {
-            count: n,
-            reference: s.r,
-        });
+        return Some(s.r);
     }
     let key = Key {
         first: s.l,
         second: s.r,
         third: s.o,
     };
-    let i = spot(c, slots, key);
-    if let Some(reference) = recall(work, i, key) {
-        return Some(Made {
-            count: n,
-            reference,
-        });
+    let i = spot(layout, key);
+    if let Some(reference) = lent.recall(i, key) {
+        return Some(reference);
     }
-    let fork = part(nodes, n, s);
-    let low = since_walk(nodes, work, c, slots, n, levels, left - 1, fork.low)?;
-    let high = since_walk(
-        nodes,
-        work,
-        c,
-        slots,
-        low.count,
-        levels,
-        left - 1,
-        fork.high,
-    )?;
-    let made = Node {
+    let fork = part(lent, s);
+    let low = since_walk(lent, layout, levels, left - 1, fork.low)?;
+    let high = since_walk(lent, layout, levels, left - 1, fork.high)?;
+    let node = Node {
         level: fork.level,
-        low: low.reference,
-        high: high.reference,
+        low,
+        high,
     };
-    keep(nodes, work, c, high.count, i, key, made)
+    lent.keep(layout.c, i, key, node)
 }
 
-// What a walk that counts answers where the slice had room for its nodes: the count of nodes, the reference of the result and how
-// many visits it made. A visit is a node, or a leaf, looked at through one followed reference.
+// What a walk that counts answers where the slice had room for its nodes: the reference of the result, and how many visits it made. A
+// visit is a node, or a leaf, looked at through one followed reference.
+#[derive(Clone, Copy)]
+pub struct Seen {
+    pub reference: u32,
+    pub visits: u32,
+}
+
+// The same of a row: with the count of nodes.
 #[derive(Clone, Copy)]
 pub struct Counted {
     pub count: u32,
@@ -128,99 +118,74 @@ pub struct Counted {
 
 // The node x, which is the complement of p, made and written down after so many visits.
 fn keep_not(
-    nodes: &mut [u32],
-    work: &mut [u32],
-    c: usize,
-    slots: usize,
-    n: u32,
+    lent: &mut Lent<'_>,
+    layout: Layout,
     levels: u32,
     p: u32,
     x: Node,
     visits: u32,
-) -> Option<Counted>
-    requires desk { Desk nodes.old n levels work.old c slots }
-    requires le_p { (2 ≤ p) × (p < n + 2) × (x.low < n + 2) × (x.high < n + 2) }
-    requires p_value { not_t levels (at (trees_of nodes.old n) p) ≡ mk x.level (at (trees_of nodes.old n) x.low) (at (trees_of nodes.old n) x.high) }
-    ensures { KeptNot nodes.old nodes.new n levels (mk x.level (at (trees_of nodes.old n) x.low) (at (trees_of nodes.old n) x.high)) p visits work.old work.new c slots result }
+) -> Option<Seen>
+    requires desk { Desk lent.old.nodes.now lent.old.count levels lent.old.work.now layout.c layout.slots }
+    requires le_p { (2 ≤ p) × (p < lent.old.count + 2) × (x.low < lent.old.count + 2) × (x.high < lent.old.count + 2) }
+    requires p_value { not_t levels (at (trees_of lent.old.nodes.now lent.old.count) p) ≡ mk x.level (at (trees_of lent.old.nodes.now lent.old.count) x.low) (at (trees_of lent.old.nodes.now lent.old.count) x.high) }
+    ensures same { SameLoans lent.old lent.new }
+    ensures kept { KeptNot lent.old.nodes.now lent.new.nodes.now lent.old.count levels (mk x.level (at (trees_of lent.old.nodes.now lent.old.count) x.low) (at (trees_of lent.old.nodes.now lent.old.count) x.high)) p visits lent.old.work.now lent.new.work.now layout.c layout.slots (counted lent.new.count result) }
 {
-    let made = make(nodes, work, c, n, x)?;
-    let j = 4 * c + (p as usize - 2);
-    work[j] = made.reference + 1;
-    Some(Counted {
-        count: made.count,
-        reference: made.reference,
-        visits,
-    })
-}
-
-// What a visit that goes no further answers.
-fn seen(n: u32, reference: u32) -> Counted
-    ensures { result ≡ record { count = n; reference = reference; visits = 1 } }
-{
-    Counted {
-        count: n,
-        reference,
-        visits: 1,
-    }
+    let reference = lent.make(layout.c, x)?;
+    let j = 4 * layout.c + (p as usize - 2);
+    lent.work[j] = reference + 1;
+    Some(Seen { reference, visits })
 }
 
 // The complement of a diagram that asks at most the last `left` levels, remembered by place. Each call is one visit.
-pub fn not_walk(
-    nodes: &mut [u32],
-    work: &mut [u32],
-    c: usize,
-    slots: usize,
-    n: u32,
-    levels: u32,
-    left: u32,
-    p: u32,
-) -> Option<Counted>
-    requires desk { Desk nodes.old n levels work.old c slots }
-    requires left_le_levels { (left ≤ levels) × Within nodes.old n levels left p }
-    ensures { Complemented nodes.old nodes.new n levels left p work.old work.new c slots result }
+pub fn not_walk(lent: &mut Lent<'_>, layout: Layout, levels: u32, left: u32, p: u32) -> Option<Seen>
+    requires desk { Desk lent.old.nodes.now lent.old.count levels lent.old.work.now layout.c layout.slots }
+    requires left_le_levels { (left ≤ levels) × Within lent.old.nodes.now lent.old.count levels left p }
+    ensures same { SameLoans lent.old lent.new }
+    ensures complemented { Complemented lent.old.nodes.now lent.new.nodes.now lent.old.count levels left p lent.old.work.now lent.new.work.now layout.c layout.slots (counted lent.new.count result) }
 {
     if p < 2 {
-        return Some(seen(n, 1 - p));
+        return Some(Seen {
+            reference: 1 - p,
+            visits: 1,
+        });
     }
-    let j = 4 * c + (p as usize - 2);
-    if let Some(reference) = work[j].checked_sub(1) {
-        return Some(seen(n, reference));
+    let j = 4 * layout.c + (p as usize - 2);
+    if let Some(reference) = lent.work[j].checked_sub(1) {
+        return Some(Seen {
+            reference,
+            visits: 1,
+        });
     }
-    let mut x = read(nodes, n, p);
-    let a = not_walk(nodes, work, c, slots, n, levels, left - 1, x.low)?;
-    let b = not_walk(nodes, work, c, slots, a.count, levels, left - 1, x.high)?;
+    let mut x = lent.read(p);
+    let a = not_walk(lent, layout, levels, left - 1, x.low)?;
+    let b = not_walk(lent, layout, levels, left - 1, x.high)?;
     x.low = a.reference;
     x.high = b.reference;
     let visits = a.visits + b.visits + 1;
-    keep_not(nodes, work, c, slots, b.count, levels, p, x, visits)
+    keep_not(lent, layout, levels, p, x, visits)
 }
 
 // A diagram that asks at most the last `left` levels, without its bit at the level v: it holds for some bit there.
 pub fn drop_walk(
-    nodes: &mut [u32],
-    work: &mut [u32],
-    c: usize,
-    slots: usize,
-    n: u32,
+    lent: &mut Lent<'_>,
+    layout: Layout,
     levels: u32,
     left: u32,
     v: u32,
     p: u32,
-) -> Option<Made>
-    requires desk { Desk nodes.old n levels work.old c slots }
-    requires left_le_levels { (left ≤ levels) × Within nodes.old n levels left p }
-    ensures { Added (λ ns j. Remembered work.old ns j levels work.new c slots) nodes.old nodes.new n (drop_t levels v (at (trees_of nodes.old n) p)) result }
+) -> Option<u32>
+    requires desk { Desk lent.old.nodes.now lent.old.count levels lent.old.work.now layout.c layout.slots }
+    requires left_le_levels { (left ≤ levels) × Within lent.old.nodes.now lent.old.count levels left p }
+    ensures same { SameLoans lent.old lent.new }
+    ensures added { Added (λ ns j. Remembered lent.old.work.now ns j levels lent.new.work.now layout.c layout.slots) lent.old.nodes.now lent.new.nodes.now lent.old.count (drop_t levels v (at (trees_of lent.old.nodes.now lent.old.count) p)) (made lent.new.count result) }
 {
-    let whole = Made {
-        count: n,
-        reference: p,
-    };
     if p < 2 {
-        return Some(whole);
+        return Some(p);
     }
-    let mut x = read(nodes, n, p);
+    let mut x = lent.read(p);
     if v < x.level {
-        return Some(whole);
+        return Some(p);
     }
     if x.level == v {
         let sides = Three {
@@ -228,23 +193,18 @@ pub fn drop_walk(
             r: x.low,
             o: x.high,
         };
-        return since_walk(nodes, work, c, slots, n, levels, left - 1, sides);
+        return since_walk(lent, layout, levels, left - 1, sides);
     }
     let key = Key {
         first: 0,
         second: v,
         third: p,
     };
-    let i = spot(c, slots, key);
-    if let Some(reference) = recall(work, i, key) {
-        return Some(Made {
-            count: n,
-            reference,
-        });
+    let i = spot(layout, key);
+    if let Some(reference) = lent.recall(i, key) {
+        return Some(reference);
     }
-    let a = drop_walk(nodes, work, c, slots, n, levels, left - 1, v, x.low)?;
-    let b = drop_walk(nodes, work, c, slots, a.count, levels, left - 1, v, x.high)?;
-    x.low = a.reference;
-    x.high = b.reference;
-    keep(nodes, work, c, b.count, i, key, x)
+    x.low = drop_walk(lent, layout, levels, left - 1, v, x.low)?;
+    x.high = drop_walk(lent, layout, levels, left - 1, v, x.high)?;
+    lent.keep(layout.c, i, key, x)
 }

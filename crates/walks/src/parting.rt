@@ -3,6 +3,7 @@ ghost use Rattle.std.specs.Prelude.{◌+◌, ◌<◌};
 ghost use Rattle.nodes.specs.Nodes.{Table};
 ghost use Rattle.walks.specs.Walks.{Forks};
 
+use making::lent::Lent;
 use making::table::{sides, top};
 
 // Three diagrams of a since: r, or l and o. Where l is no, the result is r.
@@ -22,11 +23,13 @@ pub struct Fork {
 }
 
 // Where the three diagrams of x part.
-pub fn part(nodes: &[u32], n: u32, x: Three) -> Fork
-    requires table { Table nodes.now n }
-    requires l_bound { (x.l < n + 2) × (x.r < n + 2) × (x.o < n + 2) }
-    ensures { Forks nodes.now n x.l x.r x.o result.level result.low.l result.low.r result.low.o result.high.l result.high.r result.high.o }
+pub fn part(lent: &Lent<'_>, x: Three) -> Fork
+    requires table { Table lent.now.nodes.now lent.now.count }
+    requires l_bound { (x.l < lent.now.count + 2) × (x.r < lent.now.count + 2) × (x.o < lent.now.count + 2) }
+    ensures { Forks lent.now.nodes.now lent.now.count x.l x.r x.o result.level result.low.l result.low.r result.low.o result.high.l result.high.r result.high.o }
 {
+    let nodes = &*lent.nodes;
+    let n = lent.count;
     let level = top(nodes, n, x.l)
         .min(top(nodes, n, x.r))
         .min(top(nodes, n, x.o));

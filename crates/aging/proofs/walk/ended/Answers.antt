@@ -20,11 +20,11 @@ make_age-requires c =
 pub is_ripe-requires : goal.is_ripe-requires
 is_ripe-requires c = rw c.in-Ripe.is at c.requires.k_bound.1
 
-pub returns-in-Ages : goal.returns-in-Ages
-returns-in-Ages c =
+pub returns-in-Ages-clause-added : goal.returns-in-Ages-clause-added
+returns-in-Ages-clause-added c =
     let q = c.requires.k_bound in
-    rw (c.in-Ages.is, ages_end _ _ _ _ _ _ _ c.read_age-old.ensures _ _ q.2 q.3 c.next_age-age.ensures.0) c.make_age.ensures
+    rw (c.in-Ages.is, ages_end _ _ _ _ _ _ _ c.read_age-old.ensures _ _ q.2 q.3 c.next_age-age.ensures.0) c.make_age.ensures.added
 
-pub returns-in-Ripe : goal.returns-in-Ripe
-returns-in-Ripe c =
+pub returns-in-Ripe-clause-added : goal.returns-in-Ripe-clause-added
+returns-in-Ripe-clause-added c =
     (rw c.in-Ripe.is (stays _ _ _ _ c.requires.shelf.table (omega (arith, bool_small _ _ c.from.ensures)) (ripe_ends _ _ _ _ _ _ _ c.read_age-old.ensures _ _ c.from.ensures c.is_ripe.ensures)), shelved_same c.requires.shelf)

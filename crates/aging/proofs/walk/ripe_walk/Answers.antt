@@ -8,8 +8,8 @@ run-requires c =
     let p = c.requires.k_bound in
     record { desk = c.requires.desk; k_bound = (p.0, p.1, plain_no _ _ _, plain_no _ _ _, p.2) }
 
-pub returns : goal.returns
-returns c =
+pub returns-clause-added : goal.returns-clause-added
+returns-clause-added c =
     let a = c.args in
-    let ts = trees_of a.nodes.now a.n in
-    rw (does_ripe a.k a.b (at ts 0) (at ts 0) (at ts a.o)) c.run.ensures
+    let ts = trees_of a.lent.now.nodes.now a.lent.now.count in
+    rw (does_ripe a.k a.b (at ts 0) (at ts 0) (at ts a.o)) c.run.ensures.added
