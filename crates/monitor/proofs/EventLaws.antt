@@ -3,6 +3,7 @@ use Prim.Native.Nat.{ℕ, ◌+◌, ◌-◌, ◌*◌, ◌/◌, ◌<◌, ◌≤◌
 use mathlib.Core.Path.{◌≡◌, refl, ap, sym, ◌∙◌}
 use mathlib.Core.Bool.{Bool, true, false, ◌&&◌}
 use mathlib.Core.List.{List, ◌++◌}
+use Rattle.std.specs.Prelude.{Result, Ok, Err}
 use native.Mathlib.Omega.{arith}
 use lib.Dec.{eqb, leb}
 use lib.ListN.{length, take, drop, replicate, length-take}
@@ -19,14 +20,12 @@ use Rattle.meaning.specs.Outcome
 use Rattle.meaning.specs.Outcome.{k_right, capacity, nodes_right, values_right, work_size, cleared, count_right, taken, refused, judge_start, judge_event, decide_event, Machine, shows, EventOutcome, settle_event, event_outcome}
 use Rattle.meaning.proofs.RowsLaws.{rows_length}
 use Rattle.meaning.proofs.RunLaws.{start_taken}
-use Rattle.rule.specs.declared.Checked.{Checked}
-use Rattle.rule.specs.Checking.{found_of, MasksFor}
+use Rattle.rule.specs.Checking.{Free}
 use Rattle.diagram.specs.declared.Formed.TheVariants as told
 use Rattle.diagram.specs.Steps
 use Rattle.diagram.specs.Steps.{judge_formed, formed_outcome}
-use Rattle.monitor.specs.declared.Decision.{Decision}
-use Rattle.monitor.specs.declared.Decision.TheVariants.{Taken, Refused}
-use Rattle.monitor.specs.Decisions.{decision_of}
+use Rattle.monitor.specs.declared.refusals.Refusal.{Refusal}
+use Rattle.monitor.specs.Decisions.{number_of, place_of, decision_of}
 use Rattle.monitor.specs.Calls.{machine, Happens}
 use Rattle.monitor.specs.Events.{lists_right, Beyond, Listed}
 use Rattle.monitor.proofs.SaidLaws.{kept_turn_law, formed_turn_law}
@@ -130,15 +129,12 @@ module _ (rows : List ℕ) (m : Machine) (e : Event) where
       let q = first_refusal (k_right m.state.k) (check_rows rows) (nodes_right m.nodes) (values_right m.state.k m.values) (leb (work_size (capacity m.nodes)) (length m.work)) n p h in
       (rw q.0 refl, q.1)
 
-  module _ (x : Checked) (d : Decision) (f : found_of x ≡ check_rows rows)
-      (j : decision_of d ≡ judge_start (k_right m.state.k) (found_of x) (nodes_right m.nodes && values_right m.state.k m.values)) where
-    pub early : (n p : ℕ) (t : Turn) (ns vs ws : List ℕ) → d ≡ Refused n p → t ≡ kept_turn_law m.state n p → ns ≡ m.nodes → vs ≡ m.values → ws ≡ m.work → Happens rows m e t ns vs ws
-    unfolding decision_of
-    early n p t ns vs ws r q a b c = let z = decides_first n p (rw (sym f) (sym j ∙ ap decision_of r)) in refuses_early n p t ns vs ws z.0 z.1 q a b c
+  module _ {A : Type 0} (r : Result A Refusal) (j : decision_of r ≡ judge_start (k_right m.state.k) (check_rows rows) (nodes_right m.nodes && values_right m.state.k m.values)) where
+    pub early : (q : Refusal) (t : Turn) (ns vs ws : List ℕ) → r ≡ Err q → t ≡ kept_turn_law m.state (number_of q) (place_of q) → ns ≡ m.nodes → vs ≡ m.values → ws ≡ m.work → Happens rows m e t ns vs ws
+    early q t ns vs ws p g a b c = let z = decides_first (number_of q) (place_of q) (sym j ∙ ap decision_of p) in refuses_early (number_of q) (place_of q) t ns vs ws z.0 z.1 g a b c
 
-    pub passed : d ≡ Taken → Passed
-    unfolding decision_of
-    passed r = let z = start_taken _ _ _ (sym j ∙ ap decision_of r) in (z.0, sym f ∙ z.1, z.2)
+    pub passed : (x : A) → r ≡ Ok x → Passed
+    passed x p = start_taken _ _ _ (sym j ∙ ap decision_of p)
 
   module _ (p : Passed) where
     -- the lengths are right exactly if the work slice is long enough
@@ -171,14 +167,14 @@ module _ (rows : List ℕ) (m : Machine) (e : Event) where
 
     -- the lists are right: what the rest of the event may assume
     pub listed : (w : List ℕ) (masks : List ℕ) → Beyond (16 * (length m.nodes / 3) + 1024) m.work w → 16 * (length m.nodes / 3) + 1024 ≤ length m.work
-        → lists_right m.state (length rows / 9) m.values ≡ true → MasksFor (check_rows rows) rows masks → length m.state.counts ≡ 4 → length m.state.refs ≡ 64 → length m.state.sizes ≡ 64
+        → lists_right m.state (length rows / 9) m.values ≡ true → Free rows masks → length m.state.counts ≡ 4 → length m.state.refs ≡ 64 → length m.state.sizes ≡ 64
         → Listed rows masks (machine m.state m.nodes m.values w)
     listed w masks b h l f c r z = record {
       k_is_right = p.0;
       rule_right = p.1;
       lengths = rw b.size (lengths_right h);
       lists = rw (rule_count rows) l;
-      free = rw p.1 at f;
+      free = f;
       counts = c;
       refs = r;
       sizes = z;

@@ -3,6 +3,8 @@ use Prim.Native.Nat.{ℕ}
 use mathlib.Core.Path.{◌≡◌, refl}
 use mathlib.Core.Bool.{Bool}
 use mathlib.Core.List.{List}
+use Rattle.std.specs.Prelude.{Ok, Err}
+use native.Mathlib.Omega.{arith}
 use lib.ListN.{length}
 use Rattle.meaning.specs.declared.State.{State}
 use Rattle.meaning.specs.declared.Turn.{Turn}
@@ -19,7 +21,10 @@ use Rattle.meaning.specs.Rows.{rule_of}
 use Rattle.meaning.specs.Outcome.{Machine, shows}
 use Rattle.monitor.specs.Calls.{machine}
 use Rattle.diagram.specs.Counts.{Visited}
-use Rattle.monitor.specs.Events.{lists_right, formed_said}
+use Rattle.monitor.specs.Events.{lists_right}
+use Rattle.monitor.specs.Decisions.{of_formed, said_of}
+use Rattle.monitor.specs.declared.refusals.Refusal.{Refusal}
+use Rattle.monitor.specs.declared.refusals.Refusal.TheVariants.{State as wrong_state}
 use Rattle.monitor.specs.Visits.{event_plan, Looks}
 
 -- the turn of a refused event: "A refused event returns the state it got"
@@ -48,11 +53,19 @@ pub kept_turn : (f : Figures) (refs refs' sizes sizes' : List ℕ) (n p : ℕ) (
 unfolding kept_turn_law refused_said
 kept_turn f refs refs' sizes sizes' n p t e r z = rw (e, r, z) refl
 
-pub formed_turn : (x : Formed) (f : Figures) (refs sizes : List ℕ) (n p : ℕ) (t : Said) → t ≡ formed_said x f n p → turn_of t refs sizes ≡ formed_turn_law x (whole f refs sizes) n p
-unfolding formed_turn_law formed_said
-formed_turn Good f refs sizes n p t e = kept_turn f refs refs sizes sizes n p t e refl refl
-formed_turn Bad f refs sizes n p t e = kept_turn f refs refs sizes sizes 4 0 t e refl refl
-formed_turn Unfit f refs sizes n p t e = kept_turn f refs refs sizes sizes 4 0 t e refl refl
+-- the check of the diagrams refuses, and nothing else is asked
+pub formed_err : (x : Formed) (q : Refusal) (f : Figures) (refs sizes : List ℕ) (n p : ℕ) → Err q ≡ of_formed x → turn_of (said_of f (Err q)) refs sizes ≡ formed_turn_law x (whole f refs sizes) n p
+unfolding formed_turn_law of_formed kept_turn_law refused_said
+formed_err Good q f refs sizes n p e = let z : ◌≡◌ {A = ℕ} 0 1 = cc in absurd (omega arith)
+formed_err Bad q f refs sizes n p e = let z : q ≡ wrong_state = cc in rw z refl
+formed_err Unfit q f refs sizes n p e = let z : q ≡ wrong_state = cc in rw z refl
+
+-- it passes, and leaves the event to another refusal
+pub formed_ok : (x : Formed) (u : Unit {0}) (f : Figures) (refs sizes : List ℕ) (n p : ℕ) → Ok u ≡ of_formed x → turn_of (refused_said f n p) refs sizes ≡ formed_turn_law x (whole f refs sizes) n p
+unfolding formed_turn_law of_formed kept_turn_law refused_said
+formed_ok Good u f refs sizes n p e = refl
+formed_ok Bad u f refs sizes n p e = let z : ◌≡◌ {A = ℕ} 0 1 = cc in absurd (omega arith)
+formed_ok Unfit u f refs sizes n p e = let z : ◌≡◌ {A = ℕ} 0 1 = cc in absurd (omega arith)
 
 pub taken_turn : (f : Figures) (counts refs refs' sizes sizes' : List ℕ) (kept room : ℕ) (y : Bool) (complements swept : ℕ) (numbered : List ℕ) (t : Said)
     → t ≡ taken_said f counts kept room y complements swept numbered → turn_of t refs' sizes' ≡ taken_turn_law (whole f refs sizes) counts refs' sizes' kept room y
@@ -63,12 +76,6 @@ taken_turn f counts refs refs' sizes sizes' kept room y complements swept number
 pub kept_looks : (rows : List ℕ) (m : Machine) (e : Event) (f : Figures) (n p : ℕ) (t : Said) → t ≡ refused_said f n p → Looks rows m e t.answer t.complements t.swept
 unfolding refused_said
 kept_looks rows m e f n p t q = rw q (record { tells = (refl, refl) })
-
-pub formed_looks : (rows : List ℕ) (m : Machine) (e : Event) (x : Formed) (f : Figures) (n p : ℕ) (t : Said) → t ≡ formed_said x f n p → Looks rows m e t.answer t.complements t.swept
-unfolding formed_said
-formed_looks rows m e Good f n p t q = kept_looks rows m e f n p t q
-formed_looks rows m e Bad f n p t q = kept_looks rows m e f 4 0 t q
-formed_looks rows m e Unfit f n p t q = kept_looks rows m e f 4 0 t q
 
 -- one that is taken tells those of its plan
 pub taken_looks : (rows : List ℕ) (m : Machine) (e : Event) (f : Figures) (counts : List ℕ) (kept room : ℕ) (y : Bool) (complements swept : ℕ) (numbered : List ℕ) (t : Said)

@@ -1,28 +1,53 @@
--- How the decisions of the code are read, made and joined. Assumes nothing: these are definitions.
-use Rattle.std.specs.Prelude.{Bool, true, false}
+-- How the refusals of the code are read. Assumes nothing: these are definitions.
+use Rattle.std.specs.Prelude.{ℕ, Result, Ok, Err}
+use Rattle.meaning.specs.Rows.{Found, right, fault}
 use Rattle.meaning.specs.Outcome
 use Rattle.meaning.specs.Outcome.{taken, refused}
-use Rattle.rule.specs.declared.Checked.{Checked}
-use Rattle.rule.specs.declared.Checked.TheVariants.{Right, Fault}
-use Rattle.monitor.specs.declared.Decision.{Decision}
-use Rattle.monitor.specs.declared.Decision.TheVariants.{Taken, Refused}
+use Rattle.diagram.specs.declared.Formed.{Formed}
+use Rattle.diagram.specs.declared.Formed.TheVariants.{Unfit, Bad, Good}
+use Rattle.monitor.specs.declared.Figures.{Figures}
+use Rattle.monitor.specs.declared.Said.{Said}
+use Rattle.monitor.specs.declared.refusals.Refusal.{Refusal}
+use Rattle.monitor.specs.declared.refusals.Refusal.TheVariants.{K, Rule, Lengths, State, Event, Numbers, Room}
+use Rattle.monitor.specs.Said.{refused_said}
+
+-- the number of a refusal
+abbrev pub number_of : Refusal → ℕ
+number_of K = 1
+number_of (Rule row) = 2
+number_of Lengths = 3
+number_of State = 4
+number_of Event = 5
+number_of (Numbers variable) = 6
+number_of Room = 7
+
+-- and its place: the row of the first fault, the variable that is short, or 0
+abbrev pub place_of : Refusal → ℕ
+place_of K = 0
+place_of (Rule row) = row
+place_of Lengths = 0
+place_of State = 0
+place_of Event = 0
+place_of (Numbers variable) = variable
+place_of Room = 0
 
 -- the decision of the meaning
-unfoldable pub decision_of : Decision → Outcome.Decision
-decision_of Taken = taken
-decision_of (Refused n p) = refused n p
+abbrev pub decision_of : {A : Type 0} → Result A Refusal → Outcome.Decision
+decision_of (Ok x) = taken
+decision_of (Err r) = refused (number_of r) (place_of r)
 
 -- refusal 2
-unfoldable pub of_rule : Checked → Decision
-of_rule Right = Taken
-of_rule (Fault p) = Refused 2 p
+abbrev pub of_rule : Found → Outcome.Decision
+of_rule right = taken
+of_rule (fault p) = refused 2 p
 
--- refusal 3
-unfoldable pub of_lengths : Bool → Decision
-of_lengths true = Taken
-of_lengths false = Refused 3 0
+-- what is said where an event is tried: of a refused one, that the figures are those that it got
+abbrev pub said_of : Figures → Result Said Refusal → Said
+said_of f (Ok said) = said
+said_of f (Err r) = refused_said f (number_of r) (place_of r)
 
--- the first that refuses
-unfoldable pub first_of : Decision → Decision → Decision
-first_of Taken b = b
-first_of (Refused n p) b = Refused n p
+-- the rest of refusal 4: the diagrams are not well kept, or the sizes not theirs
+unfoldable pub of_formed : Formed → Result (Unit {0}) Refusal
+of_formed Good = Ok tt
+of_formed Bad = Err State
+of_formed Unfit = Err State

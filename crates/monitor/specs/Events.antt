@@ -9,11 +9,11 @@ use Rattle.meaning.specs.Outcome.{k_right, capacity, nodes_right, values_right, 
 use Rattle.rule.specs.Checking.{Free}
 use Rattle.numbers.specs.declared.Asked.{Asked}
 use Rattle.numbers.specs.Asking.{Asks}
-use Rattle.diagram.specs.declared.Formed.{Formed}
-use Rattle.diagram.specs.declared.Formed.TheVariants.{Unfit, Bad, Good}
-use Rattle.monitor.specs.declared.Figures.{Figures}
 use Rattle.monitor.specs.declared.Said.{Said}
-use Rattle.monitor.specs.Said.{refused_said}
+use Rattle.monitor.specs.Said.{turn_of}
+use Rattle.monitor.specs.Calls.{Happens}
+use Rattle.monitor.specs.Visits.{Looks}
+use Rattle.monitor.specs.Numbered.{Numbers}
 
 -- the parts of refusal 4 that the lists and the count of rows decide
 unfoldable pub lists_right : State → ℕ → List ℕ → Bool
@@ -23,12 +23,6 @@ lists_right s n values = eqb s.rows n && all_below 4 (list_right s.k s values)
 pub record Beyond (w : ℕ) (entry exit : List ℕ) : Type 0 where
   pub size : length exit ≡ length entry
   pub rest : drop w exit ≡ drop w entry
-
--- what is said of an event that is refused by what follows the state's check: refusal 4 comes before it
-unfoldable pub formed_said : Formed → Figures → ℕ → ℕ → Said
-formed_said Good f number place = refused_said f number place
-formed_said Bad f number place = refused_said f 4 0
-formed_said Unfit f number place = refused_said f 4 0
 
 -- refusals 1 to 3 do not apply, the count of rows and the lists are right, and the masks are the rule's
 pub record Listed (rows masks : List ℕ) (m : Machine) : Type 0 where
@@ -49,3 +43,10 @@ pub record Asking (rows masks : List ℕ) (m : Machine) (e : Event) (a : Asked) 
   pub asks : Asks m.state.k m.state.counts m.values rows e a
   -- an event has an array of eight facts
   pub facts : length e.facts ≡ 8
+
+-- an event of which this was said, and that left these references, sizes and slices, had the outcome of the definitions, and tells its
+-- visits and what it newly numbered
+pub record Ends (rows : List ℕ) (m : Machine) (e : Event) (said : Said) (refs sizes nodes values work : List ℕ) : Type 0 where
+  pub happens : Happens rows m e (turn_of said refs sizes) nodes values work
+  pub looks : Looks rows m e said.answer said.complements said.swept
+  pub numbers : Numbers rows m e said.answer said.numbered

@@ -1,7 +1,7 @@
 -- What the calls of the monitor promise.
-pub mod Decisions
 pub mod Calls
 pub mod Said
+pub mod Decisions
 pub mod Visits
 pub mod Numbered
 pub mod Events

@@ -10,6 +10,10 @@ use Rattle.monitor.specs.declared.Said.{Said}
 abbrev pub whole : Figures → List ℕ → List ℕ → State
 whole f refs sizes = record { k = f.k; rows = f.rows; kept = f.kept; counts = f.counts; refs = refs; sizes = sizes }
 
+-- the figures of a state
+abbrev pub figures_of : State → Figures
+figures_of s = record { k = s.k; rows = s.rows; kept = s.kept; counts = s.counts }
+
 -- the turn of what is said and of the references and sizes left
 abbrev pub turn_of : Said → List ℕ → List ℕ → Turn
 turn_of t refs sizes = record { state = whole t.figures refs sizes; answer = t.answer }

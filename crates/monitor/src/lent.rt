@@ -1,5 +1,5 @@
-// The lent tables: when their lengths are right, and how they are cleared.
-ghost use Rattle.std.specs.Prelude.{◌≡◌, ◌&&◌, [], ◌+◌, ◌*◌, ◌<◌, ◌≤◌, length, replicate};
+// The lent tables: when their lengths and the lists in them are right.
+ghost use Rattle.std.specs.Prelude.{◌≡◌, ◌&&◌, [], ◌*◌, ◌≤◌, length};
 ghost use Rattle.meaning.specs.Tables;
 ghost use Rattle.meaning.specs.Outcome.{nodes_right, values_right};
 ghost use Rattle.monitor.specs.Said.{whole};
@@ -7,22 +7,19 @@ ghost use Rattle.monitor.specs.Events.{lists_right, Beyond};
 
 use crate::Figures;
 
-// The node slice has 3 × C numbers, C from 1 to 4096, and the value slice 4 × (2^k − 1).
+// The node slice has 3 × C numbers, C from 1 to 4096.
+fn nodes_right(nodes: &[u32]) -> bool
+    ensures { result ≡ nodes_right nodes.now }
+{
+    nodes.len() % 3 == 0 && (1..=4096).contains(&(nodes.len() / 3))
+}
+
+// The node slice has its length, and the value slice 4 × (2^k − 1).
 pub fn lengths_right(k: u32, nodes: &[u32], values: &[u32]) -> bool
     requires { k ≤ 10 }
     ensures { result ≡ (nodes_right nodes.now && values_right k values.now) }
 {
-    if nodes.len() % 3 != 0 {
-        return false;
-    }
-    let c = nodes.len() / 3;
-    if c == 0 {
-        return false;
-    }
-    if 4096 < c {
-        return false;
-    }
-    values.len() == (4 * numbers::most(k)) as usize
+    nodes_right(nodes) && values.len() == (4 * numbers::most(k)) as usize
 }
 
 // Whether the count of rows is the rule's n, and the value lists are right: a part of refusal 4. Only the first w numbers of the work
@@ -33,20 +30,5 @@ pub fn lists_right(figures: Figures, n: usize, values: &[u32], w: usize, work: &
     ensures value { result ≡ lists_right (whole figures [] []) n values.now }
     ensures beyond { Beyond w work.old work.new }
 {
-    if figures.rows as usize != n {
-        return false;
-    }
-    let counts = figures.counts;
-    lists::lists_right(figures.k, counts, values, w, work)
-}
-
-// Every number of the slice becomes 0.
-pub fn zero(xs: &mut [u32])
-    ensures { xs.new ≡ replicate (length xs.old) 0 }
-{
-    let mut i: usize = 0;
-    while i < xs.len() {
-        xs[i] = 0;
-        i += 1;
-    }
+    figures.rows as usize == n && lists::lists_right(figures.k, figures.counts, values, w, work)
 }

@@ -4,23 +4,20 @@
 
 mod decide;
 mod lent;
+mod refusals;
 mod working;
 
 ghost use Rattle.std.specs.Prelude.{◌≡◌, length};
 ghost use Rattle.meaning.specs.Outcome.{state_of};
 ghost use Rattle.monitor.specs.Calls.{refused_turn, started_turn, machine, Starts, Happens};
-ghost use Rattle.monitor.specs.Said.{whole, turn_of, refused_said};
+ghost use Rattle.monitor.specs.Decisions.{number_of, place_of, said_of};
+ghost use Rattle.monitor.specs.Said.{whole, figures_of, turn_of, refused_said};
 ghost use Rattle.monitor.specs.Visits.{Looks};
 ghost use Rattle.monitor.specs.Numbered.{Numbers};
+ghost use Rattle.monitor.specs.Events.{Ends};
 
+use crate::refusals::Refusal;
 use meaning::{Answer, Event, State, Turn};
-
-// What is done with a call: it is taken, or refused with a number and a place.
-#[derive(Drop)]
-enum Decision {
-    Taken,
-    Refused(u32, u32),
-}
 
 // The state of `n` rows with nothing kept and no value numbered. That of k 0 and no rows is zero throughout.
 fn state_of(k: u32, n: u32) -> State
@@ -37,12 +34,12 @@ fn state_of(k: u32, n: u32) -> State
 }
 
 // The turn of a refused start.
-fn refused_start(number: u32, place: u32) -> Turn
-    ensures { result ≡ refused_turn number place }
+fn refused_start(refusal: Refusal) -> Turn
+    ensures { result ≡ refused_turn (number_of refusal) (place_of refusal) }
 {
     Turn {
         state: state_of(0, 0),
-        answer: Answer::Refused(number, place),
+        answer: refusal.answer(),
     }
 }
 
@@ -60,13 +57,11 @@ fn started(k: u32, n: u32) -> Turn
 pub fn start(k: u32, rows: &[u32], nodes: &mut [u32], values: &mut [u32]) -> Turn
     ensures { Starts k rows.now nodes.old values.old result nodes.new values.new }
 {
-    let checked = rule::check(rows).checked;
-    let decision = decide::judge(k, checked, nodes, values);
-    if let Decision::Refused(number, place) = decision {
-        return refused_start(number, place);
+    if let Err(refusal) = decide::judge(k, rows, nodes, values) {
+        return refused_start(refusal);
     }
-    lent::zero(nodes);
-    lent::zero(values);
+    nodes.fill(0);
+    values.fill(0);
     started(k, (rows.len() / 9) as u32)
 }
 
@@ -79,9 +74,39 @@ pub struct Figures {
     pub counts: [u32; 4],
 }
 
+impl Figures {
+    // The figures of a state.
+    pub fn of(state: &State) -> Figures
+        ensures { result ≡ figures_of state.now }
+    {
+        let counts = state.counts;
+        Figures {
+            k: state.k,
+            rows: state.rows,
+            kept: state.kept,
+            counts,
+        }
+    }
+
+    // The state of these figures, and of references and sizes.
+    pub fn with(self, refs: [u32; 64], sizes: [u32; 64]) -> State
+        ensures { result ≡ whole self refs sizes }
+    {
+        let counts = self.counts;
+        State {
+            k: self.k,
+            rows: self.rows,
+            kept: self.kept,
+            counts,
+            refs,
+            sizes,
+        }
+    }
+}
+
 // What an event on lent references and sizes gives back: the figures after it, the answer, the visits of its complements and of its sweep, and for
 // each variable how many values it newly numbered.
-#[derive(Drop)]
+#[derive(Clone, Copy)]
 pub struct Said {
     pub figures: Figures,
     pub answer: Answer,
@@ -91,16 +116,44 @@ pub struct Said {
 }
 
 // What is said of a refused event: the figures are those that it got.
-fn refused(figures: Figures, number: u32, place: u32) -> Said
-    ensures { result ≡ refused_said figures number place }
+fn refused(figures: Figures, refusal: Refusal) -> Said
+    ensures { result ≡ refused_said figures (number_of refusal) (place_of refusal) }
 {
     Said {
         figures,
-        answer: Answer::Refused(number, place),
+        answer: refusal.answer(),
         complements: 0,
         swept: 0,
         numbered: [0; 4],
     }
+}
+
+// Tries an event: what is said of one that is taken, or why it is refused.
+fn tried(
+    figures: Figures,
+    refs: &mut [u32; 64],
+    sizes: &mut [u32; 64],
+    rows: &[u32],
+    nodes: &mut [u32],
+    values: &mut [u32],
+    work: &mut [u32],
+    event: Event,
+) -> Result<Said, Refusal>
+    requires { (length figures.counts ≡ 4) × (length refs.old ≡ 64) × (length sizes.old ≡ 64) }
+    ensures { Ends rows.now (machine (whole figures refs.old sizes.old) nodes.old values.old work.old) event (said_of figures result) refs.new sizes.new nodes.new values.new work.new }
+{
+    let free = decide::judge(figures.k, rows, nodes, values)?;
+    let w = 16 * (nodes.len() / 3) + 1024;
+    if work.len() < w {
+        return Err(Refusal::Lengths);
+    }
+    if !lent::lists_right(figures, rows.len() / 9, values, w, work) {
+        work[0..w].fill(0);
+        return Err(Refusal::State);
+    }
+    working::judged(
+        figures, refs, sizes, &free, rows, nodes, values, work, event,
+    )
 }
 
 // Event, on a state whose references and sizes are lent and become those of after the event: refusals 1 to 7 in their order, or the
@@ -120,24 +173,10 @@ pub fn event_on(
     ensures looks { Looks rows.now (machine (whole figures refs.old sizes.old) nodes.old values.old work.old) event result.answer result.complements result.swept }
     ensures numbers { Numbers rows.now (machine (whole figures refs.old sizes.old) nodes.old values.old work.old) event result.answer result.numbered }
 {
-    let rule = rule::check(rows);
-    let checked = rule.checked;
-    let decision = decide::judge(figures.k, checked, nodes, values);
-    if let Decision::Refused(number, place) = decision {
-        return refused(figures, number, place);
+    match tried(figures, refs, sizes, rows, nodes, values, work, event) {
+        Ok(said) => said,
+        Err(refusal) => refused(figures, refusal),
     }
-    let w = 16 * (nodes.len() / 3) + 1024;
-    if work.len() < w {
-        return refused(figures, 3, 0);
-    }
-    if !lent::lists_right(figures, rows.len() / 9, values, w, work) {
-        lent::zero(&mut work[0..w]);
-        return refused(figures, 4, 0);
-    }
-    let free = rule.free;
-    working::judged(
-        figures, refs, sizes, &free, rows, nodes, values, work, event,
-    )
 }
 
 // Event, on a state by value.
@@ -153,28 +192,18 @@ pub fn event(
 {
     let mut refs = state.refs;
     let mut sizes = state.sizes;
-    let counts = state.counts;
-    let figures = Figures {
-        k: state.k,
-        rows: state.rows,
-        kept: state.kept,
-        counts,
-    };
     let said = event_on(
-        figures, &mut refs, &mut sizes, rows, nodes, values, work, event,
+        Figures::of(&state),
+        &mut refs,
+        &mut sizes,
+        rows,
+        nodes,
+        values,
+        work,
+        event,
     );
-    let after = said.figures;
-    let grown = after.counts;
-    let answer = said.answer;
     Turn {
-        state: State {
-            k: after.k,
-            rows: after.rows,
-            kept: after.kept,
-            counts: grown,
-            refs,
-            sizes,
-        },
-        answer,
+        state: said.figures.with(refs, sizes),
+        answer: said.answer,
     }
 }

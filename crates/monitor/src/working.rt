@@ -2,33 +2,32 @@
 // leaves its outcome as the crate `meaning` defines it. What a part may assume is in specs/Events.antt.
 ghost use Rattle.std.specs.Prelude.{◌≡◌, ◌-◌, ◌<◌, ◌≤◌, eqb, get_or, length};
 ghost use Rattle.diagram.specs.Steps.{formed_outcome};
-ghost use Rattle.monitor.specs.Calls.{machine, Happens};
-ghost use Rattle.monitor.specs.Said.{whole, turn_of, taken_said};
-ghost use Rattle.monitor.specs.Visits.{Looks};
-ghost use Rattle.monitor.specs.Numbered.{Numbers, Grown, growth};
-ghost use Rattle.monitor.specs.Events.{formed_said, Listed, Asking};
+ghost use Rattle.monitor.specs.Calls.{machine};
+ghost use Rattle.monitor.specs.Said.{whole, taken_said};
+ghost use Rattle.monitor.specs.Decisions.{of_formed, said_of};
+ghost use Rattle.monitor.specs.Numbered.{Grown, growth};
+ghost use Rattle.monitor.specs.Events.{Listed, Asking, Ends};
 
-use crate::{Figures, Said, refused};
+use crate::refusals::Refusal;
+use crate::{Figures, Said};
 use diagram::{Formed, Told};
 use meaning::{Answer, Event};
 use numbers::Asked;
 
-// Refuses an event, unless its diagrams are not well kept or the sizes not theirs: refusal 4 comes first.
-fn refused_formed(
+// The rest of refusal 4: the diagrams are not well kept, or the sizes not theirs.
+fn formed(
     figures: Figures,
     refs: &[u32; 64],
     sizes: &[u32; 64],
     free: &[u32; 64],
     nodes: &[u32],
     work: &mut [u32],
-    number: u32,
-    place: u32,
-) -> Said
+) -> Result<(), Refusal>
     requires { (length refs.now ≡ 64) × (length sizes.now ≡ 64) }
-    ensures value { result ≡ formed_said (formed_outcome figures.k figures.rows free.now refs.now sizes.now figures.kept nodes.now work.old).gives figures number place }
+    ensures value { result ≡ of_formed (formed_outcome figures.k figures.rows free.now refs.now sizes.now figures.kept nodes.now work.old).gives }
     ensures work_after { work.new ≡ (formed_outcome figures.k figures.rows free.now refs.now sizes.now figures.kept nodes.now work.old).work }
 {
-    let formed = stepping::well_formed(
+    let told = stepping::well_formed(
         figures.k,
         figures.rows,
         free,
@@ -38,10 +37,10 @@ fn refused_formed(
         nodes,
         work,
     );
-    match formed {
-        Formed::Good => refused(figures, number, place),
-        Formed::Bad => refused(figures, 4, 0),
-        Formed::Unfit => refused(figures, 4, 0),
+    match told {
+        Formed::Good => Ok(()),
+        Formed::Bad => Err(Refusal::State),
+        Formed::Unfit => Err(Refusal::State),
     }
 }
 
@@ -50,11 +49,11 @@ fn newly(before: [u32; 4], after: [u32; 4]) -> [u32; 4]
     requires { Grown before after }
     ensures { result ≡ growth before after }
 {
-    let a = after[0] - before[0];
-    let b = after[1] - before[1];
-    let c = after[2] - before[2];
-    let d = after[3] - before[3];
-    [a, b, c, d]
+    let mut numbered = [0; 4];
+    for v in 0..4 {
+        numbered[v] = after[v] - before[v];
+    }
+    numbered
 }
 
 // What is said of an event that is taken. The verdict is read off the last row's reference.
@@ -66,19 +65,19 @@ fn taken(
     room: u32,
     complements: u32,
     swept: u32,
-    numbered: [u32; 4],
 ) -> Said
-    requires { (0 < figures.rows) × (figures.rows ≤ 64) }
-    ensures { result ≡ taken_said figures counts kept room (eqb (get_or refs.now (figures.rows - 1) 0) 1) complements swept numbered }
+    requires rows { (0 < figures.rows) × (figures.rows ≤ 64) }
+    requires grown { Grown figures.counts counts }
+    ensures { result ≡ taken_said figures counts kept room (eqb (get_or refs.now (figures.rows - 1) 0) 1) complements swept (growth figures.counts counts) }
 {
     let last = (figures.rows - 1) as usize;
     let yes = refs[last] == 1;
+    let numbered = newly(figures.counts, counts);
     Said {
         figures: Figures {
-            k: figures.k,
-            rows: figures.rows,
             kept,
             counts,
+            ..figures
         },
         answer: Answer::Verdict(yes, kept, room),
         complements,
@@ -99,11 +98,9 @@ fn work_on(
     work: &mut [u32],
     event: Event,
     asked: Asked,
-) -> Said
+) -> Result<Said, Refusal>
     requires { Asking rows.now free.now (machine (whole figures refs.old sizes.old) nodes.old values.old work.old) event asked }
-    ensures happens { Happens rows.now (machine (whole figures refs.old sizes.old) nodes.old values.old work.old) event (turn_of result refs.new sizes.new) nodes.new values.new work.new }
-    ensures looks { Looks rows.now (machine (whole figures refs.old sizes.old) nodes.old values.old work.old) event result.answer result.complements result.swept }
-    ensures numbers { Numbers rows.now (machine (whole figures refs.old sizes.old) nodes.old values.old work.old) event result.answer result.numbered }
+    ensures { Ends rows.now (machine (whole figures refs.old sizes.old) nodes.old values.old work.old) event (said_of figures result) refs.new sizes.new nodes.new values.new work.new }
 {
     let given = asked.given;
     let stepped = stepping::step(
@@ -118,14 +115,11 @@ fn work_on(
         nodes,
         work,
     );
-    let told = stepped.told;
-    match told {
+    match stepped.told {
         Told::Done(kept, room) => {
-            let old = figures.counts;
-            lists::write_fresh(figures.k, old, asked, values);
+            lists::write_fresh(figures.k, figures.counts, asked, values);
             let counts = asked.counts;
-            let numbered = newly(old, counts);
-            taken(
+            Ok(taken(
                 figures,
                 counts,
                 refs,
@@ -133,12 +127,11 @@ fn work_on(
                 room,
                 stepped.complements,
                 stepped.swept,
-                numbered,
-            )
+            ))
         }
-        Told::Full => refused(figures, 7, 0),
-        Told::Bad => refused(figures, 4, 0),
-        Told::Unfit => refused(figures, 4, 0),
+        Told::Full => Err(Refusal::Room),
+        Told::Bad => Err(Refusal::State),
+        Told::Unfit => Err(Refusal::State),
     }
 }
 
@@ -153,21 +146,19 @@ pub fn judged(
     values: &mut [u32],
     work: &mut [u32],
     event: Event,
-) -> Said
+) -> Result<Said, Refusal>
     requires { Listed rows.now free.now (machine (whole figures refs.old sizes.old) nodes.old values.old work.old) }
-    ensures happens { Happens rows.now (machine (whole figures refs.old sizes.old) nodes.old values.old work.old) event (turn_of result refs.new sizes.new) nodes.new values.new work.new }
-    ensures looks { Looks rows.now (machine (whole figures refs.old sizes.old) nodes.old values.old work.old) event result.answer result.complements result.swept }
-    ensures numbers { Numbers rows.now (machine (whole figures refs.old sizes.old) nodes.old values.old work.old) event result.answer result.numbered }
+    ensures { Ends rows.now (machine (whole figures refs.old sizes.old) nodes.old values.old work.old) event (said_of figures result) refs.new sizes.new nodes.new values.new work.new }
 {
     if !rule::agrees(rows, event) {
-        return refused_formed(figures, refs, sizes, free, nodes, work, 5, 0);
+        formed(figures, refs, sizes, free, nodes, work)?;
+        return Err(Refusal::Event);
     }
-    let counts = figures.counts;
-    let asked = numbers::ask(figures.k, counts, values, rows, event);
-    let grown = asked.counts;
-    let v = lists::shortest(figures.k, grown);
+    let asked = numbers::ask(figures.k, figures.counts, values, rows, event);
+    let v = lists::shortest(figures.k, asked.counts);
     if v < 4 {
-        return refused_formed(figures, refs, sizes, free, nodes, work, 6, v);
+        formed(figures, refs, sizes, free, nodes, work)?;
+        return Err(Refusal::Numbers(v));
     }
     work_on(
         figures, refs, sizes, free, rows, nodes, values, work, event, asked,

@@ -5,4 +5,4 @@ use Rattle.monitor.proofs.refused.Goals as goal
 
 pub returns : goal.returns
 unfolding refused_said
-returns c = refl
+returns c = rw c.answer.ensures refl

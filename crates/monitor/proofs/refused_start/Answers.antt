@@ -5,4 +5,4 @@ use Rattle.monitor.proofs.refused_start.Goals as goal
 
 pub returns : goal.returns
 unfolding refused_turn
-returns c = rw c.state_of.ensures refl
+returns c = rw (c.state_of.ensures, c.answer.ensures) refl

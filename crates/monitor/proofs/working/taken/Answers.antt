@@ -5,4 +5,4 @@ use Rattle.monitor.proofs.working.taken.Goals as goal
 
 pub returns : goal.returns
 unfolding taken_said
-returns c = refl
+returns c = rw c.newly-numbered.ensures refl
