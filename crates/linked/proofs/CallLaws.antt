@@ -12,11 +12,10 @@ use Rattle.meaning.specs.declared.Answer.{Answer}
 use Rattle.monitor.specs.Calls.{Starts, Happens, machine}
 use Rattle.numbers.specs.declared.Lookup.{Lookup}
 use Rattle.numbers.specs.Looking.{look_up}
-use Rattle.monitor.specs.declared.Figures.{Figures}
 use Rattle.monitor.specs.Visits.{Looks}
 use Rattle.monitor.specs.Numbered.{Numbers}
 use Rattle.monitor.proofs.OneOutcome.{looks_are}
-use Rattle.linked.specs.Packing.{packed_state, figures_of, unpacked_state, packed_answer, packed_lookup}
+use Rattle.linked.specs.Packing.{packed_state, unpacked_state, packed_answer, packed_lookup}
 use Rattle.linked.specs.Happening.{event_of}
 use Rattle.linked.specs.Calls.{fits, fits_event, settle_start, start_left, LinkedStart, machine_of, settle_event, event_left, LinkedEvent, fits_lookup, settle_lookup, lookup_left, LinkedLookup}
 
@@ -113,11 +112,11 @@ pub lookup_no_answer : (values state : List ℕ) (v y : ℕ) (answer : List ℕ)
 unfolding lookup_left fits_lookup settle_lookup
 lookup_no_answer values state v y answer h g = let e = eq-eqb (length state) 135 h in let f = ne_eqb (length answer) 2 g in record { called = rw (e, f) refl; answer_is = rw (e, f) refl }
 
--- a lookup that is made on the figures that the numbers are
-pub lookup_made : (values state : List ℕ) (v y : ℕ) (answer : List ℕ) (f : Figures) (found : Lookup) (as' : List ℕ) → length state ≡ 135 → length answer ≡ 2 → f ≡ figures_of state
-    → found ≡ look_up f.k f.counts values v y → as' ≡ packed_lookup found → LinkedLookup values state v y answer true as'
-unfolding lookup_left fits_lookup settle_lookup unpacked_state
-lookup_made values state v y answer f found as' h g e l p =
+-- a lookup that is made on the state that the numbers are
+pub lookup_made : (values state : List ℕ) (v y : ℕ) (answer : List ℕ) (s : State) (found : Lookup) (as' : List ℕ) → length state ≡ 135 → length answer ≡ 2 → s ≡ unpacked_state state
+    → found ≡ look_up s.k s.counts values v y → as' ≡ packed_lookup found → LinkedLookup values state v y answer true as'
+unfolding lookup_left fits_lookup settle_lookup
+lookup_made values state v y answer s found as' h g e l p =
     let a = eq-eqb (length state) 135 h in
     let b = eq-eqb (length answer) 2 g in
-    record { called = rw (a, b) refl; answer_is = rw (a, b) (p ∙ ap packed_lookup (l ∙ ap (λ (x : Figures). look_up x.k x.counts values v y) e)) }
+    record { called = rw (a, b) refl; answer_is = rw (a, b) (p ∙ ap packed_lookup (l ∙ ap (λ (x : State). look_up x.k x.counts values v y) e)) }

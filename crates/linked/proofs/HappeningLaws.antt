@@ -1,6 +1,6 @@
 -- Laws of the event that some numbers are. Assumes nothing.
 use Prim.Native.Nat.{ℕ, zero, suc, ◌+◌, ◌*◌, ◌≤◌, ◌<◌}
-use mathlib.Core.Path.{◌≡◌, refl, ◌∙◌}
+use mathlib.Core.Path.{◌≡◌, refl, sym, ◌∙◌}
 use mathlib.Core.List.{List, [], ◌∷◌, ◌++◌, map}
 use native.Mathlib.Nat.{add-zero}
 use native.Mathlib.Omega.{arith}
@@ -19,14 +19,6 @@ pub fact_read : (xs : List ℕ) (i p n a b c : ℕ)
 unfolding fact_at first_fact
 fact_read xs i p n a b c hp hn ha hb hc =
     rw (get_or-drop (5 * i) xs 0 0, add-zero (5 * i), get_or-drop (5 * i) xs 1 0, get_or-drop (5 * i) xs 2 0, get_or-drop (5 * i) xs 3 0, get_or-drop (5 * i) xs 4 0, hp, hn, ha, hb, hc) refl
-
--- an event that is read fact by fact
-pub event_read : (xs : List ℕ) (n : ℕ) (f₀ f₁ f₂ f₃ f₄ f₅ f₆ f₇ : Fact) → n ≡ count_of xs
-    → f₀ ≡ fact_at xs 0 → f₁ ≡ fact_at xs 1 → f₂ ≡ fact_at xs 2 → f₃ ≡ fact_at xs 3 → f₄ ≡ fact_at xs 4 → f₅ ≡ fact_at xs 5 → f₆ ≡ fact_at xs 6 → f₇ ≡ fact_at xs 7
-    → ◌≡◌ {A = Event} (record { count = n; facts = f₀ ∷ f₁ ∷ f₂ ∷ f₃ ∷ f₄ ∷ f₅ ∷ f₆ ∷ f₇ ∷ [] }) (event_of xs)
-unfolding event_of
-event_read xs n f₀ f₁ f₂ f₃ f₄ f₅ f₆ f₇ h h₀ h₁ h₂ h₃ h₄ h₅ h₆ h₇ =
-    λ i. record { count = h i; facts = h₀ i ∷ h₁ i ∷ h₂ i ∷ h₃ i ∷ h₄ i ∷ h₅ i ∷ h₆ i ∷ h₇ i ∷ [] }
 
 -- each fact has three values, as a fact has by its type
 abbrev pub Threes : List Fact → Type 0
@@ -78,13 +70,26 @@ facts_at xs d (suc (suc (suc (suc (suc (suc zero)))))) h = refl
 facts_at xs d (suc (suc (suc (suc (suc (suc (suc zero))))))) h = refl
 facts_at xs d (suc (suc (suc (suc (suc (suc (suc (suc i)))))))) h = absurd (omega arith)
 
-few_written : (fs : List Fact) → Threes fs → length fs ≤ 8 → (event_of (written fs)).count ≡ length fs
-unfolding event_of count_of
-few_written fs t h = omega (arith, written_length fs t)
-
 eight : (xs : List ℕ) → length (event_of xs).facts ≡ 8
 unfolding event_of
 eight xs = refl
+
+counted : (xs : List ℕ) → count_of xs ≡ (event_of xs).count
+unfolding event_of
+counted xs = refl
+
+-- an event that is read fact by fact
+pub event_read : (xs : List ℕ) (n : ℕ) (fs : List Fact) → n ≡ count_of xs → length fs ≡ 8 → ((d : Fact) (k : ℕ) → k < 8 → get_or fs k d ≡ fact_at xs k)
+    → ◌≡◌ {A = Event} (record { count = n; facts = fs }) (event_of xs)
+event_read xs n fs h l g =
+    let d : Fact = record { predicate = 0; count = 0; values = [] } in
+    let e : fs ≡ (event_of xs).facts = ext_get_or d fs (event_of xs).facts (l ∙ sym (eight xs)) (λ k q. g d k (omega arith) ∙ sym (facts_at xs d k (omega arith))) in
+    let c : n ≡ (event_of xs).count = h ∙ counted xs in
+    λ i. record { count = c i; facts = e i }
+
+few_written : (fs : List Fact) → Threes fs → length fs ≤ 8 → (event_of (written fs)).count ≡ length fs
+unfolding event_of count_of
+few_written fs t h = omega (arith, written_length fs t)
 
 -- up to eight facts that are written are the facts of the event
 pub written_given : (fs : List Fact) → Threes fs → length fs ≤ 8 → given (event_of (written fs)) ≡ fs

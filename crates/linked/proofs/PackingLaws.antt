@@ -1,143 +1,75 @@
 -- Laws of how a state, an answer and what looking a value up tells are laid out as numbers. Assumes nothing.
-use Prim.Native.Nat.{ℕ, ◌+◌, ◌≤◌}
+use Prim.Native.Nat.{ℕ, ◌≤◌}
 use mathlib.Core.Path.{◌≡◌, refl, ap, sym, ◌∙◌}
-use mathlib.Core.Bool.{Bool}
+use mathlib.Core.Bool.{Bool, true, false}
 use mathlib.Core.List.{List, [], ◌∷◌, ◌++◌, append-nil, append_assoc}
 use native.Mathlib.Omega.{arith}
-use lib.ListN.{length, get_or, take, drop, set, replicate, length-append, length-drop, take-append-drop, drop_of_length-le}
-use lib.Seq.{length-take-le, take_all, take_at, drop_at, drop-drop}
+use lib.ListN.{length, get_or, take, drop, set, length-append, length-drop, take-append-drop, drop_of_length-le}
+use lib.Seq.{take_all, take_at, drop_at, drop-drop}
 use Rattle.meaning.specs.declared.State.{State}
 use Rattle.meaning.specs.declared.Answer.{Answer}
 use Rattle.meaning.specs.declared.Answer.TheVariants.{Started, Verdict, Refused}
 use Rattle.monitor.specs.declared.Figures.{Figures}
-use Rattle.monitor.specs.Said.{whole}
-use Rattle.linked.specs.Packing.{packed_state, figures_of, references_of, sizes_in, unpacked_state, bit, first_six, packed_answer}
+use Rattle.monitor.specs.Said.{whole, figures_of as figures}
+use Rattle.linked.specs.Packing.{packed_state, figures_of, references_of, sizes_in, unpacked_state, bit, first_four, first_six, packed_answer}
+use Rattle.std.specs.Int.{from_bool}
+use borrow.Rule.Slice.PartMut.{put_mid}
 
--- six numbers written one after the other
-pub six_are : (xs : List ℕ) (a b c d e f : ℕ) → length xs ≡ 6 → set (set (set (set (set (set xs 0 a) 1 b) 2 c) 3 d) 4 e) 5 f ≡ a ∷ b ∷ c ∷ d ∷ e ∷ f ∷ []
-six_are [] a b c d e f h = absurd (omega arith)
-six_are (x ∷ []) a b c d e f h = absurd (omega arith)
-six_are (x ∷ y ∷ []) a b c d e f h = absurd (omega arith)
-six_are (x ∷ y ∷ z ∷ []) a b c d e f h = absurd (omega arith)
-six_are (x ∷ y ∷ z ∷ w ∷ []) a b c d e f h = absurd (omega arith)
-six_are (x ∷ y ∷ z ∷ w ∷ v ∷ []) a b c d e f h = absurd (omega arith)
-six_are (x ∷ y ∷ z ∷ w ∷ v ∷ u ∷ []) a b c d e f h = refl
-six_are (x ∷ y ∷ z ∷ w ∷ v ∷ u ∷ t ∷ xs) a b c d e f h = absurd (omega arith)
+-- yes is 1 and no is 0
+pub bit_is : (y : Bool) → from_bool y ≡ bit y
+unfolding bit
+bit_is true = refl
+bit_is false = refl
 
--- a verdict written as six numbers
-pub verdict_put : (xs : List ℕ) (a : Answer) (y : Bool) (b kept room complements swept : ℕ) → xs ≡ 0 ∷ b ∷ kept ∷ room ∷ complements ∷ swept ∷ [] → b ≡ bit y → a ≡ Verdict y kept room
-    → xs ≡ first_six a complements swept
-unfolding first_six
-verdict_put xs a y b kept room complements swept p q e = p ∙ rw (q, e) refl
+-- the ten numbers of an answer, one after the other
+pub answer_packed : (a : Answer) (complements swept : ℕ) (ns first : List ℕ) → length ns ≡ 4 → first ≡ first_four a
+    → get_or first 0 0 ∷ get_or first 1 0 ∷ get_or first 2 0 ∷ get_or first 3 0 ∷ complements ∷ swept ∷ get_or ns 0 0 ∷ get_or ns 1 0 ∷ get_or ns 2 0 ∷ get_or ns 3 0 ∷ [] ≡ packed_answer a complements swept ns
+unfolding first_four first_six packed_answer
+answer_packed Started c s (p ∷ q ∷ r ∷ t ∷ []) first h e = rw e refl
+answer_packed (Verdict y kept room) c s (p ∷ q ∷ r ∷ t ∷ []) first h e = rw e refl
+answer_packed (Refused n o) c s (p ∷ q ∷ r ∷ t ∷ []) first h e = rw e refl
+answer_packed a c s [] first h e = absurd (omega arith)
+answer_packed a c s (p ∷ []) first h e = absurd (omega arith)
+answer_packed a c s (p ∷ q ∷ []) first h e = absurd (omega arith)
+answer_packed a c s (p ∷ q ∷ r ∷ []) first h e = absurd (omega arith)
+answer_packed a c s (p ∷ q ∷ r ∷ t ∷ x ∷ xs) first h e = absurd (omega arith)
 
 -- nothing of d is left where a list of its length is written over it
-pub all_over : (d s : List ℕ) (n : ℕ) → length d ≤ n → s ++ drop n d ≡ s
+all_over : (d s : List ℕ) (n : ℕ) → length d ≤ n → s ++ drop n d ≡ s
 all_over d s n h = rw (drop_of_length-le d h, append-nil) refl
 
--- an answer's first six numbers are six
-six_length : (a : Answer) (complements swept : ℕ) → length (first_six a complements swept) ≡ 6
-unfolding first_six
-six_length Started complements swept = refl
-six_length (Verdict y kept room) complements swept = refl
-six_length (Refused n p) complements swept = refl
-
--- an answer written over 10 numbers: six, and four behind them
-pub answer_written : (a : Answer) (complements swept : ℕ) (ns xs first ys zs : List ℕ) → length xs ≡ 10 → length ns ≡ 4 → first ≡ first_six a complements swept
-    → ys ≡ first ++ drop 6 xs → zs ≡ take 6 ys ++ ns ++ drop (6 + length ns) ys → zs ≡ packed_answer a complements swept ns
-unfolding packed_answer
-answer_written a complements swept ns xs first ys zs h n e p q =
-    let l : length first ≡ 6 = ap length e ∙ six_length a complements swept in
-    let t : take 6 ys ≡ first = ap (take 6) p ∙ take_at first (drop 6 xs) 6 l in
-    let k : length ys ≤ 6 + length ns = let z = length-append first (drop 6 xs) in let w = length-drop 6 xs in let v = ap length p in omega arith in
-    q ∙ (all_over ys (take 6 ys ++ ns) (6 + length ns) k ∙ rw (t, e) refl)
-
--- two numbers written one after the other
-pub two_are : (xs : List ℕ) (a b : ℕ) → length xs ≡ 2 → set (set xs 0 a) 1 b ≡ a ∷ b ∷ []
-two_are [] a b h = absurd (omega arith)
-two_are (x ∷ []) a b h = absurd (omega arith)
-two_are (x ∷ y ∷ []) a b h = refl
-two_are (x ∷ y ∷ z ∷ xs) a b h = absurd (omega arith)
-
 -- a list written behind a front, over what stood there
-behind : (front rest s ys zs : List ℕ) (n : ℕ) → length front ≡ n → ys ≡ front ++ rest → zs ≡ take n ys ++ s ++ drop (n + length s) ys → zs ≡ front ++ s ++ drop (length s) rest
-behind front rest s ys zs n h p q =
-    let a : take n ys ≡ front = ap (take n) p ∙ take_at front rest n h in
-    let b : drop (n + length s) ys ≡ drop (length s) rest = sym (drop-drop (length s) n ys) ∙ ap (λ (l : List ℕ). drop (length s) (drop n l)) p ∙ ap (drop (length s)) (drop_at front rest n h) in
-    q ∙ rw (a, b) refl
+behind : (front rest s xs : List ℕ) (n k : ℕ) → length front ≡ n → xs ≡ front ++ rest → put_mid n k xs s ≡ (front ++ s) ++ drop k rest
+behind front rest s xs n k h q =
+    let a : take n xs ≡ front = ap (take n) q ∙ take_at front rest n h in
+    let b : drop n xs ≡ rest = ap (drop n) q ∙ drop_at front rest n h in
+    rw (a, b) (sym (append_assoc front s (drop k rest)))
 
 -- counts written behind three numbers, references behind those, and sizes behind those, over 132 numbers
-behind_three : (a b c : ℕ) (xs cs rs zs us vs ws : List ℕ) → length xs ≡ 132 → length cs ≡ 4 → length rs ≡ 64 → length zs ≡ 64
-    → us ≡ take 3 (a ∷ b ∷ c ∷ xs) ++ cs ++ drop (3 + length cs) (a ∷ b ∷ c ∷ xs)
-    → vs ≡ take 7 us ++ rs ++ drop (7 + length rs) us
-    → ws ≡ take 71 vs ++ zs ++ drop (71 + length zs) vs
-    → ws ≡ a ∷ b ∷ c ∷ (cs ++ (rs ++ zs))
-behind_three a b c xs cs rs zs us vs ws h hc hr hz p q r =
+behind_three : (a b c : ℕ) (xs cs rs zs : List ℕ) → length xs ≡ 132 → length cs ≡ 4 → length rs ≡ 64 → length zs ≡ 64
+    → put_mid 71 64 (put_mid 7 64 (put_mid 3 4 (a ∷ b ∷ c ∷ xs) cs) rs) zs ≡ a ∷ b ∷ c ∷ (cs ++ (rs ++ zs))
+behind_three a b c xs cs rs zs h hc hr hz =
     let f : List ℕ = a ∷ b ∷ c ∷ [] in
-    let p' : us ≡ (f ++ cs) ++ drop (length cs) xs = behind f xs cs (a ∷ b ∷ c ∷ xs) us 3 refl refl p in
-    let q' : vs ≡ ((f ++ cs) ++ rs) ++ drop (length rs) (drop (length cs) xs) = behind (f ++ cs) (drop (length cs) xs) rs us vs 7 (simp length-append (omega arith)) p' q in
-    let r' : ws ≡ (((f ++ cs) ++ rs) ++ zs) ++ drop (length zs) (drop (length rs) (drop (length cs) xs)) =
-    behind ((f ++ cs) ++ rs) (drop (length rs) (drop (length cs) xs)) zs vs ws 71 (simp length-append (omega arith)) q' r in
-    let e : length (drop (length rs) (drop (length cs) xs)) ≤ length zs = simp length-drop (omega arith) in
-    r'
-    ∙ all_over (drop (length rs) (drop (length cs) xs)) (((f ++ cs) ++ rs) ++ zs) (length zs) e
-    ∙ append_assoc (f ++ cs) rs zs
+    let p : put_mid 3 4 (a ∷ b ∷ c ∷ xs) cs ≡ (f ++ cs) ++ drop 4 xs = behind f xs cs (a ∷ b ∷ c ∷ xs) 3 4 refl refl in
+    let q : put_mid 7 64 (put_mid 3 4 (a ∷ b ∷ c ∷ xs) cs) rs ≡ ((f ++ cs) ++ rs) ++ drop 64 (drop 4 xs) =
+    behind (f ++ cs) (drop 4 xs) rs (put_mid 3 4 (a ∷ b ∷ c ∷ xs) cs) 7 64 (simp length-append (omega arith)) p in
+    let r : put_mid 71 64 (put_mid 7 64 (put_mid 3 4 (a ∷ b ∷ c ∷ xs) cs) rs) zs ≡ (((f ++ cs) ++ rs) ++ zs) ++ drop 64 (drop 64 (drop 4 xs)) =
+    behind ((f ++ cs) ++ rs) (drop 64 (drop 4 xs)) zs (put_mid 7 64 (put_mid 3 4 (a ∷ b ∷ c ∷ xs) cs) rs) 71 64 (simp length-append (omega arith)) q in
+    let e : length (drop 64 (drop 4 xs)) ≤ 64 = simp length-drop (omega arith) in
+    r ∙ all_over (drop 64 (drop 4 xs)) (((f ++ cs) ++ rs) ++ zs) 64 e ∙ append_assoc (f ++ cs) rs zs
 
 -- a state written over 135 numbers
-pub state_written : (s : State) (xs ys zs us : List ℕ) → length xs ≡ 135 → length s.counts ≡ 4 → length s.refs ≡ 64 → length s.sizes ≡ 64
-    → ys ≡ take 3 (set (set (set xs 0 s.k) 1 s.rows) 2 s.kept) ++ s.counts ++ drop (3 + length s.counts) (set (set (set xs 0 s.k) 1 s.rows) 2 s.kept)
-    → zs ≡ take 7 ys ++ s.refs ++ drop (7 + length s.refs) ys
-    → us ≡ take 71 zs ++ s.sizes ++ drop (71 + length s.sizes) zs
-    → us ≡ packed_state s
+pub state_written : (s : State) (xs : List ℕ) → length xs ≡ 135 → length s.counts ≡ 4 → length s.refs ≡ 64 → length s.sizes ≡ 64
+    → put_mid 71 64 (put_mid 7 64 (put_mid 3 4 (set (set (set xs 0 s.k) 1 s.rows) 2 s.kept) s.counts) s.refs) s.sizes ≡ packed_state s
 unfolding packed_state
-state_written s [] ys zs us h hc hr hz p q r = absurd (omega arith)
-state_written s (x ∷ []) ys zs us h hc hr hz p q r = absurd (omega arith)
-state_written s (x ∷ y ∷ []) ys zs us h hc hr hz p q r = absurd (omega arith)
-state_written s (x ∷ y ∷ z ∷ xs) ys zs us h hc hr hz p q r = behind_three s.k s.rows s.kept xs s.counts s.refs s.sizes ys zs us (omega arith) hc hr hz p q r
+state_written s [] h hc hr hz = absurd (omega arith)
+state_written s (x ∷ []) h hc hr hz = absurd (omega arith)
+state_written s (x ∷ y ∷ []) h hc hr hz = absurd (omega arith)
+state_written s (x ∷ y ∷ z ∷ xs) h hc hr hz = behind_three s.k s.rows s.kept xs s.counts s.refs s.sizes (omega arith) hc hr hz
 
--- a list written over one of its length
-over : (d s r : List ℕ) → length d ≡ length s → r ≡ take 0 d ++ s ++ drop (0 + length s) d → r ≡ s
-over d s r h e = e ∙ all_over d s (0 + length s) (omega arith)
-
--- the figures read from 135 numbers
-pub figures_read : (xs cs : List ℕ) → length xs ≡ 135 → cs ≡ take 0 (replicate 4 0) ++ take 4 (drop 3 xs) ++ drop (0 + length (take 4 (drop 3 xs))) (replicate 4 0)
-    → ◌≡◌ {A = Figures} (record { k = get_or xs 0 0; rows = get_or xs 1 0; kept = get_or xs 2 0; counts = cs }) (figures_of xs)
-unfolding figures_of
-figures_read xs cs h p =
-    let a : cs ≡ take 4 (drop 3 xs) = over (replicate 4 0) (take 4 (drop 3 xs)) cs (sym (length-take-le 4 (drop 3 xs) (simp length-drop (omega arith)))) p in
-    λ i. record { k = get_or xs 0 0; rows = get_or xs 1 0; kept = get_or xs 2 0; counts = a i }
-
--- 64 numbers from place n on
-block_read : (n : ℕ) (xs rs : List ℕ) → n + 64 ≤ length xs → rs ≡ take 0 (replicate 64 0) ++ take 64 (drop n xs) ++ drop (0 + length (take 64 (drop n xs))) (replicate 64 0) → rs ≡ take 64 (drop n xs)
-block_read n xs rs h q = over (replicate 64 0) (take 64 (drop n xs)) rs (sym (length-take-le 64 (drop n xs) (simp length-drop (omega arith)))) q
-
--- the references
-pub references_read : (xs rs : List ℕ) → length xs ≡ 135 → rs ≡ take 0 (replicate 64 0) ++ take 64 (drop 7 xs) ++ drop (0 + length (take 64 (drop 7 xs))) (replicate 64 0)
-    → rs ≡ references_of xs
-unfolding references_of
-references_read xs rs h q = block_read 7 xs rs (omega arith) q
-
--- the sizes
-pub sizes_read : (xs zs : List ℕ) → length xs ≡ 135 → zs ≡ take 0 (replicate 64 0) ++ take 64 (drop 71 xs) ++ drop (0 + length (take 64 (drop 71 xs))) (replicate 64 0) → zs ≡ sizes_in xs
-unfolding sizes_in
-sizes_read xs zs h q = block_read 71 xs zs (omega arith) q
-
--- a state read in three parts
-pub state_read : (xs : List ℕ) (f : Figures) (rs zs : List ℕ) → f ≡ figures_of xs → rs ≡ references_of xs → zs ≡ sizes_in xs → whole f rs zs ≡ unpacked_state xs
-unfolding unpacked_state
-state_read xs f rs zs p q r = rw (p, q, r) refl
-
--- it has four counts, 64 references and 64 sizes
-pub four_counts : (xs : List ℕ) (f : Figures) → length xs ≡ 135 → f ≡ figures_of xs → length f.counts ≡ 4
-unfolding figures_of
-four_counts xs f h e = ap (λ (y : Figures). length y.counts) e ∙ length-take-le 4 (drop 3 xs) (simp length-drop (omega arith))
-
-pub many_references : (xs rs : List ℕ) → length xs ≡ 135 → rs ≡ references_of xs → length rs ≡ 64
-unfolding references_of
-many_references xs rs h e = ap length e ∙ length-take-le 64 (drop 7 xs) (simp length-drop (omega arith))
-
-pub many_sizes : (xs zs : List ℕ) → length xs ≡ 135 → zs ≡ sizes_in xs → length zs ≡ 64
-unfolding sizes_in
-many_sizes xs zs h e = ap length e ∙ length-take-le 64 (drop 71 xs) (simp length-drop (omega arith))
+-- a state is its figures, its references and its sizes
+pub state_same : (s : State) (f : Figures) → f ≡ figures s → whole f s.refs s.sizes ≡ s
+state_same s f e = ap (λ (x : Figures). whole x s.refs s.sizes) e
 
 -- what is read from a packed state is the state
 pub unpack_pack : (s : State) → length s.counts ≡ 4 → length s.refs ≡ 64 → length s.sizes ≡ 64 → unpacked_state (packed_state s) ≡ s

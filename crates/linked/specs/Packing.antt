@@ -38,6 +38,12 @@ first_six Started complements swept = 0 ∷ 0 ∷ 0 ∷ 0 ∷ complements ∷ sw
 first_six (Verdict y kept room) complements swept = 0 ∷ bit y ∷ kept ∷ room ∷ complements ∷ swept ∷ []
 first_six (Refused n p) complements swept = n ∷ p ∷ 0 ∷ 0 ∷ complements ∷ swept ∷ []
 
+-- the first 4 of them, before the visits
+unfoldable pub first_four : Answer → List ℕ
+first_four Started = 0 ∷ 0 ∷ 0 ∷ 0 ∷ []
+first_four (Verdict y kept room) = 0 ∷ bit y ∷ kept ∷ room ∷ []
+first_four (Refused n p) = n ∷ p ∷ 0 ∷ 0 ∷ []
+
 -- An answer is 10 numbers: behind those it has, for each variable, how many values were newly numbered.
 unfoldable pub packed_answer : Answer → ℕ → ℕ → List ℕ → List ℕ
 packed_answer a complements swept numbered = first_six a complements swept ++ numbered

@@ -8,10 +8,7 @@ use meaning::{Event, Fact, Value};
 fn number_at(numbers: &[u32], i: usize) -> u32
     ensures { result ≡ get_or numbers.now i 0 }
 {
-    if i < numbers.len() {
-        return numbers[i];
-    }
-    0
+    numbers.get(i).copied().unwrap_or(0)
 }
 
 // The fact at place `i`.
@@ -34,27 +31,17 @@ fn fact_at(numbers: &[u32], i: usize) -> Fact
 fn count_of(numbers: &[u32]) -> u32
     ensures { result ≡ count_of numbers.now }
 {
-    let n = numbers.len() / 5;
-    if 8 < n {
-        return 9;
-    }
-    n as u32
+    (numbers.len() / 5).min(9) as u32
 }
 
 // The event of these facts.
 pub fn event(numbers: &[u32]) -> Event
     ensures { result ≡ event_of numbers.now }
 {
-    let facts = [
-        fact_at(numbers, 0),
-        fact_at(numbers, 1),
-        fact_at(numbers, 2),
-        fact_at(numbers, 3),
-        fact_at(numbers, 4),
-        fact_at(numbers, 5),
-        fact_at(numbers, 6),
-        fact_at(numbers, 7),
-    ];
+    let mut facts = [fact_at(numbers, 0); 8];
+    for i in 0..8 {
+        facts[i] = fact_at(numbers, i);
+    }
     Event {
         count: count_of(numbers),
         facts,

@@ -28,19 +28,8 @@ pub fn moheguzari_start(
         return false;
     }
     let turn = monitor::start(k, rows, nodes, values);
-    let after = turn.state;
-    let told = turn.answer;
-    let counts = after.counts;
-    let refs = after.refs;
-    let sizes = after.sizes;
-    let figures = Figures {
-        k: after.k,
-        rows: after.rows,
-        kept: after.kept,
-        counts,
-    };
-    packing::pack(figures, refs, sizes, state);
-    packing::put(told, 0, 0, [0; 4], answer);
+    packing::pack(turn.state, state);
+    answer.copy_from_slice(&packing::answered(turn.answer, 0, 0, [0; 4]));
     true
 }
 
@@ -66,18 +55,17 @@ pub fn moheguzari_event(
     if answer.len() != 10 {
         return false;
     }
-    let before = packing::figures(state);
-    let mut refs = packing::references(state);
-    let mut sizes = packing::sizes(state);
+    let before = packing::unpack(state);
+    let mut refs = before.refs;
+    let mut sizes = before.sizes;
+    let figures = Figures::of(&before);
     let event = happening::event(facts);
     let said = monitor::event_on(
-        before, &mut refs, &mut sizes, rows, nodes, values, work, event,
+        figures, &mut refs, &mut sizes, rows, nodes, values, work, event,
     );
-    let after = said.figures;
-    let told = said.answer;
-    packing::pack(after, refs, sizes, state);
-    let numbered = said.numbered;
-    packing::put(told, said.complements, said.swept, numbered, answer);
+    packing::pack(said.figures.with(refs, sizes), state);
+    let written = packing::answered(said.answer, said.complements, said.swept, said.numbered);
+    answer.copy_from_slice(&written);
     true
 }
 
@@ -98,9 +86,8 @@ pub fn moheguzari_lookup(
     if answer.len() != 2 {
         return false;
     }
-    let figures = packing::figures(state);
-    let counts = figures.counts;
-    let found = numbers::look_up(figures.k, counts, values, variable, Value(value));
-    packing::put_found(found, answer);
+    let before = packing::unpack(state);
+    let found = numbers::look_up(before.k, before.counts, values, variable, Value(value));
+    answer.copy_from_slice(&packing::told(found));
     true
 }

@@ -1,132 +1,79 @@
 // How a state, an answer and what looking a value up tells are written as numbers, and a state is read back.
-ghost use Rattle.std.specs.Prelude.{◌≡◌, ◌+◌, ◌≤◌, [], ◌∷◌, ◌++◌, length, take, drop};
-ghost use Rattle.monitor.specs.Said.{whole};
-ghost use Rattle.linked.specs.Packing.{packed_state, figures_of, references_of, sizes_in, bit, first_six, packed_answer, packed_lookup};
+ghost use Rattle.std.specs.Prelude.{◌≡◌, ◌+◌, ◌≤◌, length, take, drop};
+ghost use Rattle.linked.specs.Packing.{packed_state, unpacked_state, first_four, packed_answer, packed_lookup};
 
-use meaning::Answer;
-use monitor::Figures;
+use meaning::{Answer, State};
 use numbers::Lookup;
 
-// Writes all of `from` into `to`, from place `at` on.
-fn copy(from: &[u32], to: &mut [u32], at: usize)
-    requires { at + length from.now ≤ length to.old }
-    ensures { to.new ≡ take at to.old ++ from.now ++ drop (at + length from.now) to.old }
+// The N numbers from place `at` on.
+fn part<const N: usize>(numbers: &[u32], at: usize) -> [u32; N]
+    requires { at + N ≤ length numbers.now }
+    ensures { result ≡ take N (drop at numbers.now) }
 {
-    for i in 0..from.len() {
-        to[at + i] = from[i];
-    }
+    let mut part = [0; N];
+    part.copy_from_slice(&numbers[at..at + N]);
+    part
 }
 
-// The figures of the state that 135 numbers are.
-pub fn figures(numbers: &[u32]) -> Figures
+// The state that 135 numbers are.
+pub fn unpack(numbers: &[u32]) -> State
     requires { length numbers.now ≡ 135 }
-    ensures { result ≡ figures_of numbers.now }
+    ensures { result ≡ unpacked_state numbers.now }
 {
-    let mut counts = [0; 4];
-    copy(&numbers[3..7], &mut counts, 0);
-    Figures {
+    let counts = part(numbers, 3);
+    let refs = part(numbers, 7);
+    let sizes = part(numbers, 71);
+    State {
         k: numbers[0],
         rows: numbers[1],
         kept: numbers[2],
         counts,
+        refs,
+        sizes,
     }
-}
-
-// Its references.
-pub fn references(numbers: &[u32]) -> [u32; 64]
-    requires { length numbers.now ≡ 135 }
-    ensures { result ≡ references_of numbers.now }
-{
-    let mut refs = [0; 64];
-    copy(&numbers[7..71], &mut refs, 0);
-    refs
-}
-
-// Its sizes.
-pub fn sizes(numbers: &[u32]) -> [u32; 64]
-    requires { length numbers.now ≡ 135 }
-    ensures { result ≡ sizes_in numbers.now }
-{
-    let mut sizes = [0; 64];
-    copy(&numbers[71..135], &mut sizes, 0);
-    sizes
 }
 
 // Writes a state as 135 numbers: its figures, its references, and then its sizes.
-pub fn pack(figures: Figures, refs: [u32; 64], sizes: [u32; 64], numbers: &mut [u32])
+pub fn pack(state: State, numbers: &mut [u32])
     requires { length numbers.old ≡ 135 }
-    ensures { numbers.new ≡ packed_state (whole figures refs sizes) }
+    ensures { numbers.new ≡ packed_state state }
 {
-    numbers[0] = figures.k;
-    numbers[1] = figures.rows;
-    numbers[2] = figures.kept;
-    let counts = figures.counts;
-    copy(&counts, numbers, 3);
-    copy(&refs, numbers, 7);
-    copy(&sizes, numbers, 71);
+    numbers[0] = state.k;
+    numbers[1] = state.rows;
+    numbers[2] = state.kept;
+    numbers[3..7].copy_from_slice(&state.counts);
+    numbers[7..71].copy_from_slice(&state.refs);
+    numbers[71..135].copy_from_slice(&state.sizes);
 }
 
-// 1 for yes and 0 for no.
-fn bit_of(yes: bool) -> u32
-    ensures { result ≡ bit yes }
-{
-    if yes { 1 } else { 0 }
-}
-
-// Writes six numbers.
-fn six(numbers: &mut [u32], a: u32, b: u32, c: u32, d: u32, e: u32, f: u32)
-    requires { length numbers.old ≡ 6 }
-    ensures { numbers.new ≡ a ∷ b ∷ c ∷ d ∷ e ∷ f ∷ [] }
-{
-    numbers[0] = a;
-    numbers[1] = b;
-    numbers[2] = c;
-    numbers[3] = d;
-    numbers[4] = e;
-    numbers[5] = f;
-}
-
-// Writes the first 6 numbers of an answer, the visits of the complements and of the sweep last.
-fn put_six(answer: Answer, complements: u32, swept: u32, numbers: &mut [u32])
-    requires { length numbers.old ≡ 6 }
-    ensures { numbers.new ≡ first_six answer complements swept }
+// The first 4 numbers of an answer.
+fn first_four(answer: Answer) -> [u32; 4]
+    ensures { result ≡ first_four answer }
 {
     match answer {
-        Answer::Started => six(numbers, 0, 0, 0, 0, complements, swept),
-        Answer::Verdict(yes, kept, room) => {
-            six(numbers, 0, bit_of(yes), kept, room, complements, swept)
-        }
-        Answer::Refused(number, place) => six(numbers, number, place, 0, 0, complements, swept),
+        Answer::Started => [0, 0, 0, 0],
+        Answer::Verdict(yes, kept, room) => [0, u32::from(yes), kept, room],
+        Answer::Refused(number, place) => [number, place, 0, 0],
     }
 }
 
-// Writes an answer as 10 numbers, the counts of newly numbered values last.
-pub fn put(answer: Answer, complements: u32, swept: u32, numbered: [u32; 4], numbers: &mut [u32])
-    requires { length numbers.old ≡ 10 }
-    ensures { numbers.new ≡ packed_answer answer complements swept numbered }
+// The 10 numbers of an answer: the visits of the complements and of the sweep behind its own, and the counts of newly numbered values last.
+pub fn answered(answer: Answer, complements: u32, swept: u32, numbered: [u32; 4]) -> [u32; 10]
+    ensures { result ≡ packed_answer answer complements swept numbered }
 {
-    put_six(answer, complements, swept, &mut numbers[0..6]);
-    copy(&numbered, numbers, 6);
+    let [a, b, c, d] = first_four(answer);
+    let [p, q, r, s] = numbered;
+    [a, b, c, d, complements, swept, p, q, r, s]
 }
 
-// Writes two numbers.
-fn two(numbers: &mut [u32], a: u32, b: u32)
-    requires { length numbers.old ≡ 2 }
-    ensures { numbers.new ≡ a ∷ b ∷ [] }
-{
-    numbers[0] = a;
-    numbers[1] = b;
-}
-
-// Writes what looking a value up tells as 2 numbers.
-pub fn put_found(found: Lookup, numbers: &mut [u32])
-    requires { length numbers.old ≡ 2 }
-    ensures { numbers.new ≡ packed_lookup found }
+// The 2 numbers of what looking a value up tells.
+pub fn told(found: Lookup) -> [u32; 2]
+    ensures { result ≡ packed_lookup found }
 {
     match found {
-        Lookup::Has(n) => two(numbers, 0, n.0),
-        Lookup::OneLeft => two(numbers, 1, 0),
-        Lookup::NoneLeft => two(numbers, 2, 0),
-        Lookup::Misfit => two(numbers, 3, 0),
+        Lookup::Has(n) => [0, n.0],
+        Lookup::OneLeft => [1, 0],
+        Lookup::NoneLeft => [2, 0],
+        Lookup::Misfit => [3, 0],
     }
 }
