@@ -18,8 +18,8 @@ use Rattle.meaning.specs.Step.{arguments_say}
 use Rattle.meaning.proofs.RowsLaws.{ArgumentsOk}
 use Rattle.meaning.proofs.AskingLaws.{has_place, Asked, InLists}
 use Rattle.meaning.proofs.Simulation.{Enough}
-use Rattle.making.specs.declared.Place.{Place}
-use Rattle.making.specs.declared.Place.TheVariants.{Any, Is}
+use Rattle.std.specs.Prelude.{Option, Some, None}
+use Rattle.making.specs.declared.Number.{Number}
 use Rattle.making.specs.Cubes.{place_says, cube_says}
 use Rattle.instructions.specs.Plan.{place_of}
 
@@ -52,16 +52,16 @@ four_with f g v true h e o c = four_same f g λ w. go w (eqb w v) (eq_case w v)
 
 -- a variable that repeats has one number
 repeat_place : (L : Lists) (v y : ℕ) (gs : List Argument) (ys : List ℕ) → repeats v y gs ys ≡ true
-    → (place_of L v gs ys ≡ Any) ⊎ (place_of L v gs ys ≡ Is (record { 0 = place (L v) y }))
+    → (place_of L v gs ys ≡ None) ⊎ (place_of L v gs ys ≡ Some (record { 0 = place (L v) y }))
 unfolding repeats place_of
 repeat_place L v y [] ys h = inl refl
 repeat_place L v y (g ∷ gs) [] h = inl refl
 repeat_place L v y (variable w ∷ gs) (z ∷ ys) h = go (eqb v w) (eqb w v) (eq_case v w) (eq_case w v) h (repeat_place L v y gs ys)
   where
     go : (t u : Bool) → EqCase v w t → EqCase w v u → ((not t || eqb y z) && repeats v y gs ys) ≡ true
-        → (repeats v y gs ys ≡ true → (place_of L v gs ys ≡ Any) ⊎ (place_of L v gs ys ≡ Is (record { 0 = place (L v) y })))
-        → (cond u (Is (record { 0 = place (L v) z })) (place_of L v gs ys) ≡ Any) ⊎ (cond u (Is (record { 0 = place (L v) z })) (place_of L v gs ys) ≡ Is (record { 0 = place (L v) y }))
-    go true true a b q later = inr (ap (λ (x : ℕ). Is (record { 0 = place (L v) x })) (sym (eqb-true y z (and_true_l (eqb y z) (repeats v y gs ys) q))))
+        → (repeats v y gs ys ≡ true → (place_of L v gs ys ≡ None) ⊎ (place_of L v gs ys ≡ Some (record { 0 = place (L v) y })))
+        → (cond u (Some (record { 0 = place (L v) z })) (place_of L v gs ys) ≡ None) ⊎ (cond u (Some (record { 0 = place (L v) z })) (place_of L v gs ys) ≡ Some (record { 0 = place (L v) y }))
+    go true true a b q later = inr (ap (λ (x : ℕ). Some (record { 0 = place (L v) x })) (sym (eqb-true y z (and_true_l (eqb y z) (repeats v y gs ys) q))))
     go true false (equal a) (other b) q later = absurd (b (sym a))
     go false true (other a) (equal b) q later = absurd (a (sym b))
     go false false a b q later = later q
@@ -85,10 +85,10 @@ module _ (k : ℕ) (L : Lists) (enough : Enough k L) (s : Bits) where
       rw (lt-ltb _ _ p, arguments_four gs ys o.1 i.1 (and_true_r (repeats v y gs ys) (fits gs ys) f))
       (four_with (at gs ys) (at (variable v ∷ gs) (y ∷ ys)) v (eqb (number s (v * k) k) (place (L v) y)) o.0
       (rw (eqb_same v, m)) (λ w q. go w (eqb v w) (eq_case v w) q)
-      (⊎_elim (λ e. inl (rw e)) (λ e. inr (ap (λ (x : Place). place_says (v * k) k x s) e ∙ ap (λ (x : ℕ). eqb (number s (v * k) k) x) m)) (repeat_place L v y gs ys (and_true_l (repeats v y gs ys) (fits gs ys) f))))
+      (⊎_elim (λ e. inl (rw e)) (λ e. inr (ap (λ (x : Option Number). place_says (v * k) k x s) e ∙ ap (λ (x : ℕ). eqb (number s (v * k) k) x) m)) (repeat_place L v y gs ys (and_true_l (repeats v y gs ys) (fits gs ys) f))))
     where
       go : (w : ℕ) (t : Bool) → EqCase v w t → w ≢ v
-          → place_says (w * k) k (cond t (Is (record { 0 = place (L w) y })) (place_of L w gs ys)) s ≡ place_says (w * k) k (place_of L w gs ys) s
+          → place_says (w * k) k (cond t (Some (record { 0 = place (L w) y })) (place_of L w gs ys)) s ≡ place_says (w * k) k (place_of L w gs ys) s
       go w true (equal e) q = absurd (q (sym e))
       go w false e q = refl
 

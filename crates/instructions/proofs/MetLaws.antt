@@ -17,8 +17,7 @@ use Rattle.meaning.specs.Step.{says_at, removals, removed, turns, atom_turns}
 use Rattle.meaning.proofs.RowsLaws.{ArgumentsOk, RowOk}
 use Rattle.meaning.proofs.AskingLaws.{DistinctL, Covered, CoveredBy}
 use Rattle.meaning.proofs.Simulation.{Enough}
-use Rattle.diagram.specs.declared.Turn.{Turn}
-use Rattle.diagram.specs.Steps.{turns_say, turn_stages, instruction_says, task_says, drop_stages, stages_of, task_stages}
+use Rattle.diagram.specs.Steps.{Turn, turns_say, turn_stages, instruction_says, task_says, drop_stages, stages_of, task_stages}
 use Rattle.instructions.specs.Plan.{turn_of, task_of}
 use Rattle.instructions.proofs.PlanLaws.{turns_say_law}
 use Rattle.instructions.proofs.InLaws.{In, in_l, in_r, in_split}

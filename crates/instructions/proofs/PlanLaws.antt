@@ -18,7 +18,7 @@ use Rattle.meaning.proofs.RowsLaws.{ArgumentsOk, RowOk, RowsOk}
 use Rattle.meaning.proofs.AskingLaws.{DistinctL, Covered, CoveredBy, Covers, covers_row, covers_rest}
 use Rattle.meaning.proofs.Simulation.{Enough, fits_of, says_matches}
 use Rattle.meaning.proofs.VerdictLaws.{some_assignment}
-use Rattle.diagram.specs.declared.Turn.TheVariants.{Miss, Hit}
+use Rattle.std.specs.Prelude.{Some, None}
 use Rattle.diagram.specs.declared.Instruction.TheVariants.{Yes}
 use Rattle.diagram.specs.Steps.{Task, does, says, turn_says, turns_say, instruction_says, task_says, with_row, new_trees}
 use Rattle.instructions.specs.Plan.{place_of, turn_of, task_of}
@@ -37,7 +37,7 @@ module _ (k : ℕ) (L : Lists) (distinct : DistinctL L) (enough : Enough k L) wh
   turn_says_law e p gs s o c = go (eqb e.predicate p) (fits gs e.values) refl refl
     where
       go : (t u : Bool) → eqb e.predicate p ≡ t → fits gs e.values ≡ u
-          → turn_says k (cond (t && u) (Hit (place_of L 0 gs e.values) (place_of L 1 gs e.values) (place_of L 2 gs e.values) (place_of L 3 gs e.values)) Miss) s
+          → turn_says k (cond (t && u) (Some (place_of L 0 gs e.values ∷ place_of L 1 gs e.values ∷ place_of L 2 gs e.values ∷ place_of L 3 gs e.values ∷ [])) None) s
           ≡ (t && arguments_say k L gs e.values s)
       go false u a b = refl
       go true true a b = cube_four k L enough s gs e.values ∙ sym (arguments_four k L enough s gs e.values o (c (rw (a, b))) b)

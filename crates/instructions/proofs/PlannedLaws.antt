@@ -16,10 +16,9 @@ use Rattle.meaning.specs.Outcome.{facts_of}
 use Rattle.meaning.proofs.RowsLaws.{rows_at, rows_length}
 use Rattle.numbers.specs.Matching.{matches_row}
 use Rattle.numbers.specs.Asking.{fact_at}
-use Rattle.diagram.specs.declared.Turn.{Turn}
-use Rattle.diagram.specs.declared.Turn.TheVariants.{Miss}
+use Rattle.std.specs.Prelude.{None}
 use Rattle.diagram.specs.declared.Instruction.TheVariants.{Yes}
-use Rattle.diagram.specs.Steps.{facts, does}
+use Rattle.diagram.specs.Steps.{Turn, facts, does}
 use Rattle.instructions.specs.Plan.{turn_of, task_of}
 use Rattle.instructions.specs.Read.{row_turn, is_atom, instruction_read}
 use Rattle.instructions.specs.Planned.{turns_to, asked, planned_to, planned}
@@ -54,11 +53,11 @@ module _ (raw : List ℕ) (e : Event) (given : List ℕ) where
 module _ (r : Row) (e : Event) (given : List ℕ) where
   pub turns_length : (n : ℕ) → length (turns_to r e given n) ≡ n
   unfolding turns_to
-  turns_length = grown_length Miss (λ f. row_turn r (matches_row (fact_at e f) r) given f) (turns_to r e given) refl (λ n. refl)
+  turns_length = grown_length None (λ f. row_turn r (matches_row (fact_at e f) r) given f) (turns_to r e given) refl (λ n. refl)
 
-  pub turns_at : (n f : ℕ) → f < n → get_or (turns_to r e given n) f Miss ≡ row_turn r (matches_row (fact_at e f) r) given f
+  pub turns_at : (n f : ℕ) → f < n → get_or (turns_to r e given n) f None ≡ row_turn r (matches_row (fact_at e f) r) given f
   unfolding turns_to
-  turns_at n f h = grown_at Miss (λ j. row_turn r (matches_row (fact_at e j) r) given j) (turns_to r e given) refl (λ n. refl) n f h
+  turns_at n f h = grown_at None (λ j. row_turn r (matches_row (fact_at e j) r) given j) (turns_to r e given) refl (λ n. refl) n f h
 
 -- lists of one length with the same at each place are one
 same_list : {A : Type 0} (none : A) (xs ys : List A) → length xs ≡ length ys → ((i : ℕ) → i < length xs → get_or xs i none ≡ get_or ys i none) → xs ≡ ys
@@ -77,10 +76,10 @@ module _ (e : Event) (given : List ℕ) (count : length (facts_of e) ≡ e.count
   turns_are : (p : ℕ) (gs : List Argument) → ((f : ℕ) → f < e.count → NumbersRight (fact_at e f) L (atom p gs) given f)
       → turns_to (atom p gs) e given e.count ≡ map (turn_of L p gs) (facts_of e)
   unfolding row_turn matches_row fact_at
-  turns_are p gs n = same_list Miss _ _ (turns_length (atom p gs) e given e.count ∙ sym count ∙ sym (length-map (facts_of e) (turn_of L p gs)))
+  turns_are p gs n = same_list None _ _ (turns_length (atom p gs) e given e.count ∙ sym count ∙ sym (length-map (facts_of e) (turn_of L p gs)))
       (λ f h. let l : f < e.count = omega (arith, turns_length (atom p gs) e given e.count) in
       turns_at (atom p gs) e given e.count f l ∙ turn_reads L given f (fact_at e f) p gs (n f l)
-      ∙ sym (map_at (record { predicate = 0; values = [] }) Miss (turn_of L p gs) (facts_of e) f (omega (arith, count))))
+      ∙ sym (map_at (record { predicate = 0; values = [] }) None (turn_of L p gs) (facts_of e) f (omega (arith, count))))
 
   -- what a row asks is what the plan has of it
   asks_task : (r : Row) → ((f : ℕ) → f < e.count → NumbersRight (fact_at e f) L r given f) → asked r e given ≡ task_of L (facts_of e) r

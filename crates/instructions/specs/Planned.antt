@@ -4,8 +4,7 @@ use Rattle.meaning.specs.declared.Event.{Event}
 use Rattle.meaning.specs.Rows.{Row, count_of_rows, row_at}
 use Rattle.numbers.specs.Matching.{matches_row}
 use Rattle.numbers.specs.Asking.{fact_at}
-use Rattle.diagram.specs.declared.Turn.{Turn}
-use Rattle.diagram.specs.Steps.{Task, facts, does}
+use Rattle.diagram.specs.Steps.{Turn, Task, facts, does}
 use Rattle.instructions.specs.Read.{row_turn, is_atom, instruction_read}
 
 -- what the first n facts add to a row, with the numbers of their values in a table

@@ -1,16 +1,13 @@
 -- `instruction` meets its contract: each kind of row by its own arm. Assumes nothing.
 use mathlib.Core.Path.{refl}
+use mathlib.Core.Logic.{⊎_elim}
 use Rattle.rule.specs.Decoded.{row_of}
 use Rattle.instructions.specs.Read.{instruction_read}
 use Rattle.instructions.proofs.instruction.Goals as goal
 
 pub returns-in-True : goal.returns-in-True
 unfolding row_of instruction_read
-returns-in-True c = rw c.in-True.is refl
-
-pub returns-in-Atom : goal.returns-in-Atom
-unfolding row_of instruction_read
-returns-in-Atom c = rw c.in-Atom.is refl
+returns-in-True c = ⊎_elim (λ e. rw e refl) (λ e. rw e.1 refl) c.in-True.is
 
 pub returns-in-And : goal.returns-in-And
 unfolding row_of instruction_read
