@@ -12,12 +12,10 @@ use Rattle.meaning.specs.Rows.{Row, truth, atom, both, neg, since, previous, exi
 use Rattle.meaning.specs.Outcome.{fact_of}
 use Rattle.numbers.specs.Matching.{matches_row}
 use Rattle.numbers.proofs.AskedLaws.{fact_is}
-use Rattle.making.specs.declared.Place.{Place}
-use Rattle.making.specs.declared.Place.TheVariants.{Any, Is}
+use Rattle.std.specs.Prelude.{Option, Some, None}
+use Rattle.making.specs.declared.Number.{Number}
 use Rattle.making.specs.Cubes.{given as has, SameShape}
-use Rattle.diagram.specs.declared.Turn.{Turn}
-use Rattle.diagram.specs.declared.Turn.TheVariants.{Miss}
-use Rattle.diagram.specs.Steps.{facts, does}
+use Rattle.diagram.specs.Steps.{Turn, facts, does}
 use Rattle.diagram.specs.Works.{Shaped}
 use Rattle.instructions.specs.Read.{names, number_read, place_read, turn_read, row_turn, is_atom, instruction_read}
 use Rattle.instructions.specs.Planned.{turns_to, asked}
@@ -29,12 +27,12 @@ unfolding place_read
 place_has v j [] numbers f h = refl
 place_has v j (g ∷ gs) numbers f h = go (names v g) (place_has v (suc j) gs numbers f h)
   where
-    go : (b : Bool) → has (place_read v (suc j) gs numbers f) ≡ has (place_read v (suc j) gs numbers h) → has (cond b (Is (number_read numbers f v j)) (place_read v (suc j) gs numbers f)) ≡ has (cond b (Is (number_read numbers h v j)) (place_read v (suc j) gs numbers h))
+    go : (b : Bool) → has (place_read v (suc j) gs numbers f) ≡ has (place_read v (suc j) gs numbers h) → has (cond b (Some (number_read numbers f v j)) (place_read v (suc j) gs numbers f)) ≡ has (cond b (Some (number_read numbers h v j)) (place_read v (suc j) gs numbers h))
     go true q = refl
     go false q = q
 
 -- the places of a row's variables, with the numbers of the first fact
-pub places : Row → List ℕ → List Place
+pub places : Row → List ℕ → List (Option Number)
 places truth numbers = []
 places (atom p gs) numbers = place_read 0 0 gs numbers 0 ∷ place_read 1 0 gs numbers 0 ∷ place_read 2 0 gs numbers 0 ∷ place_read 3 0 gs numbers 0 ∷ []
 places (both l r) numbers = []
@@ -49,8 +47,8 @@ shape : (gs : List Argument) (numbers : List ℕ) (f : ℕ)
 shape gs numbers f = record { each = go }
   where
     go : (v : ℕ) → v < 4
-        → has (get_or (place_read 0 0 gs numbers 0 ∷ place_read 1 0 gs numbers 0 ∷ place_read 2 0 gs numbers 0 ∷ place_read 3 0 gs numbers 0 ∷ []) v Any)
-        ≡ has (get_or (place_read 0 0 gs numbers f ∷ place_read 1 0 gs numbers f ∷ place_read 2 0 gs numbers f ∷ place_read 3 0 gs numbers f ∷ []) v Any)
+        → has (get_or (place_read 0 0 gs numbers 0 ∷ place_read 1 0 gs numbers 0 ∷ place_read 2 0 gs numbers 0 ∷ place_read 3 0 gs numbers 0 ∷ []) v None)
+        ≡ has (get_or (place_read 0 0 gs numbers f ∷ place_read 1 0 gs numbers f ∷ place_read 2 0 gs numbers f ∷ place_read 3 0 gs numbers f ∷ []) v None)
     go zero h = place_has 0 0 gs numbers 0 f
     go (suc zero) h = place_has 1 0 gs numbers 0 f
     go (suc (suc zero)) h = place_has 2 0 gs numbers 0 f
@@ -71,7 +69,7 @@ shaped (exists x r) numbers matched f = tt
 
 -- the turn that is read is the task's
 pub turn_is : (r : Row) (e : Event) (numbers : List ℕ) (f : ℕ) {t : Turn} {b : Bool} {x : Given} (none : Given) → f < e.count → e.count ≤ length e.facts
-    → t ≡ row_turn r b numbers f → b ≡ matches_row (fact_of x) r → x ≡ get_or e.facts f none → t ≡ get_or (turns_to r e numbers e.count) f Miss
+    → t ≡ row_turn r b numbers f → b ≡ matches_row (fact_of x) r → x ≡ get_or e.facts f none → t ≡ get_or (turns_to r e numbers e.count) f None
 turn_is r e numbers f none h l p q s =
     p ∙ ap (λ (y : Bool). row_turn r y numbers f) (q ∙ ap (λ (y : Fact). matches_row y r) (ap fact_of s ∙ sym (fact_is e f h l none))) ∙ sym (turns_at r e numbers e.count f h)
 

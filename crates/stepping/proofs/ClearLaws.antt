@@ -4,12 +4,23 @@ use mathlib.Core.Path.{◌≡◌, sym, ap, ◌∙◌}
 use mathlib.Core.List.{List, ◌++◌}
 use mathlib.Core.Logic.{⊎_elim}
 use native.Mathlib.Omega.{arith}
-use lib.ListN.{length, get_or, drop, replicate, length-append, length-drop, length-replicate, get_or-append}
+use Rattle.std.proofs.lemmas.Grind.{common_steps}
+use borrow.Rule.Slice.PartMut.{put_mid}
+use lib.ListN.{length, get_or, take, drop, replicate, length-append, length-drop, length-replicate, get_or-append}
 use lib.Seq.{ext_get_or, get_or-append-add, get_or-drop}
 use Rattle.trees.proofs.Tests.{lt_or_ge}
 use Rattle.trees.proofs.CanonicalLaws.{zeros_at}
 use Rattle.nodes.specs.Nodes.{Rest, Zeroed}
 use Rattle.diagram.specs.Steps.{cleared}
+
+-- numbers that are filled with 0
+pub filled : (a b : ℕ) (xs ys : List ℕ) → a ≤ b → b ≤ length xs → ys ≡ replicate (length (take (b - a) (drop a xs))) 0 → Zeroed a b xs (put_mid a (b - a) xs ys)
+filled a b xs ys h l e = record {
+  size = grind (arith, common_steps);
+  zero = λ i p q. grind (arith, common_steps);
+  same = record { eq = λ i p. grind (arith, common_steps) };
+  rest = record { eq = λ i p. grind (arith, common_steps) };
+}
 
 -- the work slice at the end
 module _ (C : ℕ) (w : List ℕ) (long : 16 * C + 1024 ≤ length w) where

@@ -14,32 +14,30 @@ use Rattle.trees.proofs.BitsLaws.{number_agree, asks_drop, asks_drops}
 use Rattle.trees.proofs.TreeLaws.{asks_eval, fine_off}
 use Rattle.trees.proofs.FunctionLaws.{fine_of, eval_of}
 use Rattle.trees.proofs.RoomLaws.{room_trees, room_same}
-use Rattle.making.specs.declared.Place.{Place}
-use Rattle.making.specs.declared.Place.TheVariants.{Any, Is}
-use Rattle.diagram.specs.declared.Turn.{Turn}
-use Rattle.diagram.specs.declared.Turn.TheVariants.{Miss, Hit}
+use Rattle.std.specs.Prelude.{Option, Some, None}
+use Rattle.making.specs.declared.Number.{Number}
 use Rattle.diagram.specs.declared.Instruction.{Instruction}
 use Rattle.diagram.specs.declared.Instruction.TheVariants.{Yes, And, Not, Since, Old, Drop}
 use Rattle.making.specs.Cubes.{place_says, cube_says}
-use Rattle.diagram.specs.Steps.{Task, facts, does, says, turn_says, turns_say, turn_stages, instruction_says, drop_stages, stages_of, task_stages, with_row, new_trees, stages}
+use Rattle.diagram.specs.Steps.{Turn, Task, facts, does, says, turn_says, turns_say, turn_stages, instruction_says, drop_stages, stages_of, task_stages, with_row, new_trees, stages}
 use Rattle.stepping.proofs.PlanLaws.{adds_append}
 
 -- a variable's number asks the variable's levels
-asks_place : (base k hi : ℕ) (p : Place) → base + k ≤ hi → Asks 0 hi (place_says base k p)
-asks_place base k hi Any h = record { only = λ s t e. refl }
-asks_place base k hi (Is m) h = record { only = λ s t e. ap (λ (x : ℕ). eqb x (m.0 % 2 ^ k)) (number_agree s t base k (λ l p q. e l (omega arith) (omega arith))) }
+asks_place : (base k hi : ℕ) (p : Option Number) → base + k ≤ hi → Asks 0 hi (place_says base k p)
+asks_place base k hi None h = record { only = λ s t e. refl }
+asks_place base k hi (Some m) h = record { only = λ s t e. ap (λ (x : ℕ). eqb x (m.0 % 2 ^ k)) (number_agree s t base k (λ l p q. e l (omega arith) (omega arith))) }
 
 -- two functions joined
 asks_and : (hi : ℕ) (f g : Function) → Asks 0 hi f → Asks 0 hi g → Asks 0 hi (λ s. f s && g s)
 asks_and hi f g a b = record { only = λ s t e. ap₂ ◌&&◌ (a.only s t e) (b.only s t e) }
 
 -- a cube asks the four variables' levels
-asks_cube : (k : ℕ) (places : List Place) → Asks 0 (4 * k) (cube_says k places)
+asks_cube : (k : ℕ) (places : List (Option Number)) → Asks 0 (4 * k) (cube_says k places)
 unfolding cube_says
 asks_cube k places =
-    asks_and (4 * k) _ _ (asks_place 0 k (4 * k) (get_or places 0 Any) (omega arith))
-    (asks_and (4 * k) _ _ (asks_place k k (4 * k) (get_or places 1 Any) (omega arith))
-    (asks_and (4 * k) _ _ (asks_place (2 * k) k (4 * k) (get_or places 2 Any) (omega arith)) (asks_place (3 * k) k (4 * k) (get_or places 3 Any) (omega arith))))
+    asks_and (4 * k) _ _ (asks_place 0 k (4 * k) (get_or places 0 None) (omega arith))
+    (asks_and (4 * k) _ _ (asks_place k k (4 * k) (get_or places 1 None) (omega arith))
+    (asks_and (4 * k) _ _ (asks_place (2 * k) k (4 * k) (get_or places 2 None) (omega arith)) (asks_place (3 * k) k (4 * k) (get_or places 3 None) (omega arith))))
 
 -- each function of a list asks only the levels
 abbrev Each : ℕ → List Function → Type 0
@@ -65,8 +63,8 @@ each_drop hi base (suc n) g a = let b = asks_drop 0 hi (base + n) g a in (b, eac
 
 -- turns ask them too
 asks_turn : (k : ℕ) (t : Turn) → Asks 0 (4 * k) (turn_says k t)
-asks_turn k Miss = record { only = λ s t e. refl }
-asks_turn k (Hit x y z u) = asks_cube k (x ∷ y ∷ z ∷ u ∷ [])
+asks_turn k None = record { only = λ s t e. refl }
+asks_turn k (Some places) = asks_cube k places
 
 asks_turns : (k : ℕ) (ts : List Turn) → Asks 0 (4 * k) (turns_say k ts)
 unfolding turns_say

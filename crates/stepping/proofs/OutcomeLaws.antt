@@ -16,7 +16,9 @@ use Rattle.trees.specs.Sizes.{sizes_of}
 use Rattle.trees.proofs.Tests.{lt_or_ge}
 use Rattle.trees.proofs.ReadLaws.{length_trees, ref_is}
 use Rattle.trees.proofs.CanonicalLaws.{zeros_past}
-use Rattle.diagram.specs.declared.Told.TheVariants.{Full, Done}
+use Rattle.std.specs.Prelude.{Ok, Err}
+use Rattle.diagram.specs.declared.Done.{Done}
+use Rattle.diagram.specs.declared.Refused.TheVariants.{Full}
 use Rattle.nodes.specs.Nodes.{Table, Zeroed, Rows, canonical}
 use Rattle.walks.specs.Walks.{Within}
 use Rattle.sizes.specs.Leading.{Leading}
@@ -67,11 +69,14 @@ swept_same size levels ts ns n rs ds len hold same =
     ∙ ap (λ (m : ℕ). (sweeps (holding size ts) levels [] (replicate m 0) rs).visits) (sym len)
     ∙ ap (λ (xs : List ℕ). (sweeps (holding size ts) levels [] (replicate (length ts) 0) xs).visits) same
 
+abbrev done_of : ℕ → ℕ → Done
+done_of kept room = record { kept = kept; room = room }
+
 module _ (k count : ℕ) (plan : List Task) (refs : List ℕ) (kept : ℕ) (ns w : List ℕ) (f : Fits k count (length ns) (length w)) where
   -- no room for all: the tail is wiped, and the nodes are as they were
   pub full_leaves : (sizes : List ℕ) {ns₁ ns₂ w₂ : List ℕ} → Ready k count refs kept ns → Short (4 * k) ns ns₁ kept (stages k plan (diagrams ns kept refs count) count)
       → Zeroed (3 * kept) (length ns₁) ns₁ ns₂ → w₂ ≡ cleared (length ns / 3) w
-      → Leaves (work_outcome (leb (length (work_table k count plan refs kept ns)) (length ns / 3)) k count plan refs sizes kept ns w) Full refs sizes ns₂ w₂
+      → Leaves (work_outcome (leb (length (work_table k count plan refs kept ns)) (length ns / 3)) k count plan refs sizes kept ns w) (Err Full) refs sizes ns₂ w₂
   unfolding work_table work_outcome
   full_leaves sizes {ns₁} {ns₂} r s z e =
       rw (lt-leb (length (add_trees (trees_of ns kept) (map (tree_of (4 * k)) (stages k plan (diagrams ns kept refs count) count)))) (length ns / 3) (omega (arith, s.over, f.whole)))
@@ -151,7 +156,7 @@ module _ (k count : ℕ) (plan : List Task) (refs : List ℕ) (kept : ℕ) (ns w
     -- all rows worked and swept, and the sizes found
     pub done_leaves : (sizes : List ℕ) {w₁ w₂ ns₂ w₃ sizes' : List ℕ} {kept' : ℕ} {refs' : List ℕ} {visits : ℕ} → Renewal ns₁ n (4 * k) news count w₁ ns₂ w₂ kept' refs' visits
         → sizes' ≡ sizes_of (diagrams ns₂ kept' refs' count) → w₃ ≡ cleared (length ns / 3) w
-        → Leaves (work_outcome (leb (length (work_table k count plan refs kept ns)) (length ns / 3)) k count plan refs sizes kept ns w) (Done kept' n) refs' sizes' ns₂ w₃
+        → Leaves (work_outcome (leb (length (work_table k count plan refs kept ns)) (length ns / 3)) k count plan refs sizes kept ns w) (Ok (record { kept = kept'; room = n })) refs' sizes' ns₂ w₃
     unfolding work_outcome layout
     done_leaves sizes r z e =
         let table = t.desk.shelf.table.fits in
@@ -159,7 +164,7 @@ module _ (k count : ℕ) (plan : List Task) (refs : List ℕ) (kept : ℕ) (ns w
         let laid = swept_layout r in
         let test : leb (length (work_table k count plan refs kept ns)) (length ns / 3) ≡ true = rw room_is (le-leb n (length ns / 3) (omega arith)) in
         rw test
-        (record { told = ap₂ Done laid.size (sym room_is); refs = laid.references; sizes = z ∙ laid_sizes laid; nodes = laid.numbers; work = e })
+        (record { told = ap₂ (λ (x y : ℕ). Ok (done_of x y)) laid.size (sym room_is); refs = laid.references; sizes = z ∙ laid_sizes laid; nodes = laid.numbers; work = e })
 
     -- what the finding of sizes asks
     pub sizes_ready : {w₁ w₂ ns₂ : List ℕ} {kept' : ℕ} {refs' : List ℕ} {visits : ℕ} → Renewal ns₁ n (4 * k) news count w₁ ns₂ w₂ kept' refs' visits → length ns₂ ≡ length ns₁

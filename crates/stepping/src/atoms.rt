@@ -22,25 +22,20 @@ pub fn atom(
     read: Row,
     event: Event,
     given: &[u32; 96],
-) -> Made
+) -> Option<Made>
     requires { (k ≤ 10) × (event.count ≤ 8) × (length given.now ≡ 96) × Desk nodes.old n (4 * k) work.old c slots }
     ensures { Worked (4 * k) nodes.old nodes.new n (turn_stages k [] (turns_to (row_of read) event given.now event.count)) (turns_say k (turns_to (row_of read) event given.now event.count)) work.old work.new c slots result }
 {
     let facts = event.facts;
-    let count = event.count as usize;
-    let mut m = n;
-    let mut r = 0;
-    let mut f: usize = 0;
-    while f < count {
+    let mut made = Made {
+        count: n,
+        reference: 0,
+    };
+    for f in 0..event.count as usize {
         let fact = facts[f];
         let matched = numbers::matches(read, fact);
         let turn = instructions::turn(read, matched, given, f);
-        let Made::At(m1, r1) = take_turn(nodes, work, c, m, k, turn, r) else {
-            return Made::Full;
-        };
-        m = m1;
-        r = r1;
-        f += 1;
+        made = take_turn(nodes, work, c, made.count, k, turn, made.reference)?;
     }
-    Made::At(m, r)
+    Some(made)
 }

@@ -6,26 +6,26 @@
 mod atoms;
 mod rows;
 
-ghost use Rattle.std.specs.Prelude.{◌≡◌, ◌≤◌, length};
+ghost use Rattle.std.specs.Prelude.{◌≡◌, ◌≤◌, IfOk, length};
 ghost use Rattle.meaning.specs.Rows.{count_of_rows, right, check_rows};
 ghost use Rattle.nodes.specs.Nodes.{Decides};
 ghost use Rattle.keeping.specs.Checks.{CheckLeaves};
 ghost use Rattle.diagram.specs.Steps.{kept_right, step_outcome, formed_outcome, Leaves, Tells};
-ghost use Rattle.diagram.specs.Counts.{Visits};
+ghost use Rattle.diagram.specs.Counts.{Visited};
 ghost use Rattle.diagram.specs.Works.{Fits};
 ghost use Rattle.instructions.specs.Planned.{planned};
+ghost use Rattle.stepping.specs.Answers.{told_of};
 
 use crate::rows::worked;
-use diagram::{Formed, Told};
+use diagram::{Done, Refused, Unformed};
 use keeping::check;
 use meaning::Event;
-use nodes::zero;
 use sizes::sizes_right;
 
-// What a step gives back: what it tells, and the visits of all complements and of the sweep, none where it is refused.
-#[derive(Drop)]
+// What a step that is done gives back: the count of kept nodes and the room, and the visits of all complements and of the sweep.
+#[derive(Clone, Copy)]
 pub struct Stepped {
-    pub told: Told,
+    pub done: Done,
     pub complements: u32,
     pub swept: u32,
 }
@@ -34,40 +34,15 @@ pub struct Stepped {
 fn fit(k: u32, count: u32, nodes: usize, work: usize) -> bool
     ensures { Decides (Fits k count nodes work) result }
 {
-    if k < 1 {
-        return false;
-    }
-    if 10 < k {
-        return false;
-    }
-    if count < 1 {
-        return false;
-    }
-    if 64 < count {
-        return false;
-    }
     let c = nodes / 3;
-    if nodes != 3 * c {
-        return false;
-    }
-    if c < 1 {
-        return false;
-    }
-    if 4096 < c {
-        return false;
-    }
-    16 * c + 1024 <= work
-}
-
-// What is given back where a step is refused.
-fn refused(told: Told) -> Stepped
-    ensures { result ≡ record { told = told; complements = 0; swept = 0 } }
-{
-    Stepped {
-        told,
-        complements: 0,
-        swept: 0,
-    }
+    1 <= k
+        && k <= 10
+        && 1 <= count
+        && count <= 64
+        && nodes == 3 * c
+        && 1 <= c
+        && c <= 4096
+        && 16 * c + 1024 <= work
 }
 
 // Whether the diagrams are well kept and the sizes theirs. It leaves the work slice as the check does: the sizes are found in the
@@ -86,10 +61,8 @@ fn kept_right(
     ensures value { result ≡ kept_right k count allowed.now refs.now sizes.now kept nodes.now }
     ensures check_leaves { CheckLeaves nodes.now kept work.old work.new result }
 {
-    if !check(k, count, allowed, refs, kept, nodes, work) {
-        return false;
-    }
-    sizes_right(nodes, kept, refs, count, work, sizes)
+    check(k, count, allowed, refs, kept, nodes, work)
+        && sizes_right(nodes, kept, refs, count, work, sizes)
 }
 
 // Works one event: checks the diagrams and their sizes, works each row, and makes the nodes the canonical table of the new diagrams,
@@ -106,19 +79,19 @@ pub fn step(
     kept: u32,
     nodes: &mut [u32],
     work: &mut [u32],
-) -> Stepped
+) -> Result<Stepped, Refused>
     requires { (check_rows rows.now ≡ right) × (event.count ≤ 8) × (length given.now ≡ 96) × (length refs.old ≡ 64) × (length sizes.old ≡ 64) }
-    ensures leaves { Leaves (step_outcome k (count_of_rows rows.now) (planned rows.now event given.now) free.now refs.old sizes.old kept nodes.old work.old) result.told refs.new sizes.new nodes.new work.new }
-    ensures visits { Visits k (count_of_rows rows.now) (planned rows.now event given.now) refs.old kept nodes.old result.told result.complements result.swept }
+    ensures leaves { Leaves (step_outcome k (count_of_rows rows.now) (planned rows.now event given.now) free.now refs.old sizes.old kept nodes.old work.old) (told_of result) refs.new sizes.new nodes.new work.new }
+    ensures visits { IfOk result (λ s. Visited k (count_of_rows rows.now) (planned rows.now event given.now) refs.old kept nodes.old s.done.kept s.complements s.swept) }
 {
     let count = (rows.len() / 9) as u32;
     if !fit(k, count, nodes.len(), work.len()) {
-        return refused(Told::Unfit);
+        return Err(Refused::Unfit);
     }
     if !kept_right(k, count, free, refs, sizes, kept, nodes, work) {
         let c = nodes.len() / 3;
-        zero(work, 0, 16 * c + 1024);
-        return refused(Told::Bad);
+        work[0..16 * c + 1024].fill(0);
+        return Err(Refused::Bad);
     }
     worked(k, rows, event, given, refs, sizes, kept, nodes, work)
 }
@@ -133,18 +106,15 @@ pub fn well_formed(
     kept: u32,
     nodes: &[u32],
     work: &mut [u32],
-) -> Formed
+) -> Result<(), Unformed>
     requires { (length refs.now ≡ 64) × (length sizes.now ≡ 64) }
     ensures { Tells (formed_outcome k count allowed.now refs.now sizes.now kept nodes.now work.old) result work.new }
 {
     if !fit(k, count, nodes.len(), work.len()) {
-        return Formed::Unfit;
+        return Err(Unformed::Unfit);
     }
     let good = kept_right(k, count, allowed, refs, sizes, kept, nodes, work);
     let c = nodes.len() / 3;
-    zero(work, 0, 16 * c + 1024);
-    if good {
-        return Formed::Good;
-    }
-    Formed::Bad
+    work[0..16 * c + 1024].fill(0);
+    if good { Ok(()) } else { Err(Unformed::Bad) }
 }

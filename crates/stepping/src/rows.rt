@@ -2,23 +2,23 @@
 // in the node slice: the sweep's table before 3 * c, its notes before 4 * c, the map of complements before 5 * c, the memory
 // of results before 13 * c, the heads of the chains of nodes before 14 * c, their links before 15 * c. The check uses the
 // first c for its marks, and leaves the chains. Sizes are found in the first c too, after the check and after the sweep.
-ghost use Rattle.std.specs.Prelude.{◌≡◌, ℕ, ◌*◌, ◌/◌, ◌≤◌, leb, length, get_or, replicate};
+ghost use Rattle.std.specs.Prelude.{◌≡◌, ℕ, ◌*◌, ◌/◌, ◌≤◌, IfOk, leb, length, get_or, replicate};
 ghost use Rattle.trees.specs.Kept.{diagrams};
 ghost use Rattle.meaning.specs.Rows.{count_of_rows, right, check_rows};
 ghost use Rattle.rule.specs.Decoded.{row_of};
 ghost use Rattle.nodes.specs.Chains.{Chained};
 ghost use Rattle.walks.specs.Desks.{Desk};
 ghost use Rattle.diagram.specs.Steps.{work_table, work_outcome, Leaves};
-ghost use Rattle.diagram.specs.Counts.{Visits};
-ghost use Rattle.diagram.specs.Works.{Fits, Leads, RowDone, Fresh, Ran, Ready};
+ghost use Rattle.diagram.specs.Counts.{Visited};
+ghost use Rattle.diagram.specs.Works.{Fits, Leads, RowDone, Fresh, Ready};
 ghost use Rattle.instructions.specs.Planned.{asked, planned};
+ghost use Rattle.stepping.specs.Answers.{told_of, AllWorked};
 
+use crate::Stepped;
 use crate::atoms::atom;
-use crate::{Stepped, refused};
-use diagram::Told;
 use diagram::row::{row, uncounted};
+use diagram::{Done, Refused};
 use meaning::Event;
-use nodes::zero;
 use rule::Row;
 use sweeping::renew;
 use walks::Counted;
@@ -37,7 +37,7 @@ fn one_row(
     given: &[u32; 96],
     olds: &[u32; 64],
     news: &[u32; 64],
-) -> Counted
+) -> Option<Counted>
     requires k_bound { (k ≤ 10) × (event.count ≤ 8) × Desk nodes.old n (4 * k) work.old c slots }
     requires leads { Leads nodes.old n (4 * k) olds.now × Leads nodes.old n (4 * k) news.now × (length given.now ≡ 96) }
     ensures { RowDone k nodes.old nodes.new n olds.now news.now i (asked (row_of read) event given.now) work.old work.new c slots result }
@@ -49,15 +49,15 @@ fn one_row(
     row(nodes, work, c, slots, n, k, i, x, olds, news)
 }
 
-// What the work on all rows answers: that there is no room, or the count of nodes and the visits of all complements.
-#[derive(Drop)]
+// What the work on all rows gives back: the count of nodes, and the visits of all complements.
+#[derive(Clone, Copy)]
 struct Run {
-    full: bool,
     count: u32,
     visits: u32,
 }
 
-// Works the rows in order, each as it is read: `olds` are the references before the event, and `news` become those after it.
+// Works the rows in order, each as it is read, as long as there is room: `olds` are the references before the event, and `news` become those
+// after it.
 fn work_rows(
     nodes: &mut [u32],
     work: &mut [u32],
@@ -70,37 +70,24 @@ fn work_rows(
     given: &[u32; 96],
     olds: &[u32; 64],
     news: &mut [u32; 64],
-) -> Run
+) -> Option<Run>
     requires k_bound { (k ≤ 10) × (check_rows rows.now ≡ right) × (event.count ≤ 8) × (length given.now ≡ 96) × Desk nodes.old kept (4 * k) work.old c slots }
     requires leads { Leads nodes.old kept (4 * k) olds.now × (news.old ≡ replicate 64 0) }
     requires by_index { ((a : ℕ) → count_of_rows rows.now ≤ a → get_or olds.now a 0 ≡ 0) × Fresh nodes.old kept work.old c }
-    ensures { Ran k (planned rows.now event given.now) (diagrams nodes.old kept olds.now (count_of_rows rows.now)) nodes.old kept nodes.new work.new c slots olds.now (count_of_rows rows.now) result.full result.count news.new result.visits }
+    ensures { AllWorked k (planned rows.now event given.now) (diagrams nodes.old kept olds.now (count_of_rows rows.now)) nodes.old kept nodes.new work.new c slots olds.now (count_of_rows rows.now) result news.new }
 {
-    let count = rows.len() / 9;
     let mut n = kept;
     let mut visits = 0;
-    let mut i: usize = 0;
-    while i < count {
+    for i in 0..rows.len() / 9 {
         let read = rule::row_at(rows, i);
-        let Counted::At(m, r, v) = one_row(
+        let done = one_row(
             nodes, work, c, slots, n, k, i as u32, read, event, given, olds, news,
-        ) else {
-            return Run {
-                full: true,
-                count: 0,
-                visits: 0,
-            };
-        };
-        news[i] = r;
-        n = m;
-        visits += v;
-        i += 1;
+        )?;
+        news[i] = done.reference;
+        n = done.count;
+        visits += done.visits;
     }
-    Run {
-        full: false,
-        count: n,
-        visits,
-    }
+    Some(Run { count: n, visits })
 }
 
 // How many slots the memory of results gets: some for each kept node, and no more than there is place for.
@@ -109,8 +96,7 @@ fn slots_for(c: usize, kept: u32) -> usize
     ensures { (1 ≤ result) × (result ≤ 2 * c) }
 {
     let wanted = 2 * (kept as usize) + 64;
-    let most = 2 * c;
-    if wanted < most { wanted } else { most }
+    wanted.min(2 * c)
 }
 
 // Works an event on diagrams that are well kept.
@@ -124,18 +110,18 @@ pub fn worked(
     kept: u32,
     nodes: &mut [u32],
     work: &mut [u32],
-) -> Stepped
+) -> Result<Stepped, Refused>
     requires rows_value { (check_rows rows.now ≡ right) × (event.count ≤ 8) × (length given.now ≡ 96) × (length sizes.old ≡ 64) }
     requires fits { Fits k (count_of_rows rows.now) (length nodes.old) (length work.old) }
     requires ready { Ready k (count_of_rows rows.now) refs.old kept nodes.old × Chained nodes.old kept work.old }
-    ensures leaves { Leaves (work_outcome (leb (length (work_table k (count_of_rows rows.now) (planned rows.now event given.now) refs.old kept nodes.old)) (length nodes.old / 3)) k (count_of_rows rows.now) (planned rows.now event given.now) refs.old sizes.old kept nodes.old work.old) result.told refs.new sizes.new nodes.new work.new }
-    ensures visits { Visits k (count_of_rows rows.now) (planned rows.now event given.now) refs.old kept nodes.old result.told result.complements result.swept }
+    ensures leaves { Leaves (work_outcome (leb (length (work_table k (count_of_rows rows.now) (planned rows.now event given.now) refs.old kept nodes.old)) (length nodes.old / 3)) k (count_of_rows rows.now) (planned rows.now event given.now) refs.old sizes.old kept nodes.old work.old) (told_of result) refs.new sizes.new nodes.new work.new }
+    ensures visits { IfOk result (λ s. Visited k (count_of_rows rows.now) (planned rows.now event given.now) refs.old kept nodes.old s.done.kept s.complements s.swept) }
 {
     let c = nodes.len() / 3;
     let slots = slots_for(c, kept);
-    zero(work, 4 * c, 5 * c + 4 * slots);
+    work[4 * c..5 * c + 4 * slots].fill(0);
     let mut news = [0; 64];
-    let x = work_rows(
+    let Some(run) = work_rows(
         nodes,
         &mut work[0..15 * c],
         c,
@@ -147,21 +133,19 @@ pub fn worked(
         given,
         refs,
         &mut news,
-    );
-    if x.full {
-        let end = nodes.len();
-        zero(nodes, 3 * (kept as usize), end);
-        zero(work, 0, 16 * c + 1024);
-        return refused(Told::Full);
-    }
-    let room = x.count;
+    ) else {
+        nodes[3 * (kept as usize)..].fill(0);
+        work[0..16 * c + 1024].fill(0);
+        return Err(Refused::Full);
+    };
+    let room = run.count;
     let count = (rows.len() / 9) as u32;
     let y = renew(nodes, room, work, 4 * k, &news, count, refs);
     sizes::sizes(nodes, y.kept, refs, count, work, sizes);
-    zero(work, 0, 16 * c + 1024);
-    Stepped {
-        told: Told::Done(y.kept, room),
-        complements: x.visits,
+    work[0..16 * c + 1024].fill(0);
+    Ok(Stepped {
+        done: Done { kept: y.kept, room },
+        complements: run.visits,
         swept: y.visits,
-    }
+    })
 }

@@ -9,27 +9,27 @@ check-requires c =
     let f = c.requires.0 in
     record { le_k = (f.least, f.most, f.few, c.requires.1); sized = sized f }
 
-pub returns-then-not-check : goal.returns-then-not-check
-returns-then-not-check c =
+pub returns-else-check : goal.returns-else-check
+returns-else-check c =
     let s = c.args in
-    let bad = c.if-not-check.true in
+    let bad = c.if-check.false in
     record {
-      value = ill_kept s.k s.count s.allowed.now s.refs.now s.sizes.now s.kept s.nodes.now s.work.now c.requires.0 c.requires.1 (sym c.check.ensures.value ∙ bad);
-      check_leaves = rw bad at c.check.ensures.check_leaves;
+      value = bad ∙ ill_kept s.k s.count s.allowed.now s.refs.now s.sizes.now s.kept s.nodes.now s.work.now c.requires.0 c.requires.1 (sym c.check.ensures.value ∙ bad);
+      check_leaves = c.check.ensures.check_leaves;
     }
 
 pub sizes_right-requires : goal.sizes_right-requires
 sizes_right-requires c =
     let s = c.args in
-    let well = sym c.check.ensures.value ∙ c.if-not-check.false in
+    let well = sym c.check.ensures.value ∙ c.if-check.true in
     let asked = checked_asked s.k s.count s.allowed.now s.refs.now s.sizes.now s.kept s.nodes.now s.work.now c.requires.0 c.requires.1 well c.check.new.work c.check.auto.work in
     record { table = asked.0; kept_in_bounds = (asked.1, c.requires.2) }
 
-pub returns : goal.returns
-returns c =
+pub returns-then-check : goal.returns-then-check
+returns-then-check c =
     let s = c.args in
     let found = c.sizes_right in
-    let good = c.if-not-check.false in
+    let good = c.if-check.true in
     let well = sym c.check.ensures.value ∙ good in
     record {
       value = sized_kept s.k s.count s.allowed.now s.refs.now s.sizes.now s.kept s.nodes.now s.work.now c.requires.0 c.requires.1 well found.result found.ensures.decides;

@@ -1,6 +1,6 @@
 -- `step` meets its contract: one law for each case. Assumes nothing.
 use Prim.Native.Nat.{◌/◌}
-use mathlib.Core.Path.{refl, ap, sym, ◌∙◌}
+use mathlib.Core.Path.{ap, sym, ◌∙◌}
 use mathlib.Core.Bool.{not}
 use native.Mathlib.Omega.{arith}
 use lib.ListN.{length}
@@ -9,6 +9,7 @@ use Rattle.instructions.specs.Planned.{planned}
 use Rattle.stepping.proofs.FitLaws.{few_rows}
 use Rattle.stepping.proofs.OutcomeLaws.{ready}
 use Rattle.stepping.proofs.SizeLaws.{well_kept_law}
+use Rattle.stepping.proofs.ClearLaws.{filled}
 use Rattle.stepping.proofs.CaseLaws.{cleared_after, unfit_leaves, bad_leaves, good_leaves}
 use Rattle.stepping.proofs.step.Goals as goal
 
@@ -19,10 +20,9 @@ pub returns-then-not-fit : goal.returns-then-not-fit
 unfolding count_of_rows
 returns-then-not-fit c =
     let s = c.args in
-    rw c.refused.ensures
     (record {
       leaves = unfit_leaves s.k (count_of_rows s.rows.now) s.free.now s.refs.now s.sizes.now s.kept s.nodes.now s.work.now (planned s.rows.now s.event s.given.now) c.fit.result c.fit.ensures (ap not c.if-not-fit.true);
-      visits = (refl, refl);
+      visits = tt;
     })
 
 pub kept_right-requires : goal.kept_right-requires
@@ -31,23 +31,16 @@ kept_right-requires c =
     let f = rw c.if-not-fit.false at c.fit.ensures in
     (f, c.requires.3, c.requires.4)
 
-pub zero-requires : goal.zero-requires
-unfolding count_of_rows
-zero-requires c =
-    let f = rw c.if-not-fit.false at c.fit.ensures in
-    omega (arith, f.room, c.kept_right.auto.work)
-
 pub returns-then-not-kept_right : goal.returns-then-not-kept_right
 unfolding count_of_rows
 returns-then-not-kept_right c =
     let s = c.args in
     let done = c.kept_right in
     let f = rw c.if-not-fit.false at c.fit.ensures in
-    rw c.refused-then-not-kept_right.ensures
     (record {
       leaves = bad_leaves s.k (count_of_rows s.rows.now) s.free.now s.refs.now s.sizes.now s.kept s.nodes.now s.work.now (planned s.rows.now s.event s.given.now) f (sym done.ensures.value ∙ c.if-not-kept_right.true)
-          (cleared_after s.k (count_of_rows s.rows.now) s.free.now s.refs.now s.sizes.now s.kept s.nodes.now s.work.now f done.ensures.check_leaves.rest done.auto.work c.zero.ensures);
-      visits = (refl, refl);
+          (cleared_after s.k (count_of_rows s.rows.now) s.free.now s.refs.now s.sizes.now s.kept s.nodes.now s.work.now f done.ensures.check_leaves.rest done.auto.work (filled 0 _ _ _ (omega arith) (omega (arith, f.room, done.auto.work)) (c.fill.ensures.after (λ y h. h))));
+      visits = tt;
     })
 
 pub worked-requires : goal.worked-requires

@@ -1,6 +1,4 @@
--- `atoms::atom` meets its contract. The loop's invariant: the first f turns are taken. The measure is the count of facts that are left.
--- Assumes nothing.
-use Prim.Native.Nat.{◌-◌, ◌≤◌}
+-- `atoms::atom` meets its contract. The loop's invariant: the first f turns are taken. Assumes nothing.
 use mathlib.Core.Path.{◌≡◌}
 use lib.ListN.{length}
 use Rattle.rule.specs.Decoded.{row_of}
@@ -11,8 +9,5 @@ use Rattle.stepping.proofs.atoms.atom.Given as goal
 
 abbrev pub invariant-loop-f : goal.invariant-loop-f
 invariant-loop-f l =
-    (l.count ≤ 8) × (l.f ≤ l.count) × (length l.facts ≡ 8) × (length l.work ≡ length l.initial.work)
-    × Turning l.k (turns_to (row_of l.read) (record { count = l.count; facts = l.facts }) l.given l.count) (places (row_of l.read) l.given) l.initial.nodes l.n l.nodes l.m l.r l.f l.initial.work l.work l.c l.slots
-
-abbrev pub decreases-loop-f : goal.decreases-loop-f
-decreases-loop-f l = l.count - l.f
+    (length l.facts ≡ 8) × (length l.work ≡ length l.initial.work)
+    × Turning l.k (turns_to (row_of l.read) (record { count = l.fn.event.count; facts = l.facts }) l.given l.fn.event.count) (places (row_of l.read) l.given) l.initial.nodes l.n l.nodes l.made.count l.made.reference l.f l.initial.work l.work l.c l.slots

@@ -1,6 +1,4 @@
--- `work_rows` meets its contract. The loop's invariant: the first i rows are worked and counted. The measure is the count of rows that
--- are left. Assumes nothing.
-use Prim.Native.Nat.{◌-◌, ◌/◌, ◌≤◌}
+-- `work_rows` meets its contract. The loop's invariant: the first i rows are worked and counted. Assumes nothing.
 use mathlib.Core.Path.{◌≡◌}
 use lib.ListN.{length}
 use Rattle.trees.specs.Kept.{diagrams}
@@ -11,7 +9,4 @@ use Rattle.stepping.proofs.rows.work_rows.Given as goal
 
 abbrev pub invariant-loop-i : goal.invariant-loop-i
 invariant-loop-i l =
-    (l.count ≡ length l.rows / 9) × (l.i ≤ l.count) × (length l.work ≡ length l.initial.work) × Through l.k (planned l.rows l.event l.given) (diagrams l.initial.nodes l.kept l.olds (count_of_rows l.rows)) l.initial.nodes l.kept l.nodes l.n l.work l.c l.slots l.olds l.news l.i l.visits
-
-abbrev pub decreases-loop-i : goal.decreases-loop-i
-decreases-loop-i l = l.count - l.i
+    (length l.work ≡ length l.initial.work) × Through l.k (planned l.rows l.event l.given) (diagrams l.initial.nodes l.kept l.olds (count_of_rows l.rows)) l.initial.nodes l.kept l.nodes l.n l.work l.c l.slots l.olds l.news l.i l.visits
