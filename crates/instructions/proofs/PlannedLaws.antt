@@ -16,7 +16,8 @@ use Rattle.meaning.specs.Outcome.{facts_of}
 use Rattle.meaning.proofs.RowsLaws.{rows_at, rows_length}
 use Rattle.numbers.specs.Matching.{matches_row}
 use Rattle.numbers.specs.Asking.{fact_at}
-use Rattle.std.specs.Prelude.{None}
+use Rattle.std.specs.Prelude.{Option, None}
+use Rattle.making.specs.declared.Number.{Number}
 use Rattle.diagram.specs.declared.Instruction.TheVariants.{Yes}
 use Rattle.diagram.specs.Steps.{Turn, facts, does}
 use Rattle.instructions.specs.Plan.{turn_of, task_of}
@@ -40,7 +41,7 @@ module _ {A : Type 0} (none : A) (at : ℕ → A) (up_to : ℕ → List A) (firs
       (eq-or-lt_of_le h)
 
 -- a plan has a task for each row, and it is what the row asks
-module _ (raw : List ℕ) (e : Event) (given : List ℕ) where
+module _ (raw : List ℕ) (e : Event) (given : List (Option Number)) where
   pub planned_length : (n : ℕ) → length (planned_to raw e given n) ≡ n
   unfolding planned_to
   planned_length = grown_length (does Yes) (λ i. asked (row_at raw i) e given) (planned_to raw e given) refl (λ n. refl)
@@ -50,7 +51,7 @@ module _ (raw : List ℕ) (e : Event) (given : List ℕ) where
   planned_at i h = grown_at (does Yes) (λ j. asked (row_at raw j) e given) (planned_to raw e given) refl (λ n. refl) (count_of_rows raw) i h
 
 -- so have the turns of a row
-module _ (r : Row) (e : Event) (given : List ℕ) where
+module _ (r : Row) (e : Event) (given : List (Option Number)) where
   pub turns_length : (n : ℕ) → length (turns_to r e given n) ≡ n
   unfolding turns_to
   turns_length = grown_length None (λ f. row_turn r (matches_row (fact_at e f) r) given f) (turns_to r e given) refl (λ n. refl)
@@ -71,7 +72,7 @@ map_at none other g [] i h = absurd (omega arith)
 map_at none other g (x ∷ xs) zero h = refl
 map_at none other g (x ∷ xs) (suc i) h = map_at none other g xs i (omega arith)
 
-module _ (e : Event) (given : List ℕ) (count : length (facts_of e) ≡ e.count) (L : Lists) where
+module _ (e : Event) (given : List (Option Number)) (count : length (facts_of e) ≡ e.count) (L : Lists) where
   -- the turns of an atom are what its facts add
   turns_are : (p : ℕ) (gs : List Argument) → ((f : ℕ) → f < e.count → NumbersRight (fact_at e f) L (atom p gs) given f)
       → turns_to (atom p gs) e given e.count ≡ map (turn_of L p gs) (facts_of e)
@@ -93,7 +94,7 @@ module _ (e : Event) (given : List ℕ) (count : length (facts_of e) ≡ e.count
   asks_task (exists x r) n = refl
 
 -- the plan asks of each row what the event asks of it
-pub planned_is : (raw : List ℕ) (e : Event) (given : List ℕ) (L : Lists) → length (facts_of e) ≡ e.count
+pub planned_is : (raw : List ℕ) (e : Event) (given : List (Option Number)) (L : Lists) → length (facts_of e) ≡ e.count
     → ((i f : ℕ) → i < count_of_rows raw → f < e.count → NumbersRight (fact_at e f) (ask_facts (facts_of e) L (rule_of raw)) (row_at raw i) given f)
     → (i : ℕ) → i < length (rule_of raw) → get_or (planned raw e given) i (does Yes) ≡ task_of (ask_facts (facts_of e) L (rule_of raw)) (facts_of e) (get_or (rule_of raw) i truth)
 unfolding rule_of

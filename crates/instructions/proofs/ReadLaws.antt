@@ -12,7 +12,8 @@ use Rattle.meaning.specs.Rows
 use Rattle.meaning.specs.Rows.{truth, atom, both, neg, since, previous, exists}
 use Rattle.meaning.specs.Numbering.{Lists, place, repeats, fits}
 use Rattle.numbers.specs.Matching.{matches_row, arguments_in}
-use Rattle.numbers.specs.Asking.{AsksFor}
+use Rattle.std.specs.Option.{unwrap_or}
+use Rattle.numbers.specs.Asking.{AsksFor, numbered, number_at}
 use Rattle.rule.specs.declared.Row.{Row}
 use Rattle.rule.specs.declared.Row.TheVariants as variants
 use Rattle.rule.specs.declared.Atom.{Atom}
@@ -28,11 +29,11 @@ use Rattle.instructions.specs.Read.{names, number_read, place_read, turn_read, r
 pub argument_is : {a b : Argument.Argument} {r : Bool} (v : ℕ) → a ≡ b → r ≡ names v (argument_of b) → r ≡ names v (argument_of a)
 argument_is v e p = rw e p
 
-pub row_is : {a b : Row} {r : Turn} (matched : Bool) (given : List ℕ) (f : ℕ) → a ≡ b → r ≡ row_turn (row_of b) matched given f → r ≡ row_turn (row_of a) matched given f
+pub row_is : {a b : Row} {r : Turn} (matched : Bool) (given : List (Option Number)) (f : ℕ) → a ≡ b → r ≡ row_turn (row_of b) matched given f → r ≡ row_turn (row_of a) matched given f
 row_is matched given f e p = rw e p
 
 -- the place read argument by argument
-module _ (v : ℕ) (given : List ℕ) (f : ℕ) where
+module _ (v : ℕ) (given : List (Option Number)) (f : ℕ) where
   -- the variable's first place is i
   place_found : (j q : ℕ) (gs : List Argument.Argument) (i : ℕ) (d : Argument.Argument) → i < q → i < length gs → names v (argument_of (get_or gs i d)) ≡ true
       → ((k : ℕ) → k < i → names v (argument_of (get_or gs k d)) ≡ false) → Some (number_read given f v (j + i)) ≡ place_read v j (take q (map argument_of gs)) given f
@@ -56,7 +57,7 @@ module _ (v : ℕ) (given : List ℕ) (f : ℕ) where
   place_nowhere j (suc q) (g ∷ gs) d e = rw (e 0 (omega arith) (omega arith)) (place_nowhere (suc j) q gs d (λ k m l. e (suc k) (omega arith) (omega arith)))
 
 -- what is read of an atom that matches, and of one that does not
-module _ (gs : List Argument) (matched : Bool) (given : List ℕ) (f : ℕ) where
+module _ (gs : List Argument) (matched : Bool) (given : List (Option Number)) (f : ℕ) where
   pub hit_yes : {a b c d : Option Number} → matched ≡ true → a ≡ place_read 0 0 gs given f → b ≡ place_read 1 0 gs given f → c ≡ place_read 2 0 gs given f
       → d ≡ place_read 3 0 gs given f → Some (a ∷ b ∷ c ∷ d ∷ []) ≡ turn_read matched gs given f
   unfolding turn_read
@@ -77,7 +78,7 @@ no_atom (variants.Since l r) h = refl
 no_atom (variants.Previous r) h = refl
 no_atom (variants.Exists x r) h = refl
 
-pub no_turn : (r : Row) (matched : Bool) (given : List ℕ) (f : ℕ) → ((a : Atom) → r ≡ variants.Atom a → ⊥) → None ≡ row_turn (row_of r) matched given f
+pub no_turn : (r : Row) (matched : Bool) (given : List (Option Number)) (f : ℕ) → ((a : Atom) → r ≡ variants.Atom a → ⊥) → None ≡ row_turn (row_of r) matched given f
 unfolding row_of row_turn
 no_turn variants.True matched given f h = refl
 no_turn (variants.Atom a) matched given f h = absurd (h a refl)
@@ -88,19 +89,20 @@ no_turn (variants.Previous r) matched given f h = refl
 no_turn (variants.Exists x r) matched given f h = refl
 
 -- where the row matches fact f, the table has the numbers of its variables' values
-abbrev pub NumbersRight : Fact → Lists → Rows.Row → List ℕ → ℕ → Type 0
-NumbersRight e L r given f = (v j : ℕ) → v < 4 → AsksFor e r v j → get_or given (12 * f + (3 * v + j)) 0 ≡ place (L v) (get_or e.values j 0)
+abbrev pub NumbersRight : Fact → Lists → Rows.Row → List (Option Number) → ℕ → Type 0
+NumbersRight e L r given f = (v j : ℕ) → v < 4 → AsksFor e r v j → get_or given (12 * f + (3 * v + j)) None ≡ numbered (place (L v) (get_or e.values j 0))
 
-module _ (L : Lists) (given : List ℕ) (f : ℕ) where
+module _ (L : Lists) (given : List (Option Number)) (f : ℕ) where
   -- from the place j on: the table has the numbers of the variables that are left
   abbrev From : ℕ → List Argument → List ℕ → Type 0
-  From j gs ys = (v i : ℕ) → v < 4 → get_or gs i (constant 0) ≡ variable v → get_or given (12 * f + (3 * v + (j + i))) 0 ≡ place (L v) (get_or ys i 0)
+  From j gs ys = (v i : ℕ) → v < 4 → get_or gs i (constant 0) ≡ variable v → get_or given (12 * f + (3 * v + (j + i))) None ≡ numbered (place (L v) (get_or ys i 0))
 
   from_next : (j y : ℕ) (g : Argument) (gs : List Argument) (ys : List ℕ) → From j (g ∷ gs) (y ∷ ys) → From (suc j) gs ys
   from_next j y g gs ys h v i lv e = rw (let z : j + suc i ≡ suc j + i = omega arith in z) at (h v (suc i) lv e)
 
   from_here : (j y v : ℕ) (gs : List Argument) (ys : List ℕ) → From j (variable v ∷ gs) (y ∷ ys) → v < 4 → number_read given f v j ≡ record { 0 = place (L v) y }
-  from_here j y v gs ys h lv = ap (λ (n : ℕ). record { 0 = n }) (rw (let z : j + 0 ≡ j = omega arith in z) at (h v 0 lv refl))
+  unfolding number_at
+  from_here j y v gs ys h lv = ap (λ (n : Option Number). unwrap_or n (record { 0 = 0 })) (rw (let z : j + 0 ≡ j = omega arith in z) at (h v 0 lv refl))
 
   place_reads : (gs : List Argument) (ys : List ℕ) (v j : ℕ) → v < 4 → From j gs ys → fits gs ys ≡ true → place_read v j gs given f ≡ place_of L v gs ys
   unfolding place_read place_of names fits

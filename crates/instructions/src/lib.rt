@@ -22,14 +22,14 @@ fn is_variable(v: u32, argument: Argument) -> bool
 
 // What the bits of variable `v` are to show for the values of fact `f`, whose numbers are in the table `given`: the number at the variable's
 // first place among the arguments that are used, and any where it has none.
-fn place_of(v: u32, atom: Atom, given: &[u32; 96], f: usize) -> Option<Number>
+fn place_of(v: u32, atom: Atom, given: &[Option<Number>; 96], f: usize) -> Option<Number>
     requires { (v < 4) × (f < 8) × (length given.now ≡ 96) }
     ensures { result ≡ place_read v 0 (take atom.count (map argument_of atom.arguments)) given.now f }
 {
     let used = atom.count.min(3) as usize;
     for j in 0..used {
         if is_variable(v, atom.arguments[j]) {
-            return Some(number_of(given, f, v as usize, j));
+            return Some(number_of(given, f, v as usize, j).unwrap_or(Number(0)));
         }
     }
     None
@@ -43,7 +43,12 @@ pub fn is_atom(row: Row) -> bool
 }
 
 // What fact `f` adds to the row: `matched` says whether the row is an atom that matches it.
-pub fn turn(row: Row, matched: bool, given: &[u32; 96], f: usize) -> Option<[Option<Number>; 4]>
+pub fn turn(
+    row: Row,
+    matched: bool,
+    given: &[Option<Number>; 96],
+    f: usize,
+) -> Option<[Option<Number>; 4]>
     requires { (f < 8) × (length given.now ≡ 96) }
     ensures { result ≡ row_turn (row_of row) matched given.now f }
 {

@@ -22,7 +22,7 @@ use Rattle.instructions.specs.Planned.{turns_to, asked}
 use Rattle.instructions.proofs.PlannedLaws.{turns_at}
 
 -- whether a variable has a place among the arguments does not depend on the numbers
-place_has : (v j : ℕ) (gs : List Argument) (numbers : List ℕ) (f h : ℕ) → has (place_read v j gs numbers f) ≡ has (place_read v j gs numbers h)
+place_has : (v j : ℕ) (gs : List Argument) (numbers : List (Option Number)) (f h : ℕ) → has (place_read v j gs numbers f) ≡ has (place_read v j gs numbers h)
 unfolding place_read
 place_has v j [] numbers f h = refl
 place_has v j (g ∷ gs) numbers f h = go (names v g) (place_has v (suc j) gs numbers f h)
@@ -32,7 +32,7 @@ place_has v j (g ∷ gs) numbers f h = go (names v g) (place_has v (suc j) gs nu
     go false q = q
 
 -- the places of a row's variables, with the numbers of the first fact
-pub places : Row → List ℕ → List (Option Number)
+pub places : Row → List (Option Number) → List (Option Number)
 places truth numbers = []
 places (atom p gs) numbers = place_read 0 0 gs numbers 0 ∷ place_read 1 0 gs numbers 0 ∷ place_read 2 0 gs numbers 0 ∷ place_read 3 0 gs numbers 0 ∷ []
 places (both l r) numbers = []
@@ -41,7 +41,7 @@ places (since l r) numbers = []
 places (previous r) numbers = []
 places (exists x r) numbers = []
 
-shape : (gs : List Argument) (numbers : List ℕ) (f : ℕ)
+shape : (gs : List Argument) (numbers : List (Option Number)) (f : ℕ)
     → SameShape (place_read 0 0 gs numbers 0 ∷ place_read 1 0 gs numbers 0 ∷ place_read 2 0 gs numbers 0 ∷ place_read 3 0 gs numbers 0 ∷ [])
     (place_read 0 0 gs numbers f ∷ place_read 1 0 gs numbers f ∷ place_read 2 0 gs numbers f ∷ place_read 3 0 gs numbers f ∷ [])
 shape gs numbers f = record { each = go }
@@ -56,7 +56,7 @@ shape gs numbers f = record { each = go }
     go (suc (suc (suc (suc v)))) h = absurd (omega arith)
 
 -- each turn gives numbers to these variables
-pub shaped : (r : Row) (numbers : List ℕ) (matched : Bool) (f : ℕ) → Shaped (places r numbers) (row_turn r matched numbers f)
+pub shaped : (r : Row) (numbers : List (Option Number)) (matched : Bool) (f : ℕ) → Shaped (places r numbers) (row_turn r matched numbers f)
 unfolding row_turn places turn_read
 shaped truth numbers matched f = tt
 shaped (atom p gs) numbers false f = tt
@@ -68,13 +68,13 @@ shaped (previous r) numbers matched f = tt
 shaped (exists x r) numbers matched f = tt
 
 -- the turn that is read is the task's
-pub turn_is : (r : Row) (e : Event) (numbers : List ℕ) (f : ℕ) {t : Turn} {b : Bool} {x : Given} (none : Given) → f < e.count → e.count ≤ length e.facts
+pub turn_is : (r : Row) (e : Event) (numbers : List (Option Number)) (f : ℕ) {t : Turn} {b : Bool} {x : Given} (none : Given) → f < e.count → e.count ≤ length e.facts
     → t ≡ row_turn r b numbers f → b ≡ matches_row (fact_of x) r → x ≡ get_or e.facts f none → t ≡ get_or (turns_to r e numbers e.count) f None
 turn_is r e numbers f none h l p q s =
     p ∙ ap (λ (y : Bool). row_turn r y numbers f) (q ∙ ap (λ (y : Fact). matches_row y r) (ap fact_of s ∙ sym (fact_is e f h l none))) ∙ sym (turns_at r e numbers e.count f h)
 
 -- what a row asks, by whether it is an atom
-module _ (r : Row) (e : Event) (numbers : List ℕ) where
+module _ (r : Row) (e : Event) (numbers : List (Option Number)) where
   pub asked_atom : is_atom r ≡ true → asked r e numbers ≡ facts (turns_to r e numbers e.count)
   unfolding asked
   asked_atom h = rw h

@@ -7,7 +7,7 @@ ghost use Rattle.diagram.specs.Works.{Worked};
 ghost use Rattle.instructions.specs.Planned.{turns_to};
 
 use diagram::turns::take_turn;
-use making::Made;
+use making::{Made, Number};
 use meaning::Event;
 use rule::Row;
 
@@ -21,7 +21,7 @@ pub fn atom(
     k: u32,
     read: Row,
     event: Event,
-    given: &[u32; 96],
+    given: &[Option<Number>; 96],
 ) -> Option<Made>
     requires { (k ≤ 10) × (event.count ≤ 8) × (length given.now ≡ 96) × Desk nodes.old n (4 * k) work.old c slots }
     ensures { Worked (4 * k) nodes.old nodes.new n (turn_stages k [] (turns_to (row_of read) event given.now event.count)) (turns_say k (turns_to (row_of read) event given.now event.count)) work.old work.new c slots result }

@@ -19,6 +19,7 @@ ghost use Rattle.stepping.specs.Answers.{told_of};
 use crate::rows::worked;
 use diagram::{Done, Refused, Unformed};
 use keeping::check;
+use making::Number;
 use meaning::Event;
 use sizes::sizes_right;
 
@@ -72,7 +73,7 @@ pub fn step(
     k: u32,
     rows: &[u32],
     event: Event,
-    given: &[u32; 96],
+    given: &[Option<Number>; 96],
     free: &[u32; 64],
     refs: &mut [u32; 64],
     sizes: &mut [u32; 64],

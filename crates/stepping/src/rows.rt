@@ -18,6 +18,7 @@ use crate::Stepped;
 use crate::atoms::atom;
 use diagram::row::{row, uncounted};
 use diagram::{Done, Refused};
+use making::Number;
 use meaning::Event;
 use rule::Row;
 use sweeping::renew;
@@ -34,7 +35,7 @@ fn one_row(
     i: u32,
     read: Row,
     event: Event,
-    given: &[u32; 96],
+    given: &[Option<Number>; 96],
     olds: &[u32; 64],
     news: &[u32; 64],
 ) -> Option<Counted>
@@ -67,7 +68,7 @@ fn work_rows(
     k: u32,
     rows: &[u32],
     event: Event,
-    given: &[u32; 96],
+    given: &[Option<Number>; 96],
     olds: &[u32; 64],
     news: &mut [u32; 64],
 ) -> Option<Run>
@@ -104,7 +105,7 @@ pub fn worked(
     k: u32,
     rows: &[u32],
     event: Event,
-    given: &[u32; 96],
+    given: &[Option<Number>; 96],
     refs: &mut [u32; 64],
     sizes: &mut [u32; 64],
     kept: u32,

@@ -7,7 +7,7 @@ use Rattle.instructions.proofs.place_of.Goals as goal
 
 pub returns-then-is_variable : goal.returns-then-is_variable
 returns-then-is_variable c =
-    rw c.number_of.ensures
+    rw (c.unwrap_or.ensures, c.number_of.ensures)
     (place_first c.args.v _ _ _ c.args.atom.arguments c.loop-j.j _ (omega arith) (omega arith) (sym c.is_variable.ensures ∙ c.if-is_variable.true) (c.loop-j.invariant _))
 
 pub returns : goal.returns

@@ -6,6 +6,8 @@ use lib.ListN.{length, get_or}
 use Rattle.meaning.specs.Rows
 use Rattle.meaning.specs.Rows.{count_of_rows}
 use Rattle.meaning.specs.declared.Event.{Event}
+use Rattle.std.specs.Prelude.{Option}
+use Rattle.making.specs.declared.Number.{Number}
 use Rattle.rule.specs.declared.Row.{Row}
 use Rattle.rule.specs.Decoded.{row_of, row_read_at}
 use Rattle.rule.proofs.DecodedLaws.{row_says}
@@ -18,7 +20,7 @@ use Rattle.stepping.proofs.PlanLaws.{old_are, through_none, through_short, throu
 use Rattle.stepping.proofs.rows.work_rows.Goals as goal
 
 -- the task that is worked is the plan's
-reads : (rows : List ℕ) (e : Event) (given : List ℕ) (i : ℕ) → i < length rows / 9 → {r : Row} → r ≡ row_read_at rows i → asked (row_of r) e given ≡ get_or (planned rows e given) i (does Yes)
+reads : (rows : List ℕ) (e : Event) (given : List (Option Number)) (i : ℕ) → i < length rows / 9 → {r : Row} → r ≡ row_read_at rows i → asked (row_of r) e given ≡ get_or (planned rows e given) i (does Yes)
 reads rows e given i h q = ap (λ (r : Rows.Row). asked r e given) (ap row_of q ∙ row_says rows i) ∙ sym (planned_at rows e given i (omega (arith, count_is rows)))
 
 pub loop-i-init : goal.loop-i-init
