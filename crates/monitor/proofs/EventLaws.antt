@@ -21,7 +21,7 @@ use Rattle.meaning.specs.Outcome.{k_right, capacity, nodes_right, values_right, 
 use Rattle.meaning.proofs.RowsLaws.{rows_length}
 use Rattle.meaning.proofs.RunLaws.{start_taken}
 use Rattle.rule.specs.Checking.{Free}
-use Rattle.diagram.specs.declared.Formed.TheVariants as told
+use Rattle.diagram.specs.declared.Unformed.TheVariants as unformed
 use Rattle.diagram.specs.Steps
 use Rattle.diagram.specs.Steps.{judge_formed, formed_outcome}
 use Rattle.monitor.specs.declared.refusals.Refusal.{Refusal}
@@ -78,11 +78,11 @@ clears nodes w xs ys zs h l b e =
     rw (e, z, y, b.rest, h) refl
 
 -- what the check of the diagrams tells, as a turn
-good_turn : (s : State) (n p : ℕ) (t : Turn) → t ≡ formed_turn_law told.Good s n p → t ≡ kept_turn_law s n p
+good_turn : (s : State) (n p : ℕ) (t : Turn) → t ≡ formed_turn_law (Ok tt) s n p → t ≡ kept_turn_law s n p
 unfolding formed_turn_law
 good_turn s n p t q = q
 
-bad_turn : (s : State) (n p : ℕ) (t : Turn) → t ≡ formed_turn_law told.Bad s n p → t ≡ kept_turn_law s 4 0
+bad_turn : (s : State) (n p : ℕ) (t : Turn) → t ≡ formed_turn_law (Err unformed.Bad) s n p → t ≡ kept_turn_law s 4 0
 unfolding formed_turn_law
 bad_turn s n p t q = q
 

@@ -10,8 +10,8 @@ use Rattle.meaning.specs.declared.State.{State}
 use Rattle.meaning.specs.declared.Turn.{Turn}
 use Rattle.meaning.specs.declared.Answer.{Answer}
 use Rattle.meaning.specs.declared.Answer.TheVariants.{Started, Verdict, Refused}
-use Rattle.diagram.specs.declared.Formed.{Formed}
-use Rattle.diagram.specs.declared.Formed.TheVariants.{Unfit, Bad, Good}
+use Rattle.diagram.specs.declared.Unformed.TheVariants.{Unfit, Bad}
+use Rattle.diagram.specs.Steps.{Formed}
 use Rattle.monitor.specs.declared.Figures.{Figures}
 use Rattle.monitor.specs.declared.Said.{Said}
 use Rattle.monitor.specs.Said.{whole, turn_of, refused_said, taken_said}
@@ -33,9 +33,9 @@ kept_turn_law s number place = record { state = s; answer = Refused number place
 
 -- the turn of an event that is refused by what follows the state's check: refusal 4 comes before it
 unfoldable pub formed_turn_law : Formed → State → ℕ → ℕ → Turn
-formed_turn_law Good s number place = kept_turn_law s number place
-formed_turn_law Bad s number place = kept_turn_law s 4 0
-formed_turn_law Unfit s number place = kept_turn_law s 4 0
+formed_turn_law (Ok x) s number place = kept_turn_law s number place
+formed_turn_law (Err Bad) s number place = kept_turn_law s 4 0
+formed_turn_law (Err Unfit) s number place = kept_turn_law s 4 0
 
 -- the turn of an event that is taken
 unfoldable pub taken_turn_law : State → List ℕ → List ℕ → List ℕ → ℕ → ℕ → Bool → Turn
@@ -56,16 +56,16 @@ kept_turn f refs refs' sizes sizes' n p t e r z = rw (e, r, z) refl
 -- the check of the diagrams refuses, and nothing else is asked
 pub formed_err : (x : Formed) (q : Refusal) (f : Figures) (refs sizes : List ℕ) (n p : ℕ) → Err q ≡ of_formed x → turn_of (said_of f (Err q)) refs sizes ≡ formed_turn_law x (whole f refs sizes) n p
 unfolding formed_turn_law of_formed kept_turn_law refused_said
-formed_err Good q f refs sizes n p e = let z : ◌≡◌ {A = ℕ} 0 1 = cc in absurd (omega arith)
-formed_err Bad q f refs sizes n p e = let z : q ≡ wrong_state = cc in rw z refl
-formed_err Unfit q f refs sizes n p e = let z : q ≡ wrong_state = cc in rw z refl
+formed_err (Ok x) q f refs sizes n p e = let z : ◌≡◌ {A = ℕ} 0 1 = cc in absurd (omega arith)
+formed_err (Err Bad) q f refs sizes n p e = let z : q ≡ wrong_state = cc in rw z refl
+formed_err (Err Unfit) q f refs sizes n p e = let z : q ≡ wrong_state = cc in rw z refl
 
 -- it passes, and leaves the event to another refusal
 pub formed_ok : (x : Formed) (u : Unit {0}) (f : Figures) (refs sizes : List ℕ) (n p : ℕ) → Ok u ≡ of_formed x → turn_of (refused_said f n p) refs sizes ≡ formed_turn_law x (whole f refs sizes) n p
 unfolding formed_turn_law of_formed kept_turn_law refused_said
-formed_ok Good u f refs sizes n p e = refl
-formed_ok Bad u f refs sizes n p e = let z : ◌≡◌ {A = ℕ} 0 1 = cc in absurd (omega arith)
-formed_ok Unfit u f refs sizes n p e = let z : ◌≡◌ {A = ℕ} 0 1 = cc in absurd (omega arith)
+formed_ok (Ok x) u f refs sizes n p e = refl
+formed_ok (Err Bad) u f refs sizes n p e = let z : ◌≡◌ {A = ℕ} 0 1 = cc in absurd (omega arith)
+formed_ok (Err Unfit) u f refs sizes n p e = let z : ◌≡◌ {A = ℕ} 0 1 = cc in absurd (omega arith)
 
 pub taken_turn : (f : Figures) (counts refs refs' sizes sizes' : List ℕ) (kept room : ℕ) (y : Bool) (complements swept : ℕ) (numbered : List ℕ) (t : Said)
     → t ≡ taken_said f counts kept room y complements swept numbered → turn_of t refs' sizes' ≡ taken_turn_law (whole f refs sizes) counts refs' sizes' kept room y

@@ -15,7 +15,7 @@ use Rattle.meaning.specs.Outcome
 use Rattle.meaning.specs.Outcome.{k_right, nodes_right, values_right, taken, refused, judge_start, StartOutcome, settle_start, decide_start, start_outcome}
 use Rattle.meaning.proofs.RowsLaws.{checked}
 use Rattle.monitor.specs.declared.refusals.Refusal.{Refusal}
-use Rattle.monitor.specs.Decisions.{number_of, place_of, decision_of, of_rule}
+use Rattle.monitor.specs.Decisions.{number_of, place_of, decision_of}
 use Rattle.monitor.specs.Calls.{refused_turn, started_turn, Starts}
 
 -- a k that is right is small
@@ -34,17 +34,6 @@ unfolding judge_start
 judged false f b e = let z : ◌≡◌ {A = ℕ} 0 1 = cc in absurd (omega arith)
 judged true (fault p) b e = let z : ◌≡◌ {A = ℕ} 0 1 = cc in absurd (omega arith)
 judged true right b e = refl
-
--- refusal 2 comes before the lengths
-pub rule_first : (f : Found) (b : Bool) (n p : ℕ) → refused n p ≡ of_rule f → refused n p ≡ judge_start true f b
-unfolding judge_start
-rule_first right b n p e = let z : ◌≡◌ {A = ℕ} 0 1 = cc in absurd (omega arith)
-rule_first (fault q) b n p e = e
-
--- a rule that is not refused is right
-pub rule_passes : (f : Found) → taken ≡ of_rule f → f ≡ right
-rule_passes right e = refl
-rule_passes (fault q) e = let z : ◌≡◌ {A = ℕ} 0 1 = cc in absurd (omega arith)
 
 module _ (k : ℕ) (rows nodes values : List ℕ) where
   -- the outcome of a decision

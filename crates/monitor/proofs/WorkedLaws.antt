@@ -24,16 +24,18 @@ use Rattle.meaning.proofs.StepLaws.{trees_length}
 use Rattle.meaning.proofs.RunLaws.{few, Laid}
 use Rattle.meaning.proofs.AnyState.{laid_formed}
 use Rattle.numbers.specs.declared.Asked.{Asked}
-use Rattle.numbers.specs.Asking.{with_fresh, with_counts, bare, fact_at, Asks, Askable}
+use Rattle.numbers.specs.Asking.{with_fresh, with_counts, bare, fact_at, numbered, Asks, Askable}
 use Rattle.numbers.proofs.AskedLaws.{lists_of, numbers_right}
 use Rattle.lists.specs.Writing.{Writable}
 use Rattle.lists.proofs.WrittenLaws.{shortest_is, writable, written_is}
 use Rattle.diagram.specs.declared.Instruction.TheVariants.{Yes}
-use Rattle.diagram.specs.declared.Told.{Told}
-use Rattle.diagram.specs.declared.Told.TheVariants.{Unfit, Bad, Full, Done}
+use Rattle.std.specs.Prelude.{Ok, Err}
+use Rattle.diagram.specs.declared.Done.{Done}
+use Rattle.diagram.specs.declared.Refused.{Refused}
+use Rattle.diagram.specs.declared.Refused.TheVariants.{Unfit, Bad, Full}
 use Rattle.diagram.specs.Steps
-use Rattle.diagram.specs.Steps.{Task, does, judge, formed_outcome, step_outcome, Leaves}
-use Rattle.diagram.specs.Counts.{Visited, Visits}
+use Rattle.diagram.specs.Steps.{Told, Task, does, judge, formed_outcome, step_outcome, Leaves}
+use Rattle.diagram.specs.Counts.{Visited}
 use Rattle.instructions.specs.Plan.{task_of, plan_of}
 use Rattle.instructions.specs.Planned.{planned}
 use Rattle.instructions.specs.Worked.{worked_outcome}
@@ -42,6 +44,7 @@ use Rattle.instructions.proofs.PlannedLaws.{planned_length, planned_is}
 use Rattle.monitor.specs.Calls.{Happens}
 use Rattle.monitor.specs.Events.{lists_right, Listed, Asking}
 use Rattle.monitor.specs.Visits.{event_plan}
+use Rattle.monitor.specs.Decisions.{number_of, place_of, of_step}
 use Rattle.monitor.proofs.SaidLaws.{kept_turn_law, formed_turn_law, taken_turn_law}
 use Rattle.monitor.proofs.DecisionLaws.{formed, short, fitting, decides_4, decides_5, decides_6, decides_room}
 use Rattle.monitor.proofs.StartLaws.{k_small}
@@ -104,6 +107,16 @@ module _ (rows masks : List ℕ) (m : Machine) (e : Event) (l : Listed rows mask
       → ws ≡ (formed_outcome m.state.k m.state.rows masks m.state.refs m.state.sizes m.state.kept m.nodes m.work).work → ns ≡ m.nodes → vs ≡ m.values → Happens rows m e u ns vs ws
   refuses_5 c u ns vs ws x y n w = refuses_formed rows m e masks l 5 0 u ns vs ws (λ f. decides_5 rows m e l.k_is_right l.rule_right l.lengths f c) refl x y n w
 
+-- what a step tells, and what it is done with
+abbrev told : Told → Told
+told x = x
+
+abbrev done_of : ℕ → ℕ → Done
+done_of kept room = record { kept = kept; room = room }
+
+done_same : (x y : Done) → told (Ok x) ≡ told (Ok y) → x ≡ y
+done_same x y e = cc
+
 module _ (rows masks : List ℕ) (m : Machine) (e : Event) (a : Asked) (s : Asking rows masks m e a) where
   abbrev after : Shown
   after = step m.state.k (rule_of rows) (shows rows m) (facts_of e)
@@ -114,7 +127,7 @@ module _ (rows masks : List ℕ) (m : Machine) (e : Event) (a : Asked) (s : Aski
   right_numbers : (i f : ℕ) → i < count_of_rows rows → f < e.count → NumbersRight (fact_at e f) (ask_facts (facts_of e) (shows rows m).lists (rule_of rows)) (row_at rows i) a.given f
   right_numbers i f li lf v j lv q =
       numbers_right m.state.k m.state.counts m.values rows e a s.asks f i v j lf li lv q
-      ∙ ap (λ (L : Lists). place (ask_facts (facts_of e) L (rule_of rows) v) (get_or (fact_at e f).values j 0)) (sym (lists_are rows m))
+      ∙ ap (λ (L : Lists). numbered (place (ask_facts (facts_of e) L (rule_of rows) v) (get_or (fact_at e f).values j 0))) (sym (lists_are rows m))
 
   count_facts : length (facts_of e) ≡ e.count
   count_facts = facts_count e (omega (arith, few_facts rows e s.count_is_right, s.facts))
@@ -131,9 +144,9 @@ module _ (rows masks : List ℕ) (m : Machine) (e : Event) (a : Asked) (s : Aski
 
   -- the three ends of the work
   pub data Ended (x : Told) (rs zs ns ws : List ℕ) : Type 0 where
-    bad : formed rows m e ≡ false → x ≡ Bad → rs ≡ m.state.refs → zs ≡ m.state.sizes → ns ≡ m.nodes → ws ≡ cleared C m.work → Ended x rs zs ns ws
-    full : formed rows m e ≡ true → fitting rows m e ≡ false → x ≡ Full → rs ≡ m.state.refs → zs ≡ m.state.sizes → ns ≡ m.nodes → ws ≡ cleared C m.work → Ended x rs zs ns ws
-    done : formed rows m e ≡ true → fitting rows m e ≡ true → x ≡ Done (length (kept_table after)) (room_of m.state.k (rule_of rows) (shows rows m) (facts_of e) after)
+    bad : formed rows m e ≡ false → x ≡ Err Bad → rs ≡ m.state.refs → zs ≡ m.state.sizes → ns ≡ m.nodes → ws ≡ cleared C m.work → Ended x rs zs ns ws
+    full : formed rows m e ≡ true → fitting rows m e ≡ false → x ≡ Err Full → rs ≡ m.state.refs → zs ≡ m.state.sizes → ns ≡ m.nodes → ws ≡ cleared C m.work → Ended x rs zs ns ws
+    done : formed rows m e ≡ true → fitting rows m e ≡ true → x ≡ Ok (done_of (length (kept_table after)) (room_of m.state.k (rule_of rows) (shows rows m) (facts_of e) after))
         → rs ≡ (lay_state m.state.k after).refs → zs ≡ sizes_of after.trees → ns ≡ lay_nodes C after → ws ≡ cleared C m.work → Ended x rs zs ns ws
 
   abbrev plan : List Task
@@ -199,39 +212,46 @@ module _ (rows masks : List ℕ) (m : Machine) (e : Event) (a : Asked) (s : Aski
     decides_done f g = decides true f g
 
     -- a step without room is refused
-    pub refuses_full : (t : Turn) (vs : List ℕ) → x ≡ Full → (rs ≡ m.state.refs → zs ≡ m.state.sizes → t ≡ kept_turn_law m.state 7 0) → vs ≡ m.values → Happens rows m e t ns vs ws
+    pub refuses_full : (t : Turn) (vs : List ℕ) → x ≡ Err Full → (rs ≡ m.state.refs → zs ≡ m.state.sizes → t ≡ kept_turn_law m.state 7 0) → vs ≡ m.values → Happens rows m e t ns vs ws
     refuses_full t vs y h v = go ended
       where
         go : Ended x rs zs ns ws → Happens rows m e t ns vs ws
-        go (bad f q i j n w) = let z : Full ≡ Bad = sym y ∙ q in let u : ◌≡◌ {A = ℕ} 0 1 = cc in absurd (omega arith)
+        go (bad f q i j n w) = let z : told (Err Full) ≡ told (Err Bad) = sym y ∙ q in let u : ◌≡◌ {A = ℕ} 0 1 = cc in absurd (omega arith)
         go (full f g q i j n w) = refuses_late rows m e 7 0 t ns vs ws (decides_full f g) refl (h i j) n v w
-        go (done f g q r j n w) = let z : Full ≡ Done _ _ = sym y ∙ q in let u : ◌≡◌ {A = ℕ} 0 1 = cc in absurd (omega arith)
+        go (done f g q r j n w) = let z : told (Err Full) ≡ told (Ok _) = sym y ∙ q in let u : ◌≡◌ {A = ℕ} 0 1 = cc in absurd (omega arith)
 
     -- one on bad diagrams is refused
-    pub refuses_bad : (t : Turn) (vs : List ℕ) → x ≡ Bad → (rs ≡ m.state.refs → zs ≡ m.state.sizes → t ≡ kept_turn_law m.state 4 0) → vs ≡ m.values → Happens rows m e t ns vs ws
+    pub refuses_bad : (t : Turn) (vs : List ℕ) → x ≡ Err Bad → (rs ≡ m.state.refs → zs ≡ m.state.sizes → t ≡ kept_turn_law m.state 4 0) → vs ≡ m.values → Happens rows m e t ns vs ws
     refuses_bad t vs y h v = go ended
       where
         go : Ended x rs zs ns ws → Happens rows m e t ns vs ws
         go (bad f q i j n w) = let l = s.listed in refuses_late rows m e 4 0 t ns vs ws (decides_4 rows m e l.k_is_right l.rule_right l.lengths f) refl (h i j) n v w
-        go (full f g q i j n w) = let z : Bad ≡ Full = sym y ∙ q in let u : ◌≡◌ {A = ℕ} 0 1 = cc in absurd (omega arith)
-        go (done f g q r j n w) = let z : Bad ≡ Done _ _ = sym y ∙ q in let u : ◌≡◌ {A = ℕ} 0 1 = cc in absurd (omega arith)
+        go (full f g q i j n w) = let z : told (Err Bad) ≡ told (Err Full) = sym y ∙ q in let u : ◌≡◌ {A = ℕ} 0 1 = cc in absurd (omega arith)
+        go (done f g q r j n w) = let z : told (Err Bad) ≡ told (Ok _) = sym y ∙ q in let u : ◌≡◌ {A = ℕ} 0 1 = cc in absurd (omega arith)
 
     -- the numbers and lengths are fit
-    pub never_unfit : {A : Type 0} → x ≡ Unfit → A
+    pub never_unfit : {A : Type 0} → x ≡ Err Unfit → A
     never_unfit {A} y = go ended
       where
         go : Ended x rs zs ns ws → A
-        go (bad f q i j n w) = let z : Unfit ≡ Bad = sym y ∙ q in let u : ◌≡◌ {A = ℕ} 0 1 = cc in absurd (omega arith)
-        go (full f g q i j n w) = let z : Unfit ≡ Full = sym y ∙ q in let u : ◌≡◌ {A = ℕ} 0 1 = cc in absurd (omega arith)
-        go (done f g q r j n w) = let z : Unfit ≡ Done _ _ = sym y ∙ q in let u : ◌≡◌ {A = ℕ} 0 1 = cc in absurd (omega arith)
+        go (bad f q i j n w) = let z : told (Err Unfit) ≡ told (Err Bad) = sym y ∙ q in let u : ◌≡◌ {A = ℕ} 0 1 = cc in absurd (omega arith)
+        go (full f g q i j n w) = let z : told (Err Unfit) ≡ told (Err Full) = sym y ∙ q in let u : ◌≡◌ {A = ℕ} 0 1 = cc in absurd (omega arith)
+        go (done f g q r j n w) = let z : told (Err Unfit) ≡ told (Ok _) = sym y ∙ q in let u : ◌≡◌ {A = ℕ} 0 1 = cc in absurd (omega arith)
+
+    -- so a refused step is answered
+    pub refuses_step : (r : Refused) → x ≡ Err r → (t : Turn) (vs : List ℕ) → (rs ≡ m.state.refs → zs ≡ m.state.sizes → t ≡ kept_turn_law m.state (number_of (of_step r)) (place_of (of_step r)))
+        → vs ≡ m.values → Happens rows m e t ns vs ws
+    refuses_step Unfit y t vs h v = never_unfit y
+    refuses_step Bad y t vs h v = refuses_bad t vs y h v
+    refuses_step Full y t vs h v = refuses_full t vs y h v
 
     -- one that is done has well-formed diagrams and room
-    module _ (n r : ℕ) (d : x ≡ Done n r) where
+    module _ (did : Done) (d : x ≡ Ok did) where
       pub record Finished : Type 0 where
         pub well : formed rows m e ≡ true
         pub fits : fitting rows m e ≡ true
-        pub kept_is : n ≡ length (kept_table after)
-        pub room_is : r ≡ room_of m.state.k (rule_of rows) (shows rows m) (facts_of e) after
+        pub kept_is : did.kept ≡ length (kept_table after)
+        pub room_is : did.room ≡ room_of m.state.k (rule_of rows) (shows rows m) (facts_of e) after
         pub refs_are : rs ≡ (lay_state m.state.k after).refs
         pub sizes_are : zs ≡ sizes_of after.trees
         pub nodes_are : ns ≡ lay_nodes C after
@@ -241,11 +261,11 @@ module _ (rows masks : List ℕ) (m : Machine) (e : Event) (a : Asked) (s : Aski
       finished = go ended
         where
           go : Ended x rs zs ns ws → Finished
-          go (bad f q i j u w) = let z : Done n r ≡ Bad = sym d ∙ q in let y : ◌≡◌ {A = ℕ} 0 1 = cc in absurd (omega arith)
-          go (full f g q i j u w) = let z : Done n r ≡ Full = sym d ∙ q in let y : ◌≡◌ {A = ℕ} 0 1 = cc in absurd (omega arith)
+          go (bad f q i j u w) = let z : told (Ok did) ≡ told (Err Bad) = sym d ∙ q in let y : ◌≡◌ {A = ℕ} 0 1 = cc in absurd (omega arith)
+          go (full f g q i j u w) = let z : told (Ok did) ≡ told (Err Full) = sym d ∙ q in let y : ◌≡◌ {A = ℕ} 0 1 = cc in absurd (omega arith)
           go (done f g q p j u w) =
-              let z : Done n r ≡ Done (length (kept_table after)) (room_of m.state.k (rule_of rows) (shows rows m) (facts_of e) after) = sym d ∙ q in
-              record { well = f; fits = g; kept_is = cc; room_is = cc; refs_are = p; sizes_are = j; nodes_are = u; work_is = w }
+              let z : did ≡ done_of (length (kept_table after)) (room_of m.state.k (rule_of rows) (shows rows m) (facts_of e) after) = done_same did _ (sym d ∙ q) in
+              record { well = f; fits = g; kept_is = ap (λ (y : Done). y.kept) z; room_is = ap (λ (y : Done). y.room) z; refs_are = p; sizes_are = j; nodes_are = u; work_is = w }
 
       laid : Laid rows m.state.k C s.listed.k_is_right s.listed.rule_right m (shows rows m)
       laid = let l = s.listed in laid_formed rows m (l.counts, l.refs, l.sizes) l.k_is_right l.rule_right l.lengths finished.well
@@ -283,7 +303,7 @@ module _ (rows masks : List ℕ) (m : Machine) (e : Event) (a : Asked) (s : Aski
 
       -- what is given back and left is the outcome of an event that is taken
       pub takes : length a.counts ≡ 4 → (t : Turn) (vs : List ℕ)
-          → t ≡ taken_turn_law m.state a.counts rs zs n r (eqb (get_or rs (m.state.rows - 1) 0) 1)
+          → t ≡ taken_turn_law m.state a.counts rs zs did.kept did.room (eqb (get_or rs (m.state.rows - 1) 0) 1)
           → vs ≡ lay_values m.state.k (with_fresh m.state.counts a.counts (bare a.fresh) (list_of m.state.k (with_counts m.state.counts) m.values)) → Happens rows m e t ns vs ws
       unfolding taken_turn_law
       takes four t vs h v =
@@ -298,6 +318,6 @@ module _ (rows masks : List ℕ) (m : Machine) (e : Event) (a : Asked) (s : Aski
           finished.work_is)
 
       -- the visits are those of the event's plan
-      pub looks : (complements swept : ℕ) → Visits m.state.k (count_of_rows rows) plan m.state.refs m.state.kept m.nodes x complements swept
-          → Visited m.state.k (length (rule_of rows)) (event_plan rows m e) m.state.refs m.state.kept m.nodes n complements swept
-      looks complements swept v = rw (count_is, ← plan_is) (rw d at v)
+      pub looks : (complements swept : ℕ) → Visited m.state.k (count_of_rows rows) plan m.state.refs m.state.kept m.nodes did.kept complements swept
+          → Visited m.state.k (length (rule_of rows)) (event_plan rows m e) m.state.refs m.state.kept m.nodes did.kept complements swept
+      looks complements swept v = rw (count_is, ← plan_is) v

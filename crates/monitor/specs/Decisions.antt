@@ -1,10 +1,11 @@
 -- How the refusals of the code are read. Assumes nothing: these are definitions.
 use Rattle.std.specs.Prelude.{ℕ, Result, Ok, Err}
-use Rattle.meaning.specs.Rows.{Found, right, fault}
+use Rattle.meaning.specs.declared.Answer.{Answer}
+use Rattle.meaning.specs.declared.Answer.TheVariants.{Refused}
 use Rattle.meaning.specs.Outcome
-use Rattle.meaning.specs.Outcome.{taken, refused}
-use Rattle.diagram.specs.declared.Formed.{Formed}
-use Rattle.diagram.specs.declared.Formed.TheVariants.{Unfit, Bad, Good}
+use Rattle.diagram.specs.declared.Refused as step
+use Rattle.diagram.specs.declared.Refused.TheVariants as refused
+use Rattle.diagram.specs.Steps.{Formed}
 use Rattle.monitor.specs.declared.Figures.{Figures}
 use Rattle.monitor.specs.declared.Said.{Said}
 use Rattle.monitor.specs.declared.refusals.Refusal.{Refusal}
@@ -31,15 +32,14 @@ place_of Event = 0
 place_of (Numbers variable) = variable
 place_of Room = 0
 
+-- and the answer of the meaning
+abbrev pub answer_of : Refusal → Answer
+answer_of r = Refused (number_of r) (place_of r)
+
 -- the decision of the meaning
 abbrev pub decision_of : {A : Type 0} → Result A Refusal → Outcome.Decision
-decision_of (Ok x) = taken
-decision_of (Err r) = refused (number_of r) (place_of r)
-
--- refusal 2
-abbrev pub of_rule : Found → Outcome.Decision
-of_rule right = taken
-of_rule (fault p) = refused 2 p
+decision_of (Ok x) = Outcome.taken
+decision_of (Err r) = Outcome.refused (number_of r) (place_of r)
 
 -- what is said where an event is tried: of a refused one, that the figures are those that it got
 abbrev pub said_of : Figures → Result Said Refusal → Said
@@ -48,6 +48,11 @@ said_of f (Err r) = refused_said f (number_of r) (place_of r)
 
 -- the rest of refusal 4: the diagrams are not well kept, or the sizes not theirs
 unfoldable pub of_formed : Formed → Result (Unit {0}) Refusal
-of_formed Good = Ok tt
-of_formed Bad = Err State
-of_formed Unfit = Err State
+of_formed (Ok x) = Ok x
+of_formed (Err x) = Err State
+
+-- and what a step is refused for, where it is the event's: the state, or the room
+abbrev pub of_step : step.Refused → Refusal
+of_step refused.Unfit = State
+of_step refused.Bad = State
+of_step refused.Full = Room

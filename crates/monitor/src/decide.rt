@@ -3,29 +3,16 @@ ghost use Rattle.std.specs.Prelude.{◌≡◌, ◌&&◌, IfOk};
 ghost use Rattle.meaning.specs.Rows.{check_rows};
 ghost use Rattle.meaning.specs.Outcome.{k_right, nodes_right, values_right, judge_start};
 ghost use Rattle.rule.specs.Checking.{Free};
-ghost use Rattle.monitor.specs.Decisions.{decision_of, of_rule};
+ghost use Rattle.monitor.specs.Decisions.{decision_of};
 
 use crate::lent;
 use crate::refusals::Refusal;
-use rule::Checked;
 
 // "k from 1 to 10"
 fn k_right(k: u32) -> bool
     ensures { result ≡ k_right k }
 {
     (1..=10).contains(&k)
-}
-
-// The free variables of each row of a rule, or refusal 2 with the place of the fault.
-fn rule_right(rows: &[u32]) -> Result<[u32; 64], Refusal>
-    ensures decides { decision_of result ≡ of_rule (check_rows rows.now) }
-    ensures free { IfOk result (Free rows.now) }
-{
-    let rule = rule::check(rows);
-    match rule.checked {
-        Checked::Right => Ok(rule.free),
-        Checked::Fault(row) => Err(Refusal::Rule(row)),
-    }
 }
 
 // Refusals 1 to 3, in this order; where none applies, the free variables of each row.
@@ -36,7 +23,7 @@ pub fn judge(k: u32, rows: &[u32], nodes: &[u32], values: &[u32]) -> Result<[u32
     if !k_right(k) {
         return Err(Refusal::K);
     }
-    let free = rule_right(rows)?;
+    let free = rule::check(rows)?;
     if !lent::lengths_right(k, nodes, values) {
         return Err(Refusal::Lengths);
     }

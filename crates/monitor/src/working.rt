@@ -10,9 +10,10 @@ ghost use Rattle.monitor.specs.Events.{Listed, Asking, Ends};
 
 use crate::refusals::Refusal;
 use crate::{Figures, Said};
-use diagram::{Formed, Told};
+use diagram::Done;
 use meaning::{Answer, Event};
 use numbers::Asked;
+use stepping::Stepped;
 
 // The rest of refusal 4: the diagrams are not well kept, or the sizes not theirs.
 fn formed(
@@ -38,9 +39,8 @@ fn formed(
         work,
     );
     match told {
-        Formed::Good => Ok(()),
-        Formed::Bad => Err(Refusal::State),
-        Formed::Unfit => Err(Refusal::State),
+        Ok(()) => Ok(()),
+        Err(_) => Err(Refusal::State),
     }
 }
 
@@ -57,19 +57,12 @@ fn newly(before: [u32; 4], after: [u32; 4]) -> [u32; 4]
 }
 
 // What is said of an event that is taken. The verdict is read off the last row's reference.
-fn taken(
-    figures: Figures,
-    counts: [u32; 4],
-    refs: &[u32; 64],
-    kept: u32,
-    room: u32,
-    complements: u32,
-    swept: u32,
-) -> Said
+fn taken(figures: Figures, counts: [u32; 4], refs: &[u32; 64], stepped: Stepped) -> Said
     requires rows { (0 < figures.rows) × (figures.rows ≤ 64) }
     requires grown { Grown figures.counts counts }
-    ensures { result ≡ taken_said figures counts kept room (eqb (get_or refs.now (figures.rows - 1) 0) 1) complements swept (growth figures.counts counts) }
+    ensures { result ≡ taken_said figures counts stepped.done.kept stepped.done.room (eqb (get_or refs.now (figures.rows - 1) 0) 1) stepped.complements stepped.swept (growth figures.counts counts) }
 {
+    let Done { kept, room } = stepped.done;
     let last = (figures.rows - 1) as usize;
     let yes = refs[last] == 1;
     let numbered = newly(figures.counts, counts);
@@ -80,8 +73,8 @@ fn taken(
             ..figures
         },
         answer: Answer::Verdict(yes, kept, room),
-        complements,
-        swept,
+        complements: stepped.complements,
+        swept: stepped.swept,
         numbered,
     }
 }
@@ -114,25 +107,10 @@ fn work_on(
         figures.kept,
         nodes,
         work,
-    );
-    match stepped.told {
-        Told::Done(kept, room) => {
-            lists::write_fresh(figures.k, figures.counts, asked, values);
-            let counts = asked.counts;
-            Ok(taken(
-                figures,
-                counts,
-                refs,
-                kept,
-                room,
-                stepped.complements,
-                stepped.swept,
-            ))
-        }
-        Told::Full => Err(Refusal::Room),
-        Told::Bad => Err(Refusal::State),
-        Told::Unfit => Err(Refusal::State),
-    }
+    )?;
+    lists::write_fresh(figures.k, figures.counts, asked, values);
+    let counts = asked.counts;
+    Ok(taken(figures, counts, refs, stepped))
 }
 
 // Judges an event whose lists are right.
