@@ -145,15 +145,7 @@ module _ (list work : List ℕ) (size n : ℕ) (s : Searchable list work size n)
         let v = vacant_slot work size (omega (arith, s.table.free, s.more)) in
         rw z (nearer size (vacancy work size) p v.0 a.low (λ e. some h (rw e v.1)))
 
-    -- it ends at a slot that has a place of the value, or at a free one
-    pub sought_one : (q ≡ 0 → ⊥) → get_or list (q - 1) 0 ≡ get_or list n 0 → Sought list work size n p
-    sought_one h e = record {
-      inside = a.low;
-      reached = a.way;
-      met = λ f. (q - 1, omega (arith, a.place, h), e);
-      new = λ f. absurd (some h f);
-    }
-
+    -- it ends at a free slot, where it has met no place of the value
     pub sought_none : q ≡ 0 → Sought list work size n p
     sought_none h = record {
       inside = a.low;

@@ -1,36 +1,55 @@
 -- Laws of the copy that an event's answer is made of: a fact's numbers go to their places. Assumes nothing.
-use Prim.Native.Nat.{ℕ, ◌+◌, ◌*◌, ◌≤◌, ◌<◌}
-use mathlib.Core.Path.{◌≡◌, refl, ◌∙◌}
-use mathlib.Core.List.{List}
+use Prim.Native.Nat.{ℕ, ◌+◌, ◌-◌, ◌*◌, ◌<◌}
+use mathlib.Core.Path.{◌≡◌, ap, sym, ◌∙◌}
+use mathlib.Core.List.{List, ◌++◌}
 use mathlib.Core.Logic.{⊎_elim}
 use native.Mathlib.Omega.{arith}
-use lib.ListN.{length, get_or, set, length-set}
-use lib.Seq.{get_or-set_same, get_or-set_other}
+use lib.ListN.{length, get_or, take, drop, get_or-append}
+use lib.Seq.{get_or-append-add, get_or-take, get_or-drop, length-take-le}
+use borrow.Rule.Slice.PartMut.{put_mid, mid_len, same_len_mid}
 use Rattle.std.specs.Prelude.{Option, None}
 use Rattle.making.specs.declared.Number.{Number}
 use Rattle.numbers.specs.Asking.{Put}
-use Rattle.numbers.proofs.TallyLaws.{same_or_not}
+use Rattle.trees.proofs.Tests.{lt_or_ge}
 
--- the first i numbers of the fact f stand at their places
-pub record Moved (f : ℕ) (numbers given r : List (Option Number)) (i : ℕ) : Type 0 where
-  pub size : length r ≡ length given
-  pub here : (t : ℕ) → t < i → get_or r (12 * f + t) None ≡ get_or numbers t None
-  pub there : (g t : ℕ) → (g ≡ f → ⊥) → t < 12 → get_or r (12 * g + t) None ≡ get_or given (12 * g + t) None
+-- twelve numbers in the place of those from 12 * f on
+module _ (f : ℕ) (numbers given : List (Option Number)) (hf : f < 8) (size : length given ≡ 96) (dozen : length numbers ≡ 12) where
+  abbrev r : List (Option Number)
+  r = put_mid (12 * f) (12 * f + 12 - 12 * f) given numbers
 
-module _ (f : ℕ) (numbers given : List (Option Number)) where
-  pub moved_none : Moved f numbers given given 0
-  moved_none = record { size = refl; here = λ t h. absurd (omega arith); there = λ g t n h. refl }
+  abbrev rest : List (Option Number)
+  rest = drop (12 * f + 12 - 12 * f) (drop (12 * f) given)
 
-  pub moved_more : (r : List (Option Number)) (i : ℕ) → f < 8 → length given ≡ 96 → i < 12 → Moved f numbers given r i → Moved f numbers given (set r (12 * f + i) (get_or numbers i None)) (i + 1)
-  moved_more r i hf n hi m = record {
-    size = length-set r (12 * f + i) (get_or numbers i None) ∙ m.size;
-    here = λ t h. ⊎_elim
-        (λ e. let z : t ≡ i = e in rw (z, get_or-set_same r (12 * f + i) (get_or numbers i None) None (omega (arith, m.size))))
-        (λ e. rw (get_or-set_other r (12 * f + i) (12 * f + t) (get_or numbers i None) None (λ q. e (omega arith))) (m.here t (omega (arith, e))))
-        (same_or_not t i);
-    there = λ g t e h.
-        rw (get_or-set_other r (12 * f + i) (12 * g + t) (get_or numbers i None) None (λ q. e (omega arith))) (m.there g t e h);
+  front : length (take (12 * f) given) ≡ 12 * f
+  front = length-take-le (12 * f) given (omega arith)
+
+  below : (i : ℕ) → i < 12 * f → get_or r i None ≡ get_or given i None
+  below i h =
+      get_or-append (take (12 * f) given) (numbers ++ rest) None i (omega (arith, front))
+      ∙ get_or-take (12 * f) given i None h
+
+  within : (i : ℕ) → get_or r (12 * f + i) None ≡ get_or (numbers ++ rest) i None
+  within i =
+      ap (λ (k : ℕ). get_or r (k + i) None) (sym front)
+      ∙ get_or-append-add (take (12 * f) given) (numbers ++ rest) i None
+
+  behind : (i : ℕ) → get_or r (12 * f + (12 + i)) None ≡ get_or given (12 * f + (12 + i)) None
+  behind i =
+      within (12 + i)
+      ∙ ap (λ (k : ℕ). get_or (numbers ++ rest) (k + i) None) (sym dozen)
+      ∙ get_or-append-add numbers rest i None
+      ∙ get_or-drop (12 * f + 12 - 12 * f) (drop (12 * f) given) i None
+      ∙ get_or-drop (12 * f) given (12 * f + 12 - 12 * f + i) None
+      ∙ ap (λ (k : ℕ). get_or given k None) (omega arith)
+
+  pub put_twelve : Put f numbers given r
+  put_twelve = record {
+    size = same_len_mid (12 * f) (12 * f + 12 - 12 * f) given numbers (dozen ∙ sym (mid_len (12 * f) (12 * f + 12) given (omega arith) ∙ omega arith));
+    here = λ t h. within t ∙ get_or-append numbers rest None t (omega (arith, dozen));
+    there = λ g t e h. ⊎_elim
+        (λ l. below (12 * g + t) (omega (arith, e)))
+        (λ l.
+        let z : 12 * g + t ≡ 12 * f + (12 + (12 * g + t - (12 * f + 12))) = omega (arith, e) in
+        rw z (behind (12 * g + t - (12 * f + 12))))
+        (lt_or_ge g f);
   }
-
-  pub moved_all : (r : List (Option Number)) (i : ℕ) → 12 ≤ i → Moved f numbers given r i → Put f numbers given r
-  moved_all r i h m = record { size = m.size; here = λ t k. m.here t (omega arith); there = m.there }

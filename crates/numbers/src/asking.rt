@@ -116,9 +116,7 @@ pub fn ask(k: u32, before: [u32; 4], values: &[u32], rows: &[u32], event: Event)
     for f in 0..event.count as usize {
         a.numbers = [None; 12];
         a.ask_fact(&parts, rows, event.facts[f]);
-        for i in 0..12 {
-            given[12 * f + i] = a.numbers[i];
-        }
+        given[12 * f..12 * f + 12].copy_from_slice(&a.numbers);
     }
     Asked {
         counts: a.counts,

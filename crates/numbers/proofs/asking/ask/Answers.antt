@@ -5,7 +5,7 @@ use Rattle.meaning.specs.Rows.{rule_of}
 use Rattle.numbers.specs.Asking.{part_of}
 use Rattle.numbers.proofs.PartLaws.{part_size}
 use Rattle.numbers.proofs.StartLaws.{most_le}
-use Rattle.numbers.proofs.CopyLaws.{moved_none, moved_more, moved_all}
+use Rattle.numbers.proofs.CopyLaws.{put_twelve}
 use Rattle.numbers.proofs.FactsLaws.{going_none, going_steady, going_next}
 use Rattle.numbers.proofs.AskedLaws.{eight, three, facts_inside, fact_is, asks_all, parted}
 use Rattle.numbers.proofs.asking.ask.Goals as goal
@@ -28,15 +28,8 @@ ask_fact-requires c =
       three c.args.event c.loop-f.f c.loop-f-test.true (omega arith) (rule_of c.args.rows.now) _ c.requires.agreed,
     )
 
-pub loop-i-init : goal.loop-i-init
-loop-i-init c = moved_none _ _ _
-
-pub bounds-given-f : goal.bounds-given-f
-bounds-given-f c = omega (arith, c.loop-f-test.true, eight c.args.event (rule_of c.args.rows.now) c.requires.agreed, c.loop-i.invariant.size, c.loop-f.invariant.size)
-
-pub loop-i-preserved : goal.loop-i-preserved
-loop-i-preserved c =
-    moved_more c.loop-f.f _ _ _ c.loop-i.i (omega (arith, c.loop-f-test.true, eight c.args.event (rule_of c.args.rows.now) c.requires.agreed)) c.loop-f.invariant.size c.loop-i-test.true c.loop-i.invariant
+pub slice_bounds-given-end : goal.slice_bounds-given-end
+slice_bounds-given-end c = omega (arith, c.loop-f-test.true, eight c.args.event (rule_of c.args.rows.now) c.requires.agreed, c.loop-f.invariant.size)
 
 pub loop-f-preserved : goal.loop-f-preserved
 loop-f-preserved c =
@@ -44,7 +37,7 @@ loop-f-preserved c =
     let all : c.args.event.count ≤ length c.args.event.facts = omega arith in
     going_next c.args.before (part_of c.most-m.result c.args.before c.args.values.now) c.args.rows.now c.args.event c.loop-f.f c.loop-f.a.counts c.loop-f.a.fresh c.loop-f.given c.loop-f.invariant (omega arith)
     (facts_inside c.args.event c.loop-f.f c.loop-f-test.true all) _ (fact_is c.args.event c.loop-f.f c.loop-f-test.true all _) _ _ _ _ c.ask_fact.ensures
-    (moved_all c.loop-f.f _ _ _ c.loop-i.i c.loop-i-test.false c.loop-i.invariant)
+    (rw c.copy_from_slice.ensures.after (put_twelve c.loop-f.f c.ask_fact.new.self.numbers c.loop-f.given (omega arith) c.loop-f.invariant.size c.ask_fact.ensures.steady.dozen))
 
 pub returns : goal.returns
 returns c =
