@@ -3,7 +3,7 @@ use Prim.Native.Nat.{ℕ, zero, suc, ◌+◌, ◌*◌, ◌-◌, ◌≤◌, ◌<�
 use mathlib.Core.Path.{◌≡◌, refl, sym}
 use mathlib.Core.Bool.{Bool, true, false, ◌&&◌}
 use mathlib.Core.List.{List, [], ◌∷◌}
-use mathlib.Core.Logic.{◌≢◌, ⊎_elim}
+use mathlib.Core.Logic.{◌≢◌}
 use native.Mathlib.Omega.{arith}
 use lib.Bits.{bit_or, or_add_and, and_le_l, and_le_r}
 use Rattle.std.specs.Prelude.{Option, Some, None}
@@ -11,10 +11,11 @@ use Rattle.std.specs.Option.{is_some}
 use Rattle.std.specs.List.{fold}
 use lib.Dec.{eqb, ltb}
 use lib.ListN.{get_or, get_or-eq_default}
+use borrow.Author.Count.{below_more}
 use borrow.Author.Tests.{eq-eqb, ne_eqb, eqb-true, lt-ltb, le-ltb}
 use Rattle.trees.specs.Table.{NodeIs}
 use Rattle.trees.specs.Kept.{above, node_right, equal_nodes}
-use Rattle.trees.proofs.Tests.{EqCase, equal, other, eq_case, lt_or_ge, false_true, not_true, and_true_l, and_true_r}
+use Rattle.trees.proofs.Tests.{EqCase, equal, other, eq_case, false_true, not_true, and_true_l, and_true_r}
 use Rattle.nodes.specs.Nodes.{Decides}
 use Rattle.keeping.specs.Checks.{ZeroFrom, Apart}
 
@@ -63,10 +64,6 @@ or_tells xs = go (eqb (fold bit_or 0 xs) 0) (eq_case (fold bit_or 0 xs) 0)
     go : (b : Bool) → EqCase (fold bit_or 0 xs) 0 b → Decides (ZeroFrom 0 xs) b
     go true (equal e) = (or_none xs 0 e).1
     go false (other e) = λ z. e (none_or xs 0 refl z)
-
--- what holds of each below i, and of i, holds of each below i + 1
-pub more : (P : ℕ → Type 0) (i : ℕ) → ((j : ℕ) → j < i → P j) → P i → (j : ℕ) → j < i + 1 → P j
-more P i h p j k = ⊎_elim (λ l. h j l) (λ l. let q : j ≡ i = omega arith in rw q p) (lt_or_ge j i)
 
 -- a reference to a leaf leads above every level
 pub above_leaf : (ns : List ℕ) (l r : ℕ) → r < 2 → above ns l r ≡ true
@@ -124,7 +121,7 @@ equal_node ns i j e =
 
 -- one node more that stands at no place before
 pub apart_more : (ns : List ℕ) (n : ℕ) → Apart ns n → ((j : ℕ) → j < n → NodeIs ns j (get_or ns (3 * n) 0) (get_or ns (3 * n + 1) 0) (get_or ns (3 * n + 2) 0) → ⊥) → Apart ns (n + 1)
-apart_more ns n a none i j = more (λ i. j < i → equal_nodes ns i j ≡ false) n (λ i k l. a i j k l) (λ l. not_true (equal_nodes ns n j) (λ e. none j l (equal_node ns n j e))) i
+apart_more ns n a none i j = below_more (λ i. j < i → equal_nodes ns i j ≡ false) n (λ i k l. a i j k l) (λ l. not_true (equal_nodes ns n j) (λ e. none j l (equal_node ns n j e))) i
 
 -- one that stands at a place before
 pub apart_not : (ns : List ℕ) (n i j : ℕ) → i < n → j < i → NodeIs ns j (get_or ns (3 * i) 0) (get_or ns (3 * i + 1) 0) (get_or ns (3 * i + 2) 0) → Apart ns n → ⊥

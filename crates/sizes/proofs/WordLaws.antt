@@ -1,10 +1,12 @@
 -- Words of rows as numbers: the or of two numbers joins their words, and a power of two is one row. Assumes nothing.
-use Prim.Native.Nat.{ℕ, zero, suc, ◌+◌, ◌*◌, ◌-◌, ◌/◌, ◌%◌, ◌^◌, ◌≤◌, ◌<◌, max}
+use Prim.Native.Nat.{ℕ, zero, suc, ◌+◌, ◌-◌, ◌/◌, ◌^◌, ◌≤◌, ◌<◌, max}
 use mathlib.Core.Path.{◌≡◌, refl, sym, ap, ◌∙◌, fun_ext}
 use mathlib.Core.Bool.{Bool, true, false, ◌||◌}
 use mathlib.Core.List.{List, [], ◌∷◌, map}
 use native.Mathlib.Omega.{arith}
-use lib.Bits.{bit_or, or_step}
+use lib.Bits.{bit_or}
+use Rattle.std.specs.Int.{bit_at}
+use Rattle.std.proofs.lemmas.Nat.Bits.{bit_at_lowest, bit_at-suc, bit_at-zero, bit_at_or, bit_at-pow_same, bit_at-pow_other, bit_at-lt}
 use lib.Dec.{eqb}
 use borrow.Author.Tests.{eq-eqb, ne_eqb}
 use lib.ListN.{get_or, set}
@@ -21,25 +23,17 @@ bit_or_law zero (suc (suc q)) h k = absurd (omega arith)
 bit_or_law (suc zero) (suc (suc q)) h k = absurd (omega arith)
 bit_or_law (suc (suc p)) q h k = absurd (omega arith)
 
--- a number by its half and its least bit
-low : (x y z : ℕ) → x ≡ y * 2 + z → z < 2 → x % 2 ≡ z
-low x y z e h = omega arith
-
-half : (x y z : ℕ) → x ≡ y * 2 + z → z < 2 → x / 2 ≡ y
-half x y z e h = omega arith
+-- a bit of a number is the library's
+bit_is : (n i : ℕ) → has_bit n i ≡ eqb (bit_at n i) 1
+unfolding has_bit
+bit_is n zero = rw (bit_at_lowest n) refl
+bit_is n (suc i) = bit_is (n / 2) i ∙ sym (ap (λ (x : ℕ). eqb x 1) (bit_at-suc n i))
 
 bits_or : (i a b : ℕ) → has_bit (bit_or a b) i ≡ (has_bit a i || has_bit b i)
-unfolding has_bit
-bits_or zero a b =
-    ap (λ (x : ℕ). eqb x 1) (low (bit_or a b) (bit_or (a / 2) (b / 2)) (max (a % 2) (b % 2)) (or_step a b) (omega arith))
-    ∙ bit_or_law (a % 2) (b % 2) (omega arith) (omega arith)
-bits_or (suc i) a b =
-    ap (λ (x : ℕ). has_bit x i) (half (bit_or a b) (bit_or (a / 2) (b / 2)) (max (a % 2) (b % 2)) (or_step a b) (omega arith)) ∙ bits_or i (a / 2) (b / 2)
+bits_or i a b = rw (bit_is (bit_or a b) i, bit_is a i, bit_is b i, bit_at_or a b i) (bit_or_law (bit_at a i) (bit_at b i) (bit_at-lt a i) (bit_at-lt b i))
 
 bits_none : (i : ℕ) → has_bit 0 i ≡ false
-unfolding has_bit
-bits_none zero = refl
-bits_none (suc i) = bits_none i
+bits_none i = rw (bit_is 0 i, bit_at-zero i) refl
 
 next : (i k : ℕ) → eqb i k ≡ eqb (suc i) (suc k)
 next i k = go (eqb i k) (eq_case i k)
@@ -50,11 +44,11 @@ next i k = go (eqb i k) (eq_case i k)
 
 -- a power of two has one bit
 bits_only : (k i : ℕ) → has_bit (2 ^ k) i ≡ eqb i k
-unfolding has_bit
-bits_only zero zero = refl
-bits_only zero (suc i) = bits_none i ∙ sym (ne_eqb (suc i) 0 (omega arith))
-bits_only (suc k) zero = ap (λ (x : ℕ). eqb x 1) (low (2 ^ suc k) (2 ^ k) 0 (omega arith) (omega arith)) ∙ sym (ne_eqb 0 (suc k) (omega arith))
-bits_only (suc k) (suc i) = ap (λ (x : ℕ). has_bit x i) (half (2 ^ suc k) (2 ^ k) 0 (omega arith) (omega arith)) ∙ bits_only k i ∙ next i k
+bits_only k i = bit_is (2 ^ k) i ∙ go (eqb i k) (eq_case i k)
+  where
+    go : (b : Bool) → EqCase i k b → eqb (bit_at (2 ^ k) i) 1 ≡ b
+    go true (equal e) = rw (e, bit_at-pow_same k) refl
+    go false (other h) = rw (bit_at-pow_other k i h) refl
 
 -- the same of rows
 pub rows_or : (base a b i : ℕ) → has_row base (bit_or a b) i ≡ (has_row base a i || has_row base b i)
