@@ -1,4 +1,4 @@
--- What `judge` answers, for any piece and anything carried; proofs/Judged.antt shows that it is the piece's fate. Assumes nothing.
+-- What `judge` answers, for any piece and anything carried; proofs/Judgements.antt shows that it is the piece's fate. Assumes nothing.
 use Rattle.std.specs.Prelude.{ℕ, zero, suc, ◌≡◌, Bool, true, false, ◌&&◌, ◌||◌, List, eqb, ltb, Option, Some, None, Result, Ok, Err}
 use Rattle.cards.specs.Moments.{Record, flagged, together}
 use Rattle.cards.specs.Blocks.{Block, check, shape, number, Piece, good, faulty, piece_of, block_of}

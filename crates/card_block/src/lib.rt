@@ -6,7 +6,7 @@ pub mod sums; // sums.rt: the check, numbers and unused bytes
 mod shape; // shape.rt: the shape of a record and of a block
 pub mod moments; // moments.rt: the moments that run through a block
 
-ghost use Rattle.std.specs.Prelude.{◌≡◌, ◌+◌, ◌≤◌, min, get_or};
+ghost use Rattle.std.specs.Prelude.{◌≡◌, get_or};
 ghost use Rattle.cards.specs.Blocks.{block_of};
 ghost use Rattle.card_block.specs.Judging.{nothing, judged_block, judgement};
 ghost use Rattle.card_block.specs.Shapes.{Shaped};
@@ -48,14 +48,6 @@ pub fn records(piece: &[u8]) -> usize
         Some(count) => usize::from(*count),
         None => 0,
     }
-}
-
-// Where the piece that begins at a place ends.
-pub fn end_of(len: usize, at: usize) -> usize
-    requires { at ≤ len }
-    ensures { result ≡ min (at + 512) len }
-{
-    at + (len - at).min(512)
 }
 
 // A block of a good shape: a moment that is open runs on into it where it has the next number. Number comes after shape: a block that isn't above

@@ -1,5 +1,5 @@
 // Mending a card: which blocks stay, which of their records, and the list of blocks. What mending keeps is in the crate `cards`; what one piece
-// comes to is in specs/Weighing.antt, and what `mend` leaves in the slices in specs/Mended.antt. Assumes nothing: any bytes are mended.
+// comes to is in specs/Weighing.antt, and what `mend` leaves in the slices in specs/Lines.antt. Assumes nothing: any bytes are mended.
 #![tactic(auto)]
 
 mod flags; // flags.rt: the first and the last flagged record of a block
