@@ -95,12 +95,11 @@ fn work_on(
     requires { Asking rows.now free.now (machine (whole figures refs.old sizes.old) nodes.old values.old work.old) event asked }
     ensures { Ends rows.now (machine (whole figures refs.old sizes.old) nodes.old values.old work.old) event (said_of figures result) refs.new sizes.new nodes.new values.new work.new }
 {
-    let given = asked.given;
     let stepped = stepping::step(
         figures.k,
         rows,
         event,
-        &given,
+        &asked.given,
         free,
         refs,
         sizes,
@@ -108,7 +107,7 @@ fn work_on(
         nodes,
         work,
     )?;
-    lists::write_fresh(figures.k, figures.counts, asked, values);
+    lists::write_fresh(figures.k, figures.counts, &asked, values);
     let counts = asked.counts;
     Ok(taken(figures, counts, refs, stepped))
 }
@@ -133,10 +132,9 @@ pub fn judged(
         return Err(Refusal::Event);
     }
     let asked = numbers::ask(figures.k, figures.counts, values, rows, event);
-    let v = lists::shortest(figures.k, asked.counts);
-    if v < 4 {
+    if let Some(variable) = lists::shortest(figures.k, asked.counts) {
         formed(figures, refs, sizes, free, nodes, work)?;
-        return Err(Refusal::Numbers(v));
+        return Err(Refusal::Numbers(variable));
     }
     work_on(
         figures, refs, sizes, free, rows, nodes, values, work, event, asked,
