@@ -7,6 +7,7 @@ ghost use Rattle.diagram.specs.Steps.{turn_says};
 ghost use Rattle.diagram.specs.Works.{TurnOver};
 
 use making::into::into;
+use making::lent::Lent;
 use making::{Made, Number};
 
 // The diagram that says what p says, or what the turn says: nothing where its fact does not match, and else that the four variables show
@@ -29,6 +30,17 @@ pub fn take_turn(
             count: n,
             reference: p,
         }),
-        Some(places) => into(nodes, work, c, n, k, places, p),
+        Some(places) => {
+            let mut lent = Lent {
+                nodes: &mut *nodes,
+                work: &mut *work,
+                count: n,
+            };
+            let reference = into(&mut lent, c, k, places, p)?;
+            Some(Made {
+                count: lent.count,
+                reference,
+            })
+        }
     }
 }

@@ -7,17 +7,18 @@ ghost use Rattle.trees.specs.Tree.{eval, tree_of};
 ghost use Rattle.trees.specs.Table.{at, trees_of};
 ghost use Rattle.nodes.specs.Nodes.{Table, To};
 ghost use Rattle.making.specs.Tables.{Added, Shelf, Shelved};
+ghost use Rattle.making.specs.Loans.{SameLoans, made};
 ghost use Rattle.making.specs.Cubes.{Over, along_bits, along_place, bits_over, place_over, cube_says};
 
-use crate::table::{make, sides};
-use crate::{Made, Number};
+use crate::Number;
+use crate::lent::Lent;
 use nodes::Node;
 
 // Where `count` bits of m, from the level `base` on, lead from p.
-fn along_bits(nodes: &[u32], n: u32, base: u32, count: u32, m: u32, p: u32) -> u32
-    requires table { Table nodes.now n }
-    requires p_bound { (p < n + 2) × (base + count < 4294967296) }
-    ensures { To nodes.now n result (along_bits base count m (at (trees_of nodes.now n) p)) }
+fn along_bits(lent: &Lent<'_>, base: u32, count: u32, m: u32, p: u32) -> u32
+    requires table { Table lent.now.nodes.now lent.now.count }
+    requires p_bound { (p < lent.now.count + 2) × (base + count < 4294967296) }
+    ensures { To lent.now.nodes.now lent.now.count result (along_bits base count m (at (trees_of lent.now.nodes.now lent.now.count) p)) }
 {
     if p < 2 {
         return p;
@@ -25,111 +26,102 @@ fn along_bits(nodes: &[u32], n: u32, base: u32, count: u32, m: u32, p: u32) -> u
     if count == 0 {
         return p;
     }
-    let x = sides(nodes, n, p, base);
+    let x = lent.sides(p, base);
     if m % 2 == 0 {
-        return along_bits(nodes, n, base + 1, count - 1, m / 2, x.low);
+        return along_bits(lent, base + 1, count - 1, m / 2, x.low);
     }
-    along_bits(nodes, n, base + 1, count - 1, m / 2, x.high)
+    along_bits(lent, base + 1, count - 1, m / 2, x.high)
 }
 
 // Where the k bits of a variable, from the level `base` on, lead from p.
-fn along(nodes: &[u32], n: u32, base: u32, k: u32, place: Option<Number>, p: u32) -> u32
-    requires table { Table nodes.now n }
-    requires p_bound { (p < n + 2) × (base + k < 4294967296) }
-    ensures { To nodes.now n result (along_place base k place (at (trees_of nodes.now n) p)) }
+fn along(lent: &Lent<'_>, base: u32, k: u32, place: Option<Number>, p: u32) -> u32
+    requires table { Table lent.now.nodes.now lent.now.count }
+    requires p_bound { (p < lent.now.count + 2) × (base + k < 4294967296) }
+    ensures { To lent.now.nodes.now lent.now.count result (along_place base k place (at (trees_of lent.now.nodes.now lent.now.count) p)) }
 {
     match place {
         None => p,
-        Some(m) => along_bits(nodes, n, base, k, m.0, p),
+        Some(m) => along_bits(lent, base, k, m.0, p),
     }
 }
 
 // `count` bits of m, from the level `base` on, over the diagram `below`, and on the other side of each what p has there.
 fn bits_over(
-    nodes: &mut [u32],
-    work: &mut [u32],
+    lent: &mut Lent<'_>,
     c: usize,
-    n: u32,
     base: u32,
     count: u32,
     m: u32,
     p: u32,
     below: u32,
-) -> Option<Made>
-    requires shelf { Shelf nodes.old n work.old c }
-    requires p_bound { (p < n + 2) × (below < n + 2) × (base + count < 4294967296) }
-    ensures { Added (λ ns j. Shelved work.old ns j work.new c) nodes.old nodes.new n (bits_over base count m (at (trees_of nodes.old n) p) (at (trees_of nodes.old n) below)) result }
+) -> Option<u32>
+    requires shelf { Shelf lent.old.nodes.now lent.old.count lent.old.work.now c }
+    requires p_bound { (p < lent.old.count + 2) × (below < lent.old.count + 2) × (base + count < 4294967296) }
+    ensures same { SameLoans lent.old lent.new }
+    ensures added { Added (λ ns j. Shelved lent.old.work.now ns j lent.new.work.now c) lent.old.nodes.now lent.new.nodes.now lent.old.count (bits_over base count m (at (trees_of lent.old.nodes.now lent.old.count) p) (at (trees_of lent.old.nodes.now lent.old.count) below)) (made lent.new.count result) }
 {
     if count == 0 {
-        return Some(Made {
-            count: n,
-            reference: below,
-        });
+        return Some(below);
     }
-    let x = sides(nodes, n, p, base);
+    let x = lent.sides(p, base);
     if m % 2 == 0 {
-        let d = bits_over(nodes, work, c, n, base + 1, count - 1, m / 2, x.low, below)?;
+        let d = bits_over(lent, c, base + 1, count - 1, m / 2, x.low, below)?;
         let even = Node {
             level: base,
-            low: d.reference,
+            low: d,
             high: x.high,
         };
-        return make(nodes, work, c, d.count, even);
+        return lent.make(c, even);
     }
-    let d = bits_over(nodes, work, c, n, base + 1, count - 1, m / 2, x.high, below)?;
+    let d = bits_over(lent, c, base + 1, count - 1, m / 2, x.high, below)?;
     let odd = Node {
         level: base,
         low: x.low,
-        high: d.reference,
+        high: d,
     };
-    make(nodes, work, c, d.count, odd)
+    lent.make(c, odd)
 }
 
 // The k bits of a variable, from the level `base` on, over the diagram `below`, and on their other sides what p has there.
 fn place_over(
-    nodes: &mut [u32],
-    work: &mut [u32],
+    lent: &mut Lent<'_>,
     c: usize,
-    n: u32,
     base: u32,
     k: u32,
     place: Option<Number>,
     p: u32,
     below: u32,
-) -> Option<Made>
-    requires shelf { Shelf nodes.old n work.old c }
-    requires p_bound { (p < n + 2) × (below < n + 2) × (base + k < 4294967296) }
-    ensures { Added (λ ns j. Shelved work.old ns j work.new c) nodes.old nodes.new n (place_over base k place (at (trees_of nodes.old n) p) (at (trees_of nodes.old n) below)) result }
+) -> Option<u32>
+    requires shelf { Shelf lent.old.nodes.now lent.old.count lent.old.work.now c }
+    requires p_bound { (p < lent.old.count + 2) × (below < lent.old.count + 2) × (base + k < 4294967296) }
+    ensures same { SameLoans lent.old lent.new }
+    ensures added { Added (λ ns j. Shelved lent.old.work.now ns j lent.new.work.now c) lent.old.nodes.now lent.new.nodes.now lent.old.count (place_over base k place (at (trees_of lent.old.nodes.now lent.old.count) p) (at (trees_of lent.old.nodes.now lent.old.count) below)) (made lent.new.count result) }
 {
     match place {
-        None => Some(Made {
-            count: n,
-            reference: below,
-        }),
-        Some(m) => bits_over(nodes, work, c, n, base, k, m.0, p, below),
+        None => Some(below),
+        Some(m) => bits_over(lent, c, base, k, m.0, p, below),
     }
 }
 
 // The diagram that says what p says, or that the bits of the four variables, k for each, show their numbers.
 pub fn into(
-    nodes: &mut [u32],
-    work: &mut [u32],
+    lent: &mut Lent<'_>,
     c: usize,
-    n: u32,
     k: u32,
     places: [Option<Number>; 4],
     p: u32,
-) -> Option<Made>
-    requires shelf { Shelf nodes.old n work.old c }
-    requires k_bound { (4 * k ≤ 64) × (p < n + 2) × Over k places (at (trees_of nodes.old n) p) }
-    ensures { Added (λ ns j. Shelved work.old ns j work.new c) nodes.old nodes.new n (tree_of (4 * k) (λ s. eval (at (trees_of nodes.old n) p) s || cube_says k places s)) result }
+) -> Option<u32>
+    requires shelf { Shelf lent.old.nodes.now lent.old.count lent.old.work.now c }
+    requires k_bound { (4 * k ≤ 64) × (p < lent.old.count + 2) × Over k places (at (trees_of lent.old.nodes.now lent.old.count) p) }
+    ensures same { SameLoans lent.old lent.new }
+    ensures added { Added (λ ns j. Shelved lent.old.work.now ns j lent.new.work.now c) lent.old.nodes.now lent.new.nodes.now lent.old.count (tree_of (4 * k) (λ s. eval (at (trees_of lent.old.nodes.now lent.old.count) p) s || cube_says k places s)) (made lent.new.count result) }
 {
     let [w, x, y, z] = places;
-    let q = along(nodes, n, 0, k, w, p);
-    let r = along(nodes, n, k, k, x, q);
-    let s = along(nodes, n, 2 * k, k, y, r);
-    let d3 = place_over(nodes, work, c, n, 3 * k, k, z, s, 1)?;
-    let d2 = place_over(nodes, work, c, d3.count, 2 * k, k, y, r, d3.reference)?;
-    let d1 = place_over(nodes, work, c, d2.count, k, k, x, q, d2.reference)?;
-    place_over(nodes, work, c, d1.count, 0, k, w, p, d1.reference)
+    let q = along(lent, 0, k, w, p);
+    let r = along(lent, k, k, x, q);
+    let s = along(lent, 2 * k, k, y, r);
+    let d3 = place_over(lent, c, 3 * k, k, z, s, 1)?;
+    let d2 = place_over(lent, c, 2 * k, k, y, r, d3)?;
+    let d1 = place_over(lent, c, k, k, x, q, d2)?;
+    place_over(lent, c, 0, k, w, p, d1)
 }

@@ -3,12 +3,12 @@
 ghost use Rattle.std.specs.Prelude.{◌+◌, ◌*◌, ◌<◌, ◌≤◌, length};
 ghost use Rattle.trees.specs.Tree.{mk};
 ghost use Rattle.trees.specs.Table.{at, trees_of};
-ghost use Rattle.nodes.specs.Nodes.{Table, Splits};
+ghost use Rattle.nodes.specs.Nodes.{Table, Splits, Sides};
 ghost use Rattle.making.specs.Tables.{Added, Shelf, Shelved, Looked, Kept};
 ghost use Rattle.making.specs.Loans.{SameLoans, made};
 
 use crate::memory::{Key, note, recall};
-use crate::table::make;
+use crate::table::{make, sides};
 use nodes::{Node, read};
 
 // Where the parts of the work slice stand, and how long they are: the node slice has room for c nodes, and the memory of results has
@@ -35,6 +35,15 @@ impl Lent<'_> {
         ensures { Splits self.now.nodes.now self.now.count r result.level result.low result.high }
     {
         read(self.nodes, self.count, r)
+    }
+
+    // The two sides of r at a level that is no later than its first: r itself where it does not ask the level.
+    pub fn sides(&self, r: u32, level: u32) -> Node
+        requires table { Table self.now.nodes.now self.now.count }
+        requires r_bound { r < self.now.count + 2 }
+        ensures { Sides self.now.nodes.now self.now.count r level result.low result.high }
+    {
+        sides(self.nodes, self.count, r, level)
     }
 
     // The reference of the result that the slot at place i has for a key.

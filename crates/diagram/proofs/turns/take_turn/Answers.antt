@@ -14,6 +14,3 @@ returns-in-None c =
     let s = c in
     let fine = rw c.in-None.is at s.requires.k_bound.2 in
     rw c.in-None.is (stays _ _ _ _ s.requires.shelf.table s.requires.k_bound.1 (miss_tree s.args.k fine), shelved_same s.requires.shelf)
-
-pub returns-in-Some : goal.returns-in-Some
-returns-in-Some c = rw c.in-Some.is c.into.ensures
