@@ -55,6 +55,7 @@ fn known(nodes: &[u32], m: u32, work: &[u32], n: u32, r: u32) -> Option<Swept>
 
 // Adds the node r, which has no note, and its sides: low side first, then high, then the node itself. It is in the new table
 // nowhere, so it is written without a search.
+#[cycle(sweep)]
 fn apart(nodes: &[u32], m: u32, work: &mut [u32], n: u32, left: u32, r: u32) -> Swept
     requires noted { Noted nodes.now m work.old (length nodes.now / 3) n }
     requires ordered { Ordered nodes.now m left r }
@@ -63,14 +64,8 @@ fn apart(nodes: &[u32], m: u32, work: &mut [u32], n: u32, left: u32, r: u32) -> 
 {
     let j = nodes.len() + (r as usize - 2);
     let x = read(nodes, m, r);
-    let a = match known(nodes, m, work, n, x.low) {
-        Some(seen) => seen,
-        None => apart(nodes, m, work, n, left - 1, x.low),
-    };
-    let b = match known(nodes, m, work, a.count, x.high) {
-        Some(seen) => seen,
-        None => apart(nodes, m, work, a.count, left - 1, x.high),
-    };
+    let a = sweep(nodes, m, work, n, left - 1, x.low);
+    let b = sweep(nodes, m, work, a.count, left - 1, x.high);
     let y = Node {
         low: a.reference,
         high: b.reference,
@@ -81,6 +76,20 @@ fn apart(nodes: &[u32], m: u32, work: &mut [u32], n: u32, left: u32, r: u32) -> 
         count: b.count + 1,
         reference: b.count + 2,
         visits: a.visits + b.visits + 1,
+    }
+}
+
+// The sweep of the diagram of r, over the last `left` levels or fewer: a visit, and where that goes no further nothing else.
+#[inline]
+#[cycle(sweep)]
+fn sweep(nodes: &[u32], m: u32, work: &mut [u32], n: u32, left: u32, r: u32) -> Swept
+    requires noted { Noted nodes.now m work.old (length nodes.now / 3) n }
+    requires ordered { Ordered nodes.now m left r }
+    ensures { Emitted nodes.now m r work.old work.new (length nodes.now / 3) n result.count result.reference result.visits }
+{
+    match known(nodes, m, work, n, r) {
+        Some(seen) => seen,
+        None => apart(nodes, m, work, n, left, r),
     }
 }
 
@@ -112,10 +121,7 @@ fn sweep_all(
     let mut kept = 0;
     let mut visits = 0;
     for i in 0..count as usize {
-        let s = match known(nodes, m, work, kept, refs[i]) {
-            Some(seen) => seen,
-            None => apart(nodes, m, work, kept, levels, refs[i]),
-        };
+        let s = sweep(nodes, m, work, kept, levels, refs[i]);
         out[i] = s.reference;
         kept = s.count;
         visits += s.visits;
