@@ -1,5 +1,5 @@
 -- Where the first line end stands. Assumes nothing.
-use Prim.Native.Nat.{ℕ, ◌+◌, ◌≤◌}
+use Prim.Native.Nat.{ℕ, ◌+◌}
 use native.Mathlib.Omega.{arith}
 use mathlib.Core.Path.{◌≡◌, refl, sym, ap, ◌∙◌}
 use mathlib.Core.Bool.{Bool, true, false, cond}
@@ -11,16 +11,6 @@ use borrow.Author.Tests.{ltb-false}
 use Rattle.std.specs.Prelude.{Option, None, Some, ◌==◌, position}
 use Rattle.std.specs.List.{position_or_len}
 use Rattle.feed.specs.Feeds.{Held, hold_bytes, before, Passed}
-
--- there are no more bytes before the line end than there are
-pub before_few : (bytes : List ℕ) → before bytes ≤ length bytes
-unfolding before
-before_few [] = omega arith
-before_few (b ∷ bs) = go (eqb b 10) refl (before_few bs)
-  where
-    go : (q : Bool) → eqb b 10 ≡ q → before bs ≤ length bs → before (b ∷ bs) ≤ length (b ∷ bs)
-    go true e h = rw e (omega arith)
-    go false e h = rw e (omega arith)
 
 -- the place of the first line end is how many bytes stand before it
 place_before : (bytes : List ℕ) → position_or_len (λ b. b == 10) bytes ≡ before bytes

@@ -13,7 +13,7 @@ use Rattle.lines.proofs.Every.{every_take}
 use Rattle.lines.proofs.Numeral.{numeral_every}
 
 -- a number below 10^(k + 1) has at most k + 1 digits
-numeral_length : (n : ℕ) → (k : ℕ) → n < 10 ^ suc k → length (numeral n) ≤ suc k
+pub numeral_length : (n : ℕ) → (k : ℕ) → n < 10 ^ suc k → length (numeral n) ≤ suc k
 numeral_length =
     numeral_every
     (λ n ds. (k : ℕ) → n < 10 ^ suc k → length ds ≤ suc k)
@@ -26,7 +26,7 @@ numeral_length =
     grows n d ds hn hd ih (suc k) low = omega (arith, length-append ds ((48 + d) ∷ []), ih k (omega arith))
 
 -- a number of the input has at most ten digits
-numeral_short : (n : ℕ) → Fits n → length (numeral n) ≤ 10
+pub numeral_short : (n : ℕ) → Fits n → length (numeral n) ≤ 10
 numeral_short n f = numeral_length n 9 (omega arith)
 
 -- each number of a run takes at most eleven bytes
