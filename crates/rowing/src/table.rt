@@ -1,5 +1,5 @@
 // A table of rows, nine numbers each: the row with these numbers is found or made.
-ghost use Rattle.std.specs.Prelude.{◌≡◌, ℕ, ◌≤◌, List, [], take, position, nat_eq};
+ghost use Rattle.std.specs.Prelude.{◌≡◌, ℕ, ◌≤◌, List, [], length, take, position, nat_eq};
 ghost use Rattle.std.specs.Cmp.Lexicographic.{pointwise};
 ghost use Rattle.rowing.specs.Denoted.{Makes};
 
@@ -47,7 +47,8 @@ impl Table {
 
     // The rows, in the order in which they were made.
     pub fn rows(&self) -> &[[u32; 9]]
-        ensures { result.now ≡ self.now }
+        ensures rows { result.now ≡ self.now }
+        ensures few { length self.now ≤ 64 }
     {
         &self.rows[..self.count]
     }

@@ -1,68 +1,32 @@
 -- What each way through the call promises. Assumes nothing.
-use Prim.Native.Nat.{ℕ, ◌-◌, ◌*◌, ◌≤◌, ◌<◌}
+use Prim.Native.Nat.{ℕ, ◌≤◌, ◌<◌}
 use native.Mathlib.Omega.{arith}
 use mathlib.Core.Path.{◌≡◌, refl, sym, ap, ◌∙◌}
 use mathlib.Core.Bool.{Bool, true, false}
-use mathlib.Core.List.{List}
-use mathlib.Core.Logic.{⊎_elim}
-use lib.Dec.{eqb}
-use lib.ListN.{length, take, drop}
-use borrow.Author.Tests.{eqb-true, eqb-false}
-use Rattle.trees.proofs.Tests.{bool}
+use mathlib.Core.List.{List, ◌++◌}
+use lib.ListN.{length, take, drop, replicate, length-take}
+use Rattle.std.specs.Option.{ok_or}
+use Rattle.translate.proofs.LayingLaws.{laid_is}
+use Rattle.std.specs.List.{flat_map}
+use Rattle.std.specs.Prelude.{Option, Some, None, Err}
 use Rattle.text.specs.Grammar.{Reading, RuleText, HasReading, Place}
 use Rattle.text.specs.Unfold.{variable_names, formula_of}
 use Rattle.text.specs.Parts.{rows_of}
 use Rattle.text.specs.Translate.{Answer, refuses, makes, answer_of, Says, wrong_slice, too_long, no_text, a_text}
-use Rattle.census.specs.Told.{ToldLarge, ToldMany}
-use Rattle.census.specs.Tables.{names_at, ToldNames, names_for}
+use Rattle.census.specs.declared.spans.Span.{Span}
+use Rattle.census.specs.Tables.{nowhere, names_at, Table}
+use Rattle.census.specs.Noting.{names_for, Told, ToldNames}
 use Rattle.census.specs.Clashes.{Predicates, ToldClash}
 use Rattle.census.specs.Scopes.{Variables, ToldLoose}
 use Rattle.census.proofs.TableLaws.{table_length}
 use Rattle.drive.specs.Driving.{Passed, RowsOf}
-use Rattle.translate.specs.Translated.{laid, Blank, Translated, Limits}
-use Rattle.translate.specs.declared.Told.{Told}
-use Rattle.translate.specs.declared.Told.TheVariants.{Rows}
+use Rattle.translate.specs.declared.refusals.Refusal.{Refusal}
+use Rattle.translate.specs.declared.refusals.Refusal.TheVariants.{LargeConstant, ManyArguments, WrongSlice, TooLong, NoText, ManyVariables, TwoCounts, FreeVariable, ManyRows}
+use Rattle.translate.specs.Refusals.{number_of, place_of}
+use Rattle.translate.specs.Translated.{laid, Named, Limits}
 use Rattle.translate.proofs.PredicateLaws.{few_predicates}
 use Rattle.translate.proofs.AnswerLaws.{answer_4, answer_5, answer_6, answer_7, answer_8, answer_9, answer_rows}
-use Rattle.translate.proofs.LayingLaws.{whole_part}
 use Rattle.translate.proofs.RowsTold.{many_rows, told_count, told_rows, laid_names, laid_named}
-
--- refusals 4 and 5
-module _ (text : List ℕ) where
-  pub limits_4 : (r : Bool) → ToldLarge text r → r ≡ true → Limits text 4
-  limits_4 r t e = record {
-    four = λ z f h. sym (t f h) ∙ e;
-    small = λ n f h. absurd (n refl);
-    five = λ z. absurd (omega arith);
-    few = λ z. absurd (omega arith);
-    which = λ z n. absurd (n refl);
-  }
-
-  pub limits_5 : (r s : Bool) → ToldLarge text r → r ≡ false → ToldMany text s → s ≡ true → Limits text 5
-  limits_5 r s t e u d = record {
-    four = λ z. absurd (omega arith);
-    small = λ n f h. sym (t f h) ∙ e;
-    five = λ z f h. sym (u f h) ∙ d;
-    few = λ z. absurd (omega arith);
-    which = λ z n. refl;
-  }
-
-  pub limits_0 : (r s : Bool) → ToldLarge text r → r ≡ false → ToldMany text s → s ≡ false → Limits text 0
-  limits_0 r s t e u d = record {
-    four = λ z. absurd (omega arith);
-    small = λ n f h. sym (t f h) ∙ e;
-    five = λ z. absurd (omega arith);
-    few = λ z f h. sym (u f h) ∙ d;
-    which = λ z n. absurd (z refl);
-  }
-
-  pub limits_pass : (r : ℕ) → Limits text r → r ≡ 0 → Passed text
-  limits_pass r l e = record { small = l.small (λ z. omega arith); few = l.few e }
-
--- a refusal leaves the row slice as it was
-pub refused_is : (text before : List ℕ) (number place : ℕ) (told : Told) (pstarts plengths vstarts vlengths : List ℕ) → Says (length before) text (refuses number place)
-    → Blank number place told pstarts plengths vstarts vlengths → Translated text before before told pstarts plengths vstarts vlengths
-refused_is text before number place told pstarts plengths vstarts vlengths s b = rw b.0 (s, refl, b.1, b.2, b.3, b.4)
 
 -- refusals 1 to 3
 pub says_1 : (text before : List ℕ) → (length before ≡ 576 → ⊥) → Says (length before) text (refuses 1 0)
@@ -75,35 +39,35 @@ pub says_3 : (text before : List ℕ) (i : ℕ) → length before ≡ 576 → le
 says_3 text before i e l h = no_text e l h.0 i h.1
 
 -- the tables that the names are in
-pub variables_known : (text starts lengths : List ℕ) (n : ℕ) → ToldNames false text starts lengths n → length starts ≡ 4 → n ≤ 4 → Variables text starts lengths n
-variables_known text starts lengths n t e l = record { few = l; table = t.table (omega arith); names = unfold names_for in t.names (omega arith) }
+pub variables_known : (text : List ℕ) (spans : List Span) (n : ℕ) → Told false text spans n → length spans ≡ 4 → Variables text (take n spans)
+variables_known text spans n t e = record { few = omega (arith, length-take n spans); names = unfold names_for in t.names }
 
-pub predicates_known : (text starts lengths : List ℕ) (n : ℕ) → ToldNames true text starts lengths n → length starts ≡ 4096 → length text ≤ 4096 → Predicates text starts lengths n
-predicates_known text starts lengths n t e l = record { few = omega (arith, t.few); table = t.table (omega (arith, t.few)); names = unfold names_for in t.names (omega (arith, t.few)) }
+pub predicates_known : (text : List ℕ) (spans : List Span) (n : ℕ) → Told true text spans n → length spans ≡ 4096 → Predicates text (take n spans)
+predicates_known text spans n t e = record { few = omega (arith, length-take n spans); names = unfold names_for in t.names }
 
 module _ (text before : List ℕ) (h : HasReading text) (l : length text ≤ 4096) (z : length before ≡ 576) where
   answered : (a : Answer) → answer_of h.reading ≡ a → Says (length before) text a
   answered a e = rw (← e) (a_text z l h.reading h.text)
 
-  pub says_limit : (r : ℕ) → Limits text r → (r ≡ 0 → ⊥) → Says (length before) text (refuses r 0)
-  says_limit r k n = ⊎_elim
-      (λ e.
-      let r4 : r ≡ 4 = eqb-true r 4 e in
-      rw r4 (answered (refuses 4 0) (answer_4 h.reading (k.four r4 h.reading h.text))))
-      (λ e.
-      let r5 : r ≡ 5 = k.which n (eqb-false r 4 e) in
-      rw r5 (answered (refuses 5 0) (answer_5 h.reading (k.small (eqb-false r 4 e) h.reading h.text) (k.five r5 h.reading h.text))))
-      (bool (eqb r 4))
+  pub says_limit : (r : Refusal) → Limits {A = Unit {0}} text (Err r) → Says (length before) text (refuses (number_of r) (place_of r))
+  says_limit WrongSlice k = absurd k
+  says_limit TooLong k = absurd k
+  says_limit (NoText place) k = absurd k
+  says_limit LargeConstant k = answered (refuses 4 0) (answer_4 h.reading (k h.reading h.text))
+  says_limit ManyArguments k = answered (refuses 5 0) (answer_5 h.reading (k.0 h.reading h.text) (k.1 h.reading h.text))
+  says_limit ManyVariables k = absurd k
+  says_limit TwoCounts k = absurd k
+  says_limit FreeVariable k = absurd k
+  says_limit ManyRows k = absurd k
 
   module _ (p : Passed text) where
-    pub says_6 : (starts lengths : List ℕ) (n : ℕ) → ToldNames false text starts lengths n → length starts ≡ 4 → 4 < n → Says (length before) text (refuses 6 0)
+    pub says_6 : (spans : List Span) → ToldNames false text spans None → length spans ≡ 4 → Says (length before) text (refuses 6 0)
     unfolding names_for
-    says_6 starts lengths n t e k = answered (refuses 6 0)
-        (answer_6 h.reading (p.small h.reading h.text) (p.few h.reading h.text) (omega (arith, t.over (omega arith) h.reading h.text)))
+    says_6 spans t e = answered (refuses 6 0) (answer_6 h.reading (p.small h.reading h.text) (p.few h.reading h.text) (omega (arith, t.over h.reading h.text)))
 
-    module _ (vstarts vlengths : List ℕ) (vn : ℕ) (v : Variables text vstarts vlengths vn) where
+    module _ (vs : List Span) (v : Variables text vs) where
       four : length (variable_names h.reading) ≤ 4
-      four = omega (arith, ap length (v.names h.reading h.text), table_length text vstarts vlengths vn v.table.here v.table.there, v.few)
+      four = omega (arith, ap length (v.names h.reading h.text), table_length text vs, v.few)
 
       pub says_7 : (r : Bool) → ToldClash text r → r ≡ true → Says (length before) text (refuses 7 0)
       says_7 r t e = answered (refuses 7 0) (answer_7 h.reading (p.small h.reading h.text) (p.few h.reading h.text) four (sym (t h.reading h.text) ∙ e))
@@ -113,44 +77,34 @@ module _ (text before : List ℕ) (h : HasReading text) (l : length text ≤ 409
         says_8 r t e = answered (refuses 8 0)
             (answer_8 h.reading (p.small h.reading h.text) (p.few h.reading h.text) four (sym (ct h.reading h.text) ∙ ce) (sym (t h.reading h.text) ∙ e))
 
-        module _ (o : Bool) (ot : ToldLoose text o) (oe : o ≡ false) (flat : List ℕ) (n : ℕ) (rows : RowsOf text flat n) where
-          pub says_9 : 64 < n → Says (length before) text (refuses 9 0)
-          says_9 k = answered (refuses 9 0)
+        module _ (o : Bool) (ot : ToldLoose text o) (oe : o ≡ false) (table : List (List ℕ)) where
+          pub says_9 : (r : Option (Unit {0})) (e : Refusal) → RowsOf text table r → Err e ≡ ok_or r ManyRows → Says (length before) text (refuses (number_of e) (place_of e))
+          says_9 (Some x) e rows z = absurd cc
+          says_9 None e rows z =
+              let y : e ≡ ManyRows = cc in
+              rw y (answered (refuses 9 0)
               (answer_9 h.reading (p.small h.reading h.text) (p.few h.reading h.text) four (sym (ct h.reading h.text) ∙ ce) (sym (ot h.reading h.text) ∙ oe)
-              (many_rows (formula_of h.reading) flat n k (rows h.reading h.text)))
+              (many_rows (formula_of h.reading) (rows h.reading h.text))))
 
-          module _ (k : n ≤ 64) (pstarts plengths : List ℕ) (pn : ℕ) (q : Predicates text pstarts plengths pn) where
-            count_is : length (rows_of (formula_of h.reading)) ≡ n
-            count_is = told_count (formula_of h.reading) flat n k (rows h.reading h.text)
+          module _ (x : Unit {0}) (rows : RowsOf text table (Some x)) (few : length table ≤ 64) (ps : List Span) (q : Predicates text ps) where
+            count_is : length (rows_of (formula_of h.reading)) ≡ length table
+            count_is = told_count (formula_of h.reading) table (rows h.reading h.text)
 
             -- there is room for their names
-            pub few_names : pn ≤ 64
-            few_names =
-                omega (arith, ap length (q.names h.reading h.text), table_length text pstarts plengths pn q.table.here q.table.there, few_predicates h.reading, count_is)
+            pub few_names : length ps ≤ 64
+            few_names = omega (arith, ap length (q.names h.reading h.text), table_length text ps, few_predicates h.reading, count_is)
 
-            pub says_rows : Says (length before) text (makes (laid 576 (take (9 * n) flat)) n (names_at text pstarts plengths pn) (names_at text vstarts vlengths vn))
-            says_rows = answered (makes (laid 576 (take (9 * n) flat)) n (names_at text pstarts plengths pn) (names_at text vstarts vlengths vn))
+            pub says_rows : Says (length before) text (makes (laid 0 576 (flat_map (λ x. x) table)) (length table) (names_at text ps) (names_at text vs))
+            says_rows = answered (makes (laid 0 576 (flat_map (λ x. x) table)) (length table) (names_at text ps) (names_at text vs))
                 (answer_rows h.reading (p.small h.reading h.text) (p.few h.reading h.text) four (sym (ct h.reading h.text) ∙ ce) (sym (ot h.reading h.text) ∙ oe) (omega (arith, count_is))
-                ∙ rw (count_is, ← (told_rows (formula_of h.reading) flat n k (rows h.reading h.text)), ← (q.names h.reading h.text), ← (v.names h.reading h.text)))
-
-            pub rows_are : Translated text before (laid 576 (take (9 * n) flat)) (Rows n pn vn)
-                (laid 64 (take pn pstarts)) (laid 64 (take pn plengths)) (laid 4 (take vn vstarts)) (laid 4 (take vn vlengths))
-            rows_are = (
-              rw (laid_names text pstarts plengths pn 64 q.table few_names, laid_names text vstarts vlengths vn 4 v.table v.few) says_rows,
-              laid_named text pstarts plengths pn 64 q.table few_names,
-              laid_named text vstarts vlengths vn 4 v.table v.few,
-            )
+                ∙ rw (count_is, ← (told_rows (formula_of h.reading) table (rows h.reading h.text)), ← (q.names h.reading h.text), ← (v.names h.reading h.text)))
 
             -- what was written, as the code lays it
-            pub rows_written : (after ps pl vs vl : List ℕ) → after ≡ laid (length before) (take (9 * n - 0) (drop 0 flat)) → ps ≡ laid 64 (take (pn - 0) (drop 0 pstarts))
-                → pl ≡ laid 64 (take (pn - 0) (drop 0 plengths)) → vs ≡ laid 4 (take (vn - 0) (drop 0 vstarts)) → vl ≡ laid 4 (take (vn - 0) (drop 0 vlengths))
-                → Translated text before after (Rows n pn vn) ps pl vs vl
-            rows_written after ps pl vs vl a b c d e =
-                rw (
-                  a ∙ ap (λ (m : ℕ). laid m (take (9 * n - 0) flat)) z ∙ ap (laid 576) (whole_part (9 * n) flat),
-                  b ∙ ap (laid 64) (whole_part pn pstarts),
-                  c ∙ ap (laid 64) (whole_part pn plengths),
-                  d ∙ ap (laid 4) (whole_part vn vstarts),
-                  e ∙ ap (laid 4) (whole_part vn vlengths),
-                )
-                rows_are
+            pub rows_written : (made : List (List ℕ)) (numbers copied zeros : List ℕ) (pn vn : List Span) → made ≡ table → numbers ≡ flat_map (λ x. x) made → copied ≡ numbers
+                → zeros ≡ replicate (length before) 0 → Table text ps → Table text vs → pn ≡ laid nowhere 64 ps → vn ≡ laid nowhere 4 vs
+                → Says (length before) text (makes (copied ++ drop (length numbers) zeros) (length made) (names_at text (take (length ps) pn)) (names_at text (take (length vs) vn)))
+                × Named text pn (length ps) 64 × Named text vn (length vs) 4
+            rows_written made numbers copied zeros pn vn m n e o t u b c =
+                let l : copied ++ drop (length numbers) zeros ≡ laid 0 576 (flat_map (λ x. x) table) =
+                laid_is 0 576 copied numbers zeros e (o ∙ ap (λ (k : ℕ). replicate k 0) z) ∙ rw (n, m) refl in
+                rw (l, m, b, c, laid_names text ps 64 few_names, laid_names text vs 4 v.few) (says_rows, laid_named text ps 64 few_names t, laid_named text vs 4 v.few u)

@@ -1,2 +1,3 @@
 -- What the contracts cite: what a call promises.
 pub mod Translated
+pub mod Refusals

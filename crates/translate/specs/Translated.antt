@@ -1,40 +1,38 @@
 -- What the call promises, in the words of the crate text. Assumes nothing: these are definitions.
-use Rattle.std.specs.Prelude.{ℕ, ◌-◌, ◌≡◌, true, false, List, ◌++◌, length, drop, replicate}
+use Rattle.std.specs.Prelude.{ℕ, ◌-◌, ◌≤◌, ◌≡◌, true, false, List, ◌++◌, length, take, drop, replicate, Result, Ok, Err}
 use Rattle.text.specs.Grammar.{Reading, RuleText}
 use Rattle.text.specs.Unfold.{atoms}
 use Rattle.text.specs.Translate.{refuses, makes, any_atom, too_large, too_many, Says}
-use Rattle.census.specs.Tables.{names_at, Table}
-use Rattle.translate.specs.declared.Told.{Told}
-use Rattle.translate.specs.declared.Told.TheVariants.{Refused, Rows}
+use Rattle.census.specs.declared.spans.Span.{Span}
+use Rattle.census.specs.Tables.{nowhere, names_at, Table}
+use Rattle.drive.specs.Driving.{Passed}
+use Rattle.translate.specs.declared.Translation.{Translation}
+use Rattle.translate.specs.declared.refusals.Refusal.{Refusal}
+use Rattle.translate.specs.declared.refusals.Refusal.TheVariants.{LargeConstant, ManyArguments}
+use Rattle.translate.specs.Refusals.{number_of, place_of}
 
--- numbers at the start of a slice of n, the rest 0
-unfoldable pub laid : ℕ → List ℕ → List ℕ
-laid n xs = xs ++ replicate (n - length xs) 0
+-- what is at the start of a slice of n, and the rest
+unfoldable pub laid : {A : Type 0} → A → ℕ → List A → List A
+laid rest n xs = xs ++ replicate (n - length xs) rest
 
--- a refusal, with no names
-abbrev pub Blank : ℕ → ℕ → Told → List ℕ → List ℕ → List ℕ → List ℕ → Type 0
-Blank number place told pstarts plengths vstarts vlengths =
-    (told ≡ Refused number place) × (pstarts ≡ replicate 64 0) × (plengths ≡ replicate 64 0) × (vstarts ≡ replicate 4 0) × (vlengths ≡ replicate 4 0)
-
--- the first n of m places are in the text, and the others are 0
-pub record Named (text starts lengths : List ℕ) (n m : ℕ) : Type 0 where
-  pub table : Table text starts lengths n
-  pub starts_rest : drop n starts ≡ replicate (m - n) 0
-  pub lengths_rest : drop n lengths ≡ replicate (m - n) 0
+-- the first n of m spans are in the text, and the others are nowhere
+pub record Named (text : List ℕ) (spans : List Span) (n m : ℕ) : Type 0 where
+  pub here : n ≤ length spans
+  pub table : Table text (take n spans)
+  pub rest : drop n spans ≡ replicate (m - n) nowhere
 
 -- the answer, and the row slice: as it was after a refusal; else the answer's, with the names where the places say
-abbrev pub Translated : List ℕ → List ℕ → List ℕ → Told → List ℕ → List ℕ → List ℕ → List ℕ → Type 0
-Translated text before after (Refused number place) pstarts plengths vstarts vlengths =
-    Says (length before) text (refuses number place) × (after ≡ before)
-    × (pstarts ≡ replicate 64 0) × (plengths ≡ replicate 64 0) × (vstarts ≡ replicate 4 0) × (vlengths ≡ replicate 4 0)
-Translated text before after (Rows n p v) pstarts plengths vstarts vlengths =
-    Says (length before) text (makes after n (names_at text pstarts plengths p) (names_at text vstarts vlengths v))
-    × Named text pstarts plengths p 64 × Named text vstarts vlengths v 4
+abbrev pub Translated : List ℕ → List ℕ → List ℕ → Result Translation Refusal → Type 0
+Translated text before after (Err r) = Says (length before) text (refuses (number_of r) (place_of r)) × (after ≡ before)
+Translated text before after (Ok t) =
+    Says (length before) text (makes after t.rows (names_at text (take t.predicates t.predicate_names)) (names_at text (take t.variables t.variable_names)))
+    × Named text t.predicate_names t.predicates 64 × Named text t.variable_names t.variables 4
 
--- refusals 4 and 5, or 0
-pub record Limits (text : List ℕ) (r : ℕ) : Type 0 where
-  pub four : r ≡ 4 → (f : Reading) → RuleText text f → any_atom (λ a. too_large a.terms) (atoms f) ≡ true
-  pub small : (r ≡ 4 → ⊥) → (f : Reading) → RuleText text f → any_atom (λ a. too_large a.terms) (atoms f) ≡ false
-  pub five : r ≡ 5 → (f : Reading) → RuleText text f → any_atom (λ a. too_many a.terms) (atoms f) ≡ true
-  pub few : r ≡ 0 → (f : Reading) → RuleText text f → any_atom (λ a. too_many a.terms) (atoms f) ≡ false
-  pub which : (r ≡ 0 → ⊥) → (r ≡ 4 → ⊥) → r ≡ 5
+-- refusals 4 and 5, or neither
+abbrev pub Limits : {A : Type 0} → List ℕ → Result A Refusal → Type 0
+Limits text (Ok x) = Passed text
+Limits text (Err LargeConstant) = (f : Reading) → RuleText text f → any_atom (λ a. too_large a.terms) (atoms f) ≡ true
+Limits text (Err ManyArguments) =
+    ((f : Reading) → RuleText text f → any_atom (λ a. too_large a.terms) (atoms f) ≡ false)
+    × ((f : Reading) → RuleText text f → any_atom (λ a. too_many a.terms) (atoms f) ≡ true)
+Limits text (Err r) = ⊥

@@ -2,72 +2,48 @@
 // the promise is specs/Translated.antt. Total: any bytes, and a row slice of any length. Assumes nothing.
 #![tactic(auto)]
 
-mod laying;
 mod reading;
+pub mod refusals;
 
-ghost use Rattle.std.specs.Prelude.{◌≡◌, ◌≤◌, length, replicate};
+ghost use Rattle.std.specs.Prelude.{◌≡◌, ◌≤◌, length};
 ghost use Rattle.text.specs.Grammar.{HasReading};
-ghost use Rattle.translate.specs.Translated.{Blank, Translated};
+ghost use Rattle.translate.specs.Translated.{Translated};
 
+use census::spans::Span;
 use reading::{limits, with_names};
-use scan::{Reached, scan};
+use refusals::Refusal;
+use scan::scan;
 
-// A refusal with its number and place; or how many rows, predicates and variables there are.
-#[derive(Drop)]
-pub enum Told {
-    Refused(u32, usize),
-    Rows(usize, usize, usize),
-}
-
-// What a text is answered with. The names of predicates and of variables by where they stand in the text: place and length, in order of
-// their numbers, the rest 0. All 0 for a refusal.
-#[derive(Drop)]
+// What a text that is taken is answered with: how many rows, predicates and variables there are, and where the names of predicates and of
+// variables stand in the text, in order of their numbers, the rest being nowhere.
+#[derive(Clone, Copy)]
 pub struct Translation {
-    pub told: Told,
-    pub pstarts: [u16; 64],
-    pub plengths: [u16; 64],
-    pub vstarts: [u16; 4],
-    pub vlengths: [u16; 4],
-}
-
-// A refusal.
-fn refused(number: u32, place: usize) -> Translation
-    ensures { Blank number place result.told result.pstarts result.plengths result.vstarts result.vlengths }
-{
-    Translation {
-        told: Told::Refused(number, place),
-        pstarts: [0; 64],
-        plengths: [0; 64],
-        vstarts: [0; 4],
-        vlengths: [0; 4],
-    }
+    pub rows: usize,
+    pub predicates: usize,
+    pub variables: usize,
+    pub predicate_names: [Span; 64],
+    pub variable_names: [Span; 4],
 }
 
 // Refusals 4 to 9 of a rule text, or its rows.
-fn read(text: &[u8], rows: &mut [u32]) -> Translation
+fn read(text: &[u8], rows: &mut [u32]) -> Result<Translation, Refusal>
     requires { HasReading text.now × (length text.now ≤ 4096) × (length rows.old ≡ 576) }
-    ensures { Translated text.now rows.old rows.new result.told result.pstarts result.plengths result.vstarts result.vlengths }
+    ensures { Translated text.now rows.old rows.new result }
 {
-    let limit = limits(text);
-    if limit != 0 {
-        return refused(limit, 0);
-    }
+    limits(text)?;
     with_names(text, rows)
 }
 
 // A rule text is translated: its rows are written, the rest of the row slice being 0, or it is refused and the row slice is as it was.
-pub fn translate(text: &[u8], rows: &mut [u32]) -> Translation
-    ensures { Translated text.now rows.old rows.new result.told result.pstarts result.plengths result.vstarts result.vlengths }
+pub fn translate(text: &[u8], rows: &mut [u32]) -> Result<Translation, Refusal>
+    ensures { Translated text.now rows.old rows.new result }
 {
     if rows.len() != 576 {
-        return refused(1, 0);
+        return Err(Refusal::WrongSlice);
     }
     if 4096 < text.len() {
-        return refused(2, 0);
+        return Err(Refusal::TooLong);
     }
-    let reached = scan(text);
-    match reached {
-        Reached::Whole => read(text, rows),
-        Reached::Stops(place) => refused(3, place),
-    }
+    scan(text)?;
+    read(text, rows)
 }

@@ -1,95 +1,94 @@
 // A rule text: refusals 4 to 9 in order, and its rows.
 ghost use Rattle.std.specs.Prelude.{◌≡◌, ◌≤◌, length};
 ghost use Rattle.text.specs.Grammar.{HasReading};
+ghost use Rattle.census.specs.Tables.{nowhere};
 ghost use Rattle.census.specs.Clashes.{Predicates};
 ghost use Rattle.census.specs.Scopes.{Variables};
 ghost use Rattle.drive.specs.Driving.{Passed};
-ghost use Rattle.translate.specs.Translated.{Limits, Translated};
+ghost use Rattle.translate.specs.Translated.{laid, Limits, Translated};
 
-use crate::laying::{lay_places, lay_rows};
-use crate::{Told, Translation, refused};
+use crate::Translation;
+use crate::refusals::Refusal;
 use census::calls::too_many;
 use census::constants::too_large;
 use census::counts::clashes;
-use census::names::names;
+use census::names::{Wanted, names};
 use census::scopes::has_free;
+use census::spans::Span;
+use drive::known::Known;
 use drive::pass::rows_of;
+use rowing::table::Table;
 
-// Refusals 4 and 5, and 0 where neither applies.
-pub fn limits(text: &[u8]) -> u32
+// Refusals 4 and 5.
+pub fn limits(text: &[u8]) -> Result<(), Refusal>
     requires { HasReading text.now }
     ensures { Limits text.now result }
 {
     if too_large(text) {
-        return 4;
+        return Err(Refusal::LargeConstant);
     }
     if too_many(text) {
-        return 5;
+        return Err(Refusal::ManyArguments);
     }
-    0
+    Ok(())
+}
+
+// The spans come first, and the rest is nowhere.
+fn placed<const N: usize>(from: &[Span]) -> [Span; N]
+    requires { length from.now ≤ N }
+    ensures { result ≡ laid nowhere N from.now }
+{
+    let mut to = [Span::NOWHERE; N];
+    to[..from.len()].copy_from_slice(from);
+    to
 }
 
 // The names being known: refusals 7 to 9, or the rows.
-fn with_tables(
-    text: &[u8],
-    pstarts: &[u16],
-    plengths: &[u16],
-    pn: usize,
-    vstarts: &[u16],
-    vlengths: &[u16],
-    vn: usize,
-    rows: &mut [u32],
-) -> Translation
-    requires has_reading { HasReading text.now × (length text.now ≤ 4096) × Passed text.now }
-    requires predicates { Predicates text.now pstarts.now plengths.now pn × Variables text.now vstarts.now vlengths.now vn }
+fn with_known(known: Known, rows: &mut [u32]) -> Result<Translation, Refusal>
+    requires has_reading { HasReading known.text.now × (length known.text.now ≤ 4096) × Passed known.text.now }
+    requires names { Predicates known.text.now known.predicates.now × Variables known.text.now known.variables.now }
     requires rows_len { length rows.old ≡ 576 }
-    ensures { Translated text.now rows.old rows.new result.told result.pstarts result.plengths result.vstarts result.vlengths }
+    ensures { Translated known.entry.text.now rows.old rows.new result }
 {
-    if clashes(text, pstarts, plengths, pn) {
-        return refused(7, 0);
+    if clashes(known.predicate_names()) {
+        return Err(Refusal::TwoCounts);
     }
-    if has_free(text, vstarts, vlengths, vn) {
-        return refused(8, 0);
+    if has_free(known.variable_names()) {
+        return Err(Refusal::FreeVariable);
     }
-    let mut made = [0u32; 576];
-    let n = rows_of(
-        text, pstarts, plengths, pn, vstarts, vlengths, vn, &mut made,
-    );
-    if 64 < n {
-        return refused(9, 0);
-    }
-    lay_rows(&made[0..9 * n], rows);
-    let mut ps = [0u16; 64];
-    let mut pl = [0u16; 64];
-    let mut vs = [0u16; 4];
-    let mut vl = [0u16; 4];
-    lay_places(&pstarts[0..pn], &mut ps);
-    lay_places(&plengths[0..pn], &mut pl);
-    lay_places(&vstarts[0..vn], &mut vs);
-    lay_places(&vlengths[0..vn], &mut vl);
-    Translation {
-        told: Told::Rows(n, pn, vn),
-        pstarts: ps,
-        plengths: pl,
-        vstarts: vs,
-        vlengths: vl,
-    }
+    let mut table = Table::new();
+    rows_of(known, &mut table).ok_or(Refusal::ManyRows)?;
+    let made = table.rows();
+    let numbers = made.as_flattened();
+    rows.fill(0);
+    rows[..numbers.len()].copy_from_slice(numbers);
+    Ok(Translation {
+        rows: made.len(),
+        predicates: known.predicates.len(),
+        variables: known.variables.len(),
+        predicate_names: placed(known.predicates),
+        variable_names: placed(known.variables),
+    })
 }
 
 // Refusal 6 and the names, then the rest. 4,096 bytes have no more than 4,096 names.
-pub fn with_names(text: &[u8], rows: &mut [u32]) -> Translation
+pub fn with_names(text: &[u8], rows: &mut [u32]) -> Result<Translation, Refusal>
     requires has_reading { HasReading text.now × (length text.now ≤ 4096) × Passed text.now }
     requires rows_len { length rows.old ≡ 576 }
-    ensures { Translated text.now rows.old rows.new result.told result.pstarts result.plengths result.vstarts result.vlengths }
+    ensures { Translated text.now rows.old rows.new result }
 {
-    let mut vstarts = [0u16; 4];
-    let mut vlengths = [0u16; 4];
-    let vn = names(text, &mut vstarts, &mut vlengths, false);
-    if 4 < vn {
-        return refused(6, 0);
-    }
-    let mut pstarts = [0u16; 4096];
-    let mut plengths = [0u16; 4096];
-    let pn = names(text, &mut pstarts, &mut plengths, true);
-    with_tables(text, &pstarts, &plengths, pn, &vstarts, &vlengths, vn, rows)
+    let mut variables = [Span::NOWHERE; 4];
+    let Some(v) = names(text, &mut variables, Wanted::Variables) else {
+        return Err(Refusal::ManyVariables);
+    };
+    let mut predicates = [Span::NOWHERE; 4096];
+    let Some(p) = names(text, &mut predicates, Wanted::Predicates) else {
+        unreachable!();
+    };
+    let known = Known {
+        text,
+        predicates: &predicates[..p],
+        variables: &variables[..v],
+    };
+    with_known(known, rows)
 }
