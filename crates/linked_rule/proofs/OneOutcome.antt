@@ -2,26 +2,38 @@
 use Prim.Native.Nat.{ℕ}
 use mathlib.Core.Path.{◌≡◌, refl, sym, ap, ◌∙◌}
 use mathlib.Core.Bool.{Bool, true}
-use mathlib.Core.List.{List, ◌++◌}
+use mathlib.Core.List.{List, [], ◌∷◌}
 use mathlib.Core.Logic.{⊎_elim}
 use lib.Dec.{eqb}
 use lib.ListN.{length, take}
 use lib.Seq.{take_at}
 use borrow.Author.Tests.{eqb-true, eqb-false}
 use Rattle.trees.proofs.Tests.{bool}
-use Rattle.translate.specs.declared.Told.{Told}
-use Rattle.translate.specs.declared.Told.TheVariants.{Refused, Rows}
-use Rattle.translate.proofs.OneOutcome.{one_outcome}
-use Rattle.linked_rule.specs.Ruling.{packed_told, packed, Ruled, LinkedRule}
+use Rattle.std.specs.Prelude.{Result, Ok, Err}
+use Rattle.translate.specs.declared.Translation.{Translation}
+use Rattle.translate.specs.declared.refusals.Refusal.{Refusal}
+use Rattle.translate.specs.Refusals.{number_of, place_of}
+use Rattle.translate.proofs.OneOutcome.{told_in, one_outcome}
+use Rattle.linked_rule.specs.Ruling.{packed_told, packed_names, packed, Ruled, LinkedRule}
 
-five_long : (t : Told) → length (packed_told t) ≡ 5
+-- the first five numbers are those of what is told
+five_of : Result (ℕ × ℕ × ℕ) Refusal → List ℕ
+five_of (Err r) = number_of r ∷ place_of r ∷ 0 ∷ 0 ∷ 0 ∷ []
+five_of (Ok c) = 0 ∷ 0 ∷ c.0 ∷ c.1 ∷ c.2 ∷ []
+
+five_long : (t : Result Translation Refusal) → length (packed_told t) ≡ 5
 unfolding packed_told
-five_long (Refused number place) = refl
-five_long (Rows n p v) = refl
+five_long (Err r) = refl
+five_long (Ok t) = refl
 
-first_five : (t : Told) (ps pl vs vl : List ℕ) → take 5 (packed t ps pl vs vl) ≡ packed_told t
+five_told : (t : Result Translation Refusal) → packed_told t ≡ five_of (told_in t)
+unfolding packed_told five_of
+five_told (Err r) = refl
+five_told (Ok t) = refl
+
+first_five : (t : Result Translation Refusal) → take 5 (packed t) ≡ five_of (told_in t)
 unfolding packed
-first_five t ps pl vs vl = take_at (packed_told t) (ps ++ (pl ++ (vs ++ vl))) 5 (five_long t)
+first_five t = take_at (packed_told t) (packed_names t) 5 (five_long t) ∙ five_told t
 
 pub record SameCall (text rows answer : List ℕ) (r r' : Bool) (rows' rows'' answer' answer'' : List ℕ) : Type 0 where
   pub called : r ≡ r'
@@ -33,15 +45,11 @@ module _ (text rows answer : List ℕ) (r r' : Bool) (rows' rows'' answer' answe
   made_same e =
       let a : (r ≡ true) × Ruled text rows rows' answer' = x.made e in
       let b : (r' ≡ true) × Ruled text rows rows'' answer'' = y.made e in
-      let s = one_outcome text rows rows' rows'' a.1.told b.1.told a.1.pstarts a.1.plengths a.1.vstarts a.1.vlengths
-      b.1.pstarts b.1.plengths b.1.vstarts b.1.vlengths a.1.translated b.1.translated in
+      let s = one_outcome text rows rows' rows'' a.1.told b.1.told a.1.translated b.1.translated in
       record {
         called = a.0 ∙ sym b.0;
         same_rows = s.rows;
-        five =
-            ap (take 5) a.1.answer_is ∙ first_five a.1.told a.1.pstarts a.1.plengths a.1.vstarts a.1.vlengths
-            ∙ ap packed_told s.told
-            ∙ sym (ap (take 5) b.1.answer_is ∙ first_five b.1.told b.1.pstarts b.1.plengths b.1.vstarts b.1.vlengths);
+        five = ap (take 5) a.1.answer_is ∙ first_five a.1.told ∙ ap five_of s.told ∙ sym (ap (take 5) b.1.answer_is ∙ first_five b.1.told);
       }
 
   unmade_same : (length answer ≡ 141 → ⊥) → SameCall text rows answer r r' rows' rows'' answer' answer''

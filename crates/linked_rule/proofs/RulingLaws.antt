@@ -1,28 +1,42 @@
 -- The answer's numbers are written one after the other. Assumes nothing.
-use Prim.Native.Nat.{ℕ, ◌+◌}
+use Prim.Native.Nat.{ℕ, ◌+◌, ◌*◌, ◌≤◌, ◌<◌}
 use native.Mathlib.Omega.{arith}
+use native.Mathlib.Numerals.{add-one}
 use mathlib.Core.Path.{◌≡◌, refl, sym, ap, ◌∙◌}
 use mathlib.Core.Bool.{true, false}
-use mathlib.Core.List.{List, [], ◌∷◌, ◌++◌, append_assoc, append-nil}
-use lib.ListN.{length, take, drop, length-drop, length-append}
-use lib.Seq.{take_at, drop-append-add}
-use Rattle.translate.specs.declared.Told.{Told}
-use Rattle.translate.specs.declared.Told.TheVariants.{Refused, Rows}
+use mathlib.Core.List.{List, [], ◌++◌, map, append_assoc, append-nil}
+use lib.ListN.{length, take, drop, set, get_or, replicate, length-append, length-map, get_or-map}
+use lib.Seq.{paste, paste-suc, take-length, take_at, drop-append-add, drop-drop, length-take-le}
+use Rattle.std.proofs.Common.{take-append-drop}
+use Rattle.std.specs.Prelude.{Result, Ok, Err}
+use Rattle.census.specs.declared.spans.Span.{Span}
+use Rattle.census.specs.Tables.{nowhere}
+use Rattle.translate.specs.declared.Translation.{Translation}
+use Rattle.translate.specs.declared.refusals.Refusal.{Refusal}
+use Rattle.translate.specs.Refusals.{number_of, place_of}
 use Rattle.translate.specs.Translated.{Translated}
-use Rattle.linked_rule.specs.Ruling.{packed_told, wrapped_told, packed, LinkedRule}
+use Rattle.linked_rule.specs.Ruling.{places, packed_told, packed_names, packed, LinkedRule}
 
-pub told_length : (t : Told) → length (wrapped_told t) ≡ 5
-unfolding wrapped_told
-told_length (Refused number place) = refl
-told_length (Rows n p v) = refl
+-- a number of one name more
+pub put_more : (d : List ℕ) (at : ℕ) (f : Span → ℕ) (spans : List Span) (to : List ℕ) (i v : ℕ) → to ≡ paste d at (map f spans) i → v ≡ f (get_or spans i nowhere) → i < length spans
+    → at + length spans ≤ length d → set to (at + i) v ≡ paste d at (map f spans) (i + 1)
+put_more d at f spans to i v e z l r =
+    rw (e, z, ← (get_or-map f spans i nowhere), add-one) (paste-suc d at (map f spans) i (f nowhere) (omega arith) (omega (arith, length-map spans f)))
+
+pub put_all : (d : List ℕ) (at : ℕ) (f : Span → ℕ) (spans : List Span) (to : List ℕ) (i : ℕ) → to ≡ paste d at (map f spans) i → length spans ≤ i → i ≤ length spans
+    → to ≡ take at d ++ map f spans ++ drop (at + length spans) d
+put_all d at f spans to i e l m =
+    let z : i ≡ length (map f spans) = omega (arith, length-map spans f) in
+    let y : length (map f spans) ≡ length spans = length-map spans f in
+    e ∙ rw (z, take-length, y) refl
 
 -- numbers written behind those that are done
 pub record Writing (done rest now : List ℕ) (at : ℕ) : Type 0 where
   pub is : now ≡ done ++ rest
   pub long : length done ≡ at
 
-pub write_begins : (now : List ℕ) → Writing [] now now 0
-write_begins now = record { is = refl; long = refl }
+pub write_begins : (at : ℕ) (now : List ℕ) → at ≤ length now → Writing (take at now) (drop at now) now at
+write_begins at now h = record { is = sym (take-append-drop at now); long = length-take-le at now h }
 
 pub write_more : (done rest now xs now' : List ℕ) (at : ℕ) → Writing done rest now at → now' ≡ take at now ++ xs ++ drop (at + length xs) now
     → Writing (done ++ xs) (drop (length xs) rest) now' (at + length xs)
@@ -35,41 +49,48 @@ write_more done rest now xs now' at w e =
       long = length-append done xs ∙ ap (λ (k : ℕ). k + length xs) w.long;
     }
 
--- nothing is left to write
-nothing_left : (rest : List ℕ) → length rest ≡ 0 → rest ≡ []
-nothing_left [] e = refl
-nothing_left (x ∷ rest) e = absurd (omega arith)
+places_length : (spans : List Span) → length (places spans) ≡ 2 * length spans
+unfolding places
+places_length spans = length-append (map (λ s. s.start) spans) (map (λ s. s.length) spans) ∙ omega (arith, length-map spans (λ s. s.start), length-map spans (λ s. s.length))
 
-module _ (answer : List ℕ) (told : Told) (ps pl vs vl : List ℕ) (one two three four five : List ℕ) (long : length answer ≡ 141) (a : length ps ≡ 64) (b : length pl ≡ 64) (c : length vs ≡ 4) (d : length vl ≡ 4)
-    (e : one ≡ take 0 answer ++ wrapped_told told ++ drop (0 + length (wrapped_told told)) answer)
-    (f : two ≡ take 5 one ++ ps ++ drop (5 + length ps) one) (g : three ≡ take 69 two ++ pl ++ drop (69 + length pl) two)
-    (h : four ≡ take 133 three ++ vs ++ drop (133 + length vs) three) (i : five ≡ take 137 four ++ vl ++ drop (137 + length vl) four) where
-  pub all_written : wrapped_told told ≡ packed_told told → five ≡ packed told ps pl vs vl
-  unfolding packed
-  all_written small =
-      let w1 = write_more [] answer answer (wrapped_told told) one 0 (write_begins answer) e in
-      let w1' : Writing (wrapped_told told) (drop 5 answer) one 5 = rw (told_length told) at w1 in
-      let w2 = write_more (wrapped_told told) (drop 5 answer) one ps two 5 w1' f in
-      let w2' : Writing (wrapped_told told ++ ps) (drop 64 (drop 5 answer)) two 69 = rw a at w2 in
-      let w3 = write_more (wrapped_told told ++ ps) (drop 64 (drop 5 answer)) two pl three 69 w2' g in
-      let w3' : Writing ((wrapped_told told ++ ps) ++ pl) (drop 64 (drop 64 (drop 5 answer))) three 133 = rw b at w3 in
-      let w4 = write_more ((wrapped_told told ++ ps) ++ pl) (drop 64 (drop 64 (drop 5 answer))) three vs four 133 w3' h in
-      let w4' : Writing (((wrapped_told told ++ ps) ++ pl) ++ vs) (drop 4 (drop 64 (drop 64 (drop 5 answer)))) four 137 = rw c at w4 in
-      let w5 = write_more (((wrapped_told told ++ ps) ++ pl) ++ vs) (drop 4 (drop 64 (drop 64 (drop 5 answer)))) four vl five 137 w4' i in
-      let w5' : Writing ((((wrapped_told told ++ ps) ++ pl) ++ vs) ++ vl) (drop 4 (drop 4 (drop 64 (drop 64 (drop 5 answer))))) five 141 = rw d at w5 in
-      let z : drop 4 (drop 4 (drop 64 (drop 64 (drop 5 answer)))) ≡ [] =
-      nothing_left (drop 4 (drop 4 (drop 64 (drop 64 (drop 5 answer)))))
-      (omega (arith, length-drop 4 (drop 4 (drop 64 (drop 64 (drop 5 answer)))), length-drop 4 (drop 64 (drop 64 (drop 5 answer))), length-drop 64 (drop 64 (drop 5 answer)), length-drop 64 (drop 5 answer), length-drop 5 answer)) in
-      w5'.is ∙ rw (z, ← small) (append-nil ((((wrapped_told told ++ ps) ++ pl) ++ vs) ++ vl)
-      ∙ append_assoc ((wrapped_told told ++ ps) ++ pl) vs vl ∙ append_assoc (wrapped_told told ++ ps) pl (vs ++ vl) ∙ append_assoc (wrapped_told told) ps (pl ++ (vs ++ vl)))
+pub places_written : (d : List ℕ) (at : ℕ) (spans : List Span) (one two : List ℕ) → at ≤ length d → one ≡ take at d ++ map (λ s. s.start) spans ++ drop (at + length spans) d
+    → two ≡ take (at + length spans) one ++ map (λ s. s.length) spans ++ drop ((at + length spans) + length spans) one → two ≡ take at d ++ places spans ++ drop (at + 2 * length spans) d
+unfolding places
+places_written d at spans one two h e f =
+    let n : length (map (λ (s : Span). s.start) spans) ≡ length spans = length-map spans (λ s. s.start) in
+    let m : length (map (λ (s : Span). s.length) spans) ≡ length spans = length-map spans (λ s. s.length) in
+    let w1 : Writing (take at d ++ map (λ s. s.start) spans) (drop (length spans) (drop at d)) one (at + length spans) =
+    rw n at (write_more (take at d) (drop at d) d (map (λ s. s.start) spans) one at (write_begins at d h) (rw n e)) in
+    let w2 : Writing ((take at d ++ map (λ s. s.start) spans) ++ map (λ s. s.length) spans) (drop (length spans) (drop (length spans) (drop at d))) two ((at + length spans) + length spans) =
+    rw m at (write_more (take at d ++ map (λ s. s.start) spans) (drop (length spans) (drop at d)) one (map (λ s. s.length) spans) two (at + length spans) w1 (rw m f)) in
+    let z : (at + length spans) + length spans ≡ at + 2 * length spans = omega arith in
+    w2.is ∙ rw (append_assoc (take at d) (map (λ s. s.start) spans) (map (λ s. s.length) spans), drop-drop (length spans) at d, drop-drop (length spans) (at + length spans) d, z) refl
+
+-- a refusal, and a text that is taken
+pub refused_put : (r : Refusal) (zeros : List ℕ) (number place : ℕ) → zeros ≡ replicate 141 0 → number ≡ number_of r → place ≡ place_of r → set (set zeros 0 number) 1 place ≡ packed (Err r)
+unfolding packed packed_told packed_names
+refused_put r zeros number place e a b = rw (e, a, b) refl
+
+module _ (t : Translation) (zeros one two : List ℕ) (e : zeros ≡ replicate 141 0) (a : length t.predicate_names ≡ 64) (b : length t.variable_names ≡ 4) where
+  pub taken_put : one ≡ take 5 (set (set (set zeros 2 t.rows) 3 t.predicates) 4 t.variables) ++ places t.predicate_names ++ drop (5 + 2 * length t.predicate_names) (set (set (set zeros 2 t.rows) 3 t.predicates) 4 t.variables)
+      → two ≡ take 133 one ++ places t.variable_names ++ drop (133 + 2 * length t.variable_names) one → two ≡ packed (Ok t)
+  unfolding packed packed_told packed_names
+  taken_put f g =
+      let now : List ℕ = set (set (set (replicate 141 0) 2 t.rows) 3 t.predicates) 4 t.variables in
+      let n : length (places t.predicate_names) ≡ 128 = places_length t.predicate_names ∙ omega arith in
+      let m : length (places t.variable_names) ≡ 8 = places_length t.variable_names ∙ omega arith in
+      let f' : one ≡ take 5 now ++ places t.predicate_names ++ drop (5 + length (places t.predicate_names)) now = f ∙ rw (e, places_length t.predicate_names) refl in
+      let g' : two ≡ take 133 one ++ places t.variable_names ++ drop (133 + length (places t.variable_names)) one = g ∙ rw (places_length t.variable_names) refl in
+      let w1 : Writing (take 5 now ++ places t.predicate_names) (drop 128 (drop 5 now)) one 133 =
+      rw n at (write_more (take 5 now) (drop 5 now) now (places t.predicate_names) one 5 (write_begins 5 now (omega arith)) f') in
+      let w2 = write_more (take 5 now ++ places t.predicate_names) (drop 128 (drop 5 now)) one (places t.variable_names) two 133 w1 g' in
+      let z : drop (length (places t.variable_names)) (drop 128 (drop 5 now)) ≡ [] = rw m refl in
+      w2.is ∙ rw z (append-nil ((take 5 now ++ places t.predicate_names) ++ places t.variable_names) ∙ append_assoc (take 5 now) (places t.predicate_names) (places t.variable_names))
 
 -- the call
-pub rule_made : (text rows answer rows' answer' : List ℕ) (told : Told) (ps pl vs vl : List ℕ) → length answer ≡ 141 → Translated text rows rows' told ps pl vs vl
-    → answer' ≡ packed told ps pl vs vl → LinkedRule text rows answer true rows' answer'
-rule_made text rows answer rows' answer' told ps pl vs vl l t e = record {
-  made = λ k. (refl, record { told = told; pstarts = ps; plengths = pl; vstarts = vs; vlengths = vl; translated = t; answer_is = e });
-  unmade = λ n. absurd (n l);
-}
+pub rule_made : (text rows answer rows' answer' : List ℕ) (told : Result Translation Refusal) → length answer ≡ 141 → Translated text rows rows' told → answer' ≡ packed told
+    → LinkedRule text rows answer true rows' answer'
+rule_made text rows answer rows' answer' told l t e = record { made = λ k. (refl, record { told = told; translated = t; answer_is = e }); unmade = λ n. absurd (n l) }
 
 pub rule_unmade : (text rows answer : List ℕ) → (length answer ≡ 141 → ⊥) → LinkedRule text rows answer false rows answer
 rule_unmade text rows answer n = record { made = λ k. absurd (n k); unmade = λ k. (refl, refl, refl) }

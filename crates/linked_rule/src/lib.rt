@@ -15,16 +15,6 @@ pub fn moheguzari_rule(text: &[u8], rows: &mut [u32], answer: &mut [u32]) -> boo
     if answer.len() != 141 {
         return false;
     }
-    let t = translate(text, rows);
-    let told = t.told;
-    let pstarts = t.pstarts;
-    let plengths = t.plengths;
-    let vstarts = t.vstarts;
-    let vlengths = t.vlengths;
-    packing::put_told(told, answer);
-    packing::put_places(&pstarts, answer, 5);
-    packing::put_places(&plengths, answer, 69);
-    packing::put_places(&vstarts, answer, 133);
-    packing::put_places(&vlengths, answer, 137);
+    packing::put(translate(text, rows), answer);
     true
 }

@@ -1,68 +1,45 @@
 // How an answer is written as numbers.
-ghost use Rattle.std.specs.Prelude.{◌≡◌, ◌+◌, ◌≤◌, ◌++◌, length, take, drop};
-ghost use Rattle.linked_rule.specs.Ruling.{wrapped_told};
+ghost use Rattle.std.specs.Prelude.{◌≡◌, ◌+◌, ◌*◌, ◌≤◌, ◌++◌, length, take, drop};
+ghost use Rattle.linked_rule.specs.Ruling.{places, packed, Small};
 
-use translate::Told;
+use census::spans::Span;
+use translate::Translation;
+use translate::refusals::Refusal;
 
-// Five numbers.
-#[derive(Drop)]
-struct Numbers {
-    five: [u32; 5],
+// Writes where names stand: their places from `at` on, and behind those their lengths.
+fn put_names(names: &[Span], to: &mut [u32], at: usize)
+    requires { at + 2 * length names.now ≤ length to.old }
+    ensures { to.new ≡ take at to.old ++ places names.now ++ drop (at + 2 * length names.now) to.old }
+{
+    for (i, name) in names.iter().enumerate() {
+        to[at + i] = u32::from(name.start);
+    }
+    let behind = at + names.len();
+    for (j, name) in names.iter().enumerate() {
+        to[behind + j] = u32::from(name.length);
+    }
 }
 
-// A refusal's number and place, and three zeros; or two zeros and the counts of rows, predicates and variables. They are all small.
-fn five_of(told: Told) -> Numbers
-    ensures { result.five ≡ wrapped_told told }
+// Writes what a text is answered with: a refusal's number and place, and zeros; or two zeros, the counts of rows, predicates and variables,
+// and where their names stand.
+pub fn put(told: Result<Translation, Refusal>, answer: &mut [u32])
+    requires long { length answer.old ≡ 141 }
+    requires small { Small told }
+    ensures { answer.new ≡ packed told }
 {
+    answer.fill(0);
     match told {
-        Told::Refused(number, place) => Numbers {
-            five: [number, (place % 4294967296) as u32, 0, 0, 0],
-        },
-        Told::Rows(n, p, v) => Numbers {
-            five: [
-                0,
-                0,
-                (n % 4294967296) as u32,
-                (p % 4294967296) as u32,
-                (v % 4294967296) as u32,
-            ],
-        },
-    }
-}
-
-// Writes numbers from `at` on.
-fn put_numbers(from: &[u32], to: &mut [u32], at: usize)
-    requires { at + length from.now ≤ length to.old }
-    ensures { to.new ≡ take at to.old ++ from.now ++ drop (at + length from.now) to.old }
-{
-    for i in 0..from.len() {
-        to[at + i] = from[i];
-    }
-}
-
-// Writes what was told, from the start on.
-pub fn put_told(told: Told, to: &mut [u32])
-    requires { 5 ≤ length to.old }
-    ensures { to.new ≡ take 0 to.old ++ wrapped_told told ++ drop (0 + length (wrapped_told told)) to.old }
-{
-    let n = five_of(told);
-    let five = n.five;
-    put_numbers(&five, to, 0);
-}
-
-// A place or a length as a number of the answer.
-fn wide(n: u16) -> u32
-    ensures { result ≡ n }
-{
-    n as u32
-}
-
-// Writes places or lengths from `at` on.
-pub fn put_places(from: &[u16], to: &mut [u32], at: usize)
-    requires { at + length from.now ≤ length to.old }
-    ensures { to.new ≡ take at to.old ++ from.now ++ drop (at + length from.now) to.old }
-{
-    for i in 0..from.len() {
-        to[at + i] = wide(from[i]);
+        Err(refusal) => {
+            let (number, place) = refusal.number_and_place();
+            answer[0] = number;
+            answer[1] = place as u32;
+        }
+        Ok(t) => {
+            answer[2] = t.rows as u32;
+            answer[3] = t.predicates as u32;
+            answer[4] = t.variables as u32;
+            put_names(&t.predicate_names, answer, 5);
+            put_names(&t.variable_names, answer, 133);
+        }
     }
 }
