@@ -1,14 +1,20 @@
 -- A word's argument in an atom's nine numbers. Assumes nothing.
-use Prim.Native.Nat.{ℕ, ◌%◌, ◌≤◌, ◌<◌, min}
+use Prim.Native.Nat.{ℕ, ◌≤◌, ◌<◌}
 use native.Mathlib.Omega.{arith}
 use mathlib.Core.Path.{◌≡◌, refl, ◌∙◌}
 use mathlib.Core.List.{List, [], ◌∷◌, ◌++◌, append-nil}
 use lib.ListN.{length, length-append}
 use borrow.Author.Tests.{ne_eqb}
+use Rattle.std.specs.Prelude.{Option, Some, None, unwrap_or}
+use Rattle.spelling.specs.Codes.{Valued}
 use Rattle.meaning.specs.Qtl.{Argument, variable, constant}
 use Rattle.text.specs.Unfold.{number_in, value_after}
 use Rattle.text.specs.Parts.{mark_of, content_of}
 use Rattle.atomic.specs.Arguments.{Puts, argument_of, Adds}
+
+valued : (n : ℕ) (o : Option ℕ) → Valued n o → n < 4294967296 → unwrap_or o 0 ≡ n
+valued n None v h = absurd (omega arith)
+valued n (Some m) v h = v.0
 
 module _ (vs : List (List ℕ)) (before : List ℕ) (code : ℕ) (x after : List ℕ) where
   is_name : code ≡ 0 → argument_of vs code x ≡ variable (number_in vs x) ∷ []
@@ -32,11 +38,11 @@ module _ (vs : List (List ℕ)) (before : List ℕ) (code : ℕ) (x after : List
     adds = λ p gs b l v. rw (is_name e) (k.puts p gs (variable (number_in vs x)) b (room gs (variable (number_in vs x)) (rw (is_name e) at l)) (unfold mark_of in refl) (i ∙ unfold content_of in refl));
   }
 
-  pub add_number : (s : ℕ) → code ≡ 1 → s ≡ min (value_after 0 x) 4294967296 → Puts before 1 (s % 4294967296) after → Adds vs before code x after
-  add_number s e i k = record {
+  pub add_number : (o : Option ℕ) (s : ℕ) → code ≡ 1 → Valued (value_after 0 x) o → s ≡ unwrap_or o 0 → Puts before 1 s after → Adds vs before code x after
+  add_number o s e i u k = record {
     sized = k.sized;
     adds = λ p gs b l v.
-        let z : s % 4294967296 ≡ value_after 0 x = omega (arith, v e) in
+        let z : s ≡ value_after 0 x = u ∙ valued (value_after 0 x) o i (v e) in
         rw (is_number e) (k.puts p gs (constant (value_after 0 x)) b (room gs (constant (value_after 0 x)) (rw (is_number e) at l)) (unfold mark_of in refl) (z ∙ unfold content_of in refl));
   }
 

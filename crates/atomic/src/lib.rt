@@ -37,8 +37,7 @@ fn add(names: Names, nine: &mut [u32; 9], w: Taken)
             put(nine, 0, slot as u32);
         }
         Kind::Constant => {
-            let value = value_of(bytes) % 4294967296;
-            put(nine, 1, value as u32);
+            put(nine, 1, value_of(bytes).unwrap_or(0));
         }
         _ => {}
     }

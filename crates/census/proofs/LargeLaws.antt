@@ -1,36 +1,28 @@
 -- Refusal 4, word by word. Assumes nothing.
-use Prim.Native.Nat.{ℕ, ◌-◌, ◌≤◌, ◌<◌, min}
+use Prim.Native.Nat.{ℕ, ◌-◌, ◌≤◌, ◌<◌}
 use native.Mathlib.Omega.{arith}
 use mathlib.Core.Path.{◌≡◌, refl, sym, ap, ◌∙◌}
 use mathlib.Core.Bool.{Bool, true, false, ◌||◌}
 use mathlib.Core.List.{List, []}
-use lib.Dec.{ltb}
 use lib.ListN.{length, take, drop}
-use borrow.Author.Tests.{ne_eqb, ltb-true, lt-ltb}
-use Rattle.trees.proofs.Tests.{iff_eq}
+use borrow.Author.Tests.{lt-ltb, le-ltb}
 use Rattle.text.specs.Words.{Spelled, Word, bytes_of}
 use Rattle.text.specs.Grammar.{Reading, HasReading}
 use Rattle.text.specs.Unfold.{atoms, value_after}
 use Rattle.text.specs.Translate.{any_atom, too_large}
-use Rattle.std.specs.Prelude.{Some, None}
+use Rattle.std.specs.Prelude.{Option, Some, None, is_none}
 use Rattle.spelling.specs.declared.words.Taken.{Taken}
 use Rattle.spelling.specs.Kinds.{kind_code}
-use Rattle.spelling.specs.Codes.{code_of, Next, mode_after}
+use Rattle.spelling.specs.Codes.{code_of, Next, mode_after, Valued}
 use Rattle.census.specs.Folds.{Event, events, large, large_in}
 use Rattle.census.specs.Told.{large_code, ToldLarge}
 use Rattle.census.proofs.TellLaws.{large_of, large_step}
 use Rattle.census.proofs.PassLaws.{Passing, Stepped, pass_begins, pass_ends, pass_steps, pass_on, of_all}
 
-pub large_other : (code : ℕ) (bs : List ℕ) → (code ≡ 1 → ⊥) → false ≡ large_code code bs
-unfolding large_code
-large_other code bs n = rw (ne_eqb code 1 n)
-
-pub large_value : (code : ℕ) (bs : List ℕ) (v : ℕ) → code ≡ 1 → v ≡ min (value_after 0 bs) 4294967296 → ltb 4294967295 v ≡ large_code code bs
-unfolding large_code large
-large_value code bs v e z =
-    rw e (iff_eq (ltb 4294967295 v) (ltb 4294967295 (value_after 0 bs))
-    (λ h. lt-ltb 4294967295 (value_after 0 bs) (omega (arith, ltb-true 4294967295 v h)))
-    (λ h. lt-ltb 4294967295 v (omega (arith, ltb-true 4294967295 (value_after 0 bs) h))))
+pub large_value : (bs : List ℕ) (o : Option ℕ) → Valued (value_after 0 bs) o → is_none o ≡ large bs
+unfolding large
+large_value bs None v = sym (lt-ltb 4294967295 (value_after 0 bs) (omega arith))
+large_value bs (Some n) v = sym (le-ltb 4294967295 (value_after 0 bs) (omega (arith, v.0, v.1)))
 
 same_code : (a b : ℕ) (x y : List ℕ) → a ≡ b → x ≡ y → large_code a x ≡ large_code b y
 same_code a b x y e z = rw (e, z)

@@ -13,7 +13,7 @@ fn is_large(text: &[u8], w: Taken) -> bool
     requires { (w.from ≤ w.past) × (w.past ≤ length text.now) }
     ensures { result ≡ large_code (kind_code w.word) (take (w.past - w.from) (drop w.from text.now)) }
 {
-    w.word == Kind::Constant && u64::from(u32::MAX) < value_of(&text[w.from..w.past])
+    w.word == Kind::Constant && value_of(&text[w.from..w.past]).is_none()
 }
 
 // Whether some constant is.

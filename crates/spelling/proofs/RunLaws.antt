@@ -1,5 +1,5 @@
 -- Runs of letters, digits and `_`: a word takes all of them after it. Assumes nothing.
-use Prim.Native.Nat.{ℕ, zero, suc, ◌+◌, ◌-◌, ◌≤◌, ◌<◌, min, ◌*◌}
+use Prim.Native.Nat.{ℕ, zero, suc, ◌+◌, ◌-◌, ◌≤◌, ◌<◌, ◌*◌}
 use native.Mathlib.Omega.{arith}
 use mathlib.Core.Path.{◌≡◌, refl, sym, ap, ◌∙◌}
 use mathlib.Core.Bool.{true}
@@ -7,8 +7,7 @@ use mathlib.Core.List.{List, [], ◌∷◌, ◌++◌}
 use lib.ListN.{length, take, drop, get_or, length-drop}
 use lib.Seq.{drop-cons, drop-length, take-suc, get_or-drop}
 use native.Mathlib.Numerals.{add-one}
-use Rattle.trees.proofs.Tests.{false_true, and_true_l, and_true_r, lt_or_ge}
-use mathlib.Core.Logic.{⊎_elim}
+use Rattle.trees.proofs.Tests.{false_true, and_true_l, and_true_r}
 use Rattle.text.specs.Words.{is_word_byte, all}
 use Rattle.text.specs.Unfold.{value_after}
 use Rattle.text.proofs.LexLaws.{value_grows}
@@ -27,13 +26,6 @@ run_same (b ∷ x) rest (suc n) a s l r e =
     ap suc
     (run_same x rest n (and_true_r (is_word_byte b) (all is_word_byte x) a) s (omega (arith, l))
     (and_true_r (is_word_byte b) (all is_word_byte (take n (x ++ rest))) r) e)
-
--- a constant read no further than 2^32
-pub cap : (n : ℕ) (ds : List ℕ) → min (value_after (min n 4294967296) ds) 4294967296 ≡ min (value_after n ds) 4294967296
-cap n ds = ⊎_elim
-    (λ (h : 4294967296 < n). let z : min n 4294967296 ≡ 4294967296 = omega arith in rw z (omega (arith, value_grows 4294967296 ds, value_grows n ds)))
-    (λ h. let z : min n 4294967296 ≡ n = omega arith in rw z)
-    (lt_or_ge 4294967296 n)
 
 -- the bytes from a place on up to another are letters, digits and `_`
 pub record Run (text : List ℕ) (at i : ℕ) : Type 0 where
@@ -65,26 +57,25 @@ module _ (text : List ℕ) (at i : ℕ) (r : Run text at i) where
         run = rw (n, take-suc (drop at text) (i - at) 0 l, get_or-drop at text (i - at) 0, m) (all_snoc _ _ r.run e);
       }
 
--- the digits left, read after a value no larger than 2^32, give the value of all, as far as 2^32
-pub record Valued (digits : List ℕ) (i value : ℕ) : Type 0 where
-  pub inside : i ≤ length digits
-  pub small : value ≤ 4294967296
-  pub rest : min (value_after 0 digits) 4294967296 ≡ min (value_after value (drop i digits)) 4294967296
+-- the digits left, read after the value, give the value of all
+pub record Reading (digits : List ℕ) (i value : ℕ) : Type 0 where
+  pub small : value < 4294967296
+  pub rest : value_after 0 digits ≡ value_after value (drop i digits)
 
-pub valued_none : (digits : List ℕ) → Valued digits 0 0
-valued_none digits = record { inside = omega arith; small = omega arith; rest = refl }
+module _ (digits : List ℕ) (i value : ℕ) (r : Reading digits i value) where
+  read_one : i < length digits → value_after 0 digits ≡ value_after (value * 10 + (get_or digits i 0 - 48)) (drop (suc i) digits)
+  unfolding value_after
+  read_one h = r.rest ∙ rw (drop-cons digits i 0 h)
 
-pub valued_more : (digits : List ℕ) (i value next : ℕ) → Valued digits i value → i < length digits
-    → next ≡ min (value * 10 + (get_or digits i 0 - 48)) 4294967296 → Valued digits (i + 1) next
-unfolding value_after
-valued_more digits i value next v h e = record {
-  inside = omega arith;
-  small = omega arith;
-  rest = v.rest ∙ rw (drop-cons digits i 0 h, add-one i, e) (sym (cap (value * 10 + (get_or digits i 0 - 48)) (drop (suc i) digits)));
-}
+  pub read_more : i < length digits → (next : ℕ) → next ≡ value * 10 + (get_or digits i 0 - 48) → next < 4294967296 → Reading digits (i + 1) next
+  read_more h next e l = record { small = l; rest = read_one h ∙ rw (add-one i, e) }
 
-pub valued_all : (digits : List ℕ) (i value : ℕ) → Valued digits i value → length digits ≤ i → value ≡ min (value_after 0 digits) 4294967296
-unfolding value_after
-valued_all digits i value v h =
-    let e : i ≡ length digits = omega (arith, v.inside) in
-    sym (v.rest ∙ rw (e, drop-length digits) (omega (arith, v.small)))
+  -- a value that is too large already
+  pub read_over : i < length digits → 4294967296 ≤ value * 10 + (get_or digits i 0 - 48) → 4294967296 ≤ value_after 0 digits
+  read_over h l = omega (arith, read_one h, value_grows (value * 10 + (get_or digits i 0 - 48)) (drop (suc i) digits))
+
+  pub read_all : length digits ≤ i → i ≤ length digits → value ≡ value_after 0 digits
+  unfolding value_after
+  read_all h l =
+      let e : i ≡ length digits = omega arith in
+      sym (r.rest ∙ rw (e, drop-length digits))

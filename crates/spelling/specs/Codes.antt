@@ -121,3 +121,8 @@ Next text at [] None = Unit {0}
 Next text at [] (Some t) = ⊥
 Next text at (w ∷ ws) None = ⊥
 Next text at (w ∷ ws) (Some t) = First text at w ws (kind_code t.word) t.from t.past
+
+-- a number as far as 2^32
+abbrev pub Valued : ℕ → Option ℕ → Type 0
+Valued n None = 4294967296 ≤ n
+Valued n (Some v) = (v ≡ n) × (v < 4294967296)

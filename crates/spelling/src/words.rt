@@ -1,8 +1,8 @@
 // Words: which a run of letters is, where one ends, and the value of a constant.
-ghost use Rattle.std.specs.Prelude.{◌≡◌, Bool, List, ◌-◌, ◌≤◌, min, length, drop};
+ghost use Rattle.std.specs.Prelude.{◌≡◌, Bool, List, ◌-◌, ◌≤◌, length, drop};
 ghost use Rattle.text.specs.Words.{Word, Spelled, word_of};
 ghost use Rattle.text.specs.Unfold.{value_after};
-ghost use Rattle.spelling.specs.Codes.{code_of, Ends, Skips, Next};
+ghost use Rattle.spelling.specs.Codes.{code_of, Ends, Skips, Next, Valued};
 ghost use Rattle.spelling.specs.Kinds.{kind_code};
 
 use crate::bytes::{Beginning, class_of, is_word_byte};
@@ -93,19 +93,19 @@ pub fn next_word(text: &[u8], at: usize) -> Option<Taken>
 }
 
 // A digit's value.
-fn digit(b: u8) -> u64
+fn digit(b: u8) -> u32
     ensures { result ≡ b - 48 }
 {
-    u64::from(b.saturating_sub(b'0'))
+    u32::from(b.saturating_sub(b'0'))
 }
 
-// A constant's value, 2^32 for any larger one.
-pub fn value_of(digits: &[u8]) -> u64
-    ensures { result ≡ min (value_after 0 digits.now) 4294967296 }
+// A constant's value, where it is below 2^32.
+pub fn value_of(digits: &[u8]) -> Option<u32>
+    ensures { Valued (value_after 0 digits.now) result }
 {
-    let mut value: u64 = 0;
+    let mut value: u32 = 0;
     for b in digits {
-        value = (value * 10 + digit(*b)).min(4294967296);
+        value = value.checked_mul(10)?.checked_add(digit(*b))?;
     }
-    value
+    Some(value)
 }

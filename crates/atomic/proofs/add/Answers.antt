@@ -15,7 +15,7 @@ pub returns-in-Name : goal.returns-in-Name
 returns-in-Name c = add_name _ _ _ _ _ _ (ap kind_code c.in-Name.is) (find_slot _ _ _ _ _ c.find.ensures c.unwrap_or-slot.ensures).0 c.put.ensures
 
 pub returns-in-Constant : goal.returns-in-Constant
-returns-in-Constant c = add_number _ _ _ _ _ _ (ap kind_code c.in-Constant.is) c.value_of-value.ensures c.put-in-Constant.ensures
+returns-in-Constant c = add_number _ _ _ _ _ _ _ (ap kind_code c.in-Constant.is) c.value_of.ensures c.unwrap_or.ensures c.put-in-Constant.ensures
 
 pub returns-in_default : goal.returns-in_default
 returns-in_default c = add_none _ _ _ _ (λ e. c.in_default.not-Name (kind_same _ Name e)) (λ e. c.in_default.not-Constant (kind_same _ Constant e))
