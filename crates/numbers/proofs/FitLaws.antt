@@ -22,7 +22,7 @@ use Rattle.rule.specs.declared.Atom
 use Rattle.rule.specs.declared.Row.{Row}
 use Rattle.rule.specs.declared.Row.TheVariants.{True, Atom, And, Not, Since, Previous, Exists}
 use Rattle.rule.specs.Decoded.{argument_of, row_of}
-use Rattle.numbers.specs.Matching.{matches_row, same_at, fits_first, plain_values}
+use Rattle.numbers.specs.Matching.{matches_row, same_at, fits_first, bare}
 
 pub and_none : (b : Bool) → (b && false) ≡ false
 and_none true = refl
@@ -50,12 +50,12 @@ repeats_first v x (constant c) y gs ys = refl
 
 -- the walk over them
 pub repeats_are : (v x : ℕ) (gs : List Argument) (ys : List Value)
-    → list_all (λ (p : Argument × Value). same_at v x (argument_of p.0) p.1.0) (zip gs ys) ≡ repeats v x (map argument_of gs) (plain_values ys)
+    → list_all (λ (p : Argument × Value). same_at v x (argument_of p.0) p.1.0) (zip gs ys) ≡ repeats v x (map argument_of gs) (bare ys)
 unfolding repeats
 repeats_are v x [] ys = refl
 repeats_are v x (g ∷ gs) [] = refl
 repeats_are v x (g ∷ gs) (y ∷ ys) =
-    rw (repeats_are v x gs ys) (sym (repeats_first v x (argument_of g) y.0 (map argument_of gs) (plain_values ys)))
+    rw (repeats_are v x gs ys) (sym (repeats_first v x (argument_of g) y.0 (map argument_of gs) (bare ys)))
 
 -- an argument that is a variable, and one that is a constant
 pub first_variable : (g : Argument) (v y : ℕ) (gs : List Qtl.Argument) (ys : List ℕ) → g ≡ Variable v → repeats v y gs ys ≡ fits_first (argument_of g) y gs ys
@@ -74,30 +74,30 @@ fits_first_law (constant c) y gs ys = refl
 
 -- the walk over the arguments, from the place i on
 fits_at : (i : ℕ) (gs : List Argument) (ys : List Value) (g : Argument) (y : Value) → i < length gs → i < length ys
-    → fits (map argument_of (drop i gs)) (plain_values (drop i ys))
-    ≡ (fits_first (argument_of (get_or gs i g)) (get_or ys i y).0 (map argument_of (drop (i + 1) gs)) (plain_values (drop (i + 1) ys))
-    && fits (map argument_of (drop (i + 1) gs)) (plain_values (drop (i + 1) ys)))
+    → fits (map argument_of (drop i gs)) (bare (drop i ys))
+    ≡ (fits_first (argument_of (get_or gs i g)) (get_or ys i y).0 (map argument_of (drop (i + 1) gs)) (bare (drop (i + 1) ys))
+    && fits (map argument_of (drop (i + 1) gs)) (bare (drop (i + 1) ys)))
 fits_at i gs ys g y h k =
     rw (add-one i, drop-cons gs i g h, drop-cons ys i y k)
-    (fits_first_law (argument_of (get_or gs i g)) (get_or ys i y).0 (map argument_of (drop (suc i) gs)) (plain_values (drop (suc i) ys)))
+    (fits_first_law (argument_of (get_or gs i g)) (get_or ys i y).0 (map argument_of (drop (suc i) gs)) (bare (drop (suc i) ys)))
 
 -- where the argument there does not fit, and where it does
 module _ (i : ℕ) (gs : List Argument) (ys : List Value) (g : Argument) (y : Value) (h : i < length gs) (k : i < length ys) {r : Bool}
-    (e : r ≡ fits_first (argument_of (get_or gs i g)) (get_or ys i y).0 (map argument_of (take (length gs - (i + 1)) (drop (i + 1) gs))) (plain_values (take (length ys - (i + 1)) (drop (i + 1) ys)))) where
+    (e : r ≡ fits_first (argument_of (get_or gs i g)) (get_or ys i y).0 (map argument_of (take (length gs - (i + 1)) (drop (i + 1) gs))) (bare (take (length ys - (i + 1)) (drop (i + 1) ys)))) where
   rest_of : {A : Type 0} (n : ℕ) (xs : List A) → take (length xs - n) (drop n xs) ≡ drop n xs
   rest_of n xs = take_all (length xs - n) (drop n xs) (rw length-drop (omega arith))
 
-  is : r ≡ fits_first (argument_of (get_or gs i g)) (get_or ys i y).0 (map argument_of (drop (i + 1) gs)) (plain_values (drop (i + 1) ys))
+  is : r ≡ fits_first (argument_of (get_or gs i g)) (get_or ys i y).0 (map argument_of (drop (i + 1) gs)) (bare (drop (i + 1) ys))
   is = rw (rest_of (i + 1) gs, rest_of (i + 1) ys) at e
 
-  pub fits_off : r ≡ false → fits (map argument_of (drop i gs)) (plain_values (drop i ys)) ≡ false
+  pub fits_off : r ≡ false → fits (map argument_of (drop i gs)) (bare (drop i ys)) ≡ false
   fits_off q = fits_at i gs ys g y h k ∙ rw (sym is ∙ q)
 
-  pub fits_on : r ≡ true → fits (map argument_of (drop i gs)) (plain_values (drop i ys)) ≡ fits (map argument_of (drop (i + 1) gs)) (plain_values (drop (i + 1) ys))
+  pub fits_on : r ≡ true → fits (map argument_of (drop i gs)) (bare (drop i ys)) ≡ fits (map argument_of (drop (i + 1) gs)) (bare (drop (i + 1) ys))
   fits_on q = fits_at i gs ys g y h k ∙ rw (sym is ∙ q)
 
 -- where they end, they fit
-pub fits_end : (i : ℕ) (gs : List Argument) (ys : List Value) → length gs ≤ i → length ys ≤ i → fits (map argument_of (drop i gs)) (plain_values (drop i ys)) ≡ true
+pub fits_end : (i : ℕ) (gs : List Argument) (ys : List Value) → length gs ≤ i → length ys ≤ i → fits (map argument_of (drop i gs)) (bare (drop i ys)) ≡ true
 unfolding fits
 fits_end i gs ys h k = rw (drop_end i gs h, drop_end i ys k)
   where
@@ -162,9 +162,9 @@ module _ (e : Handed) (row : Row) (a : Atom.Atom) (is : row ≡ Atom a) where
         rw (is, apart) (sym (and_none (eqb e.predicate a.predicate)))
 
     pub match_fits : e.predicate ≡ a.predicate → min e.count 3 ≡ min a.count 3
-        → fits (map argument_of (take (min a.count 3) a.arguments)) (plain_values (take (min a.count 3) e.values)) ≡ matches_row (fact_of e) (row_of row)
+        → fits (map argument_of (take (min a.count 3) a.arguments)) (bare (take (min a.count 3) e.values)) ≡ matches_row (fact_of e) (row_of row)
     unfolding matches_row row_of fact_of
     match_fits h k =
         rw (is, eq-eqb e.predicate a.predicate h)
         (ap₂ fits (ap (map argument_of) (take_three a.count a.arguments arguments) ∙ mapped_first argument_of a.count a.arguments)
-        (ap plain_values (ap (λ (n : ℕ). take n e.values) (sym k) ∙ take_three e.count e.values values)))
+        (ap bare (ap (λ (n : ℕ). take n e.values) (sym k) ∙ take_three e.count e.values values)))

@@ -1,5 +1,5 @@
 -- What an event asks, over the lists of `meaning`: what `ask` and its parts promise. Assumes nothing: these are definitions.
-use Rattle.std.specs.Prelude.{ℕ, ◌+◌, ◌-◌, ◌*◌, ◌≤◌, ◌<◌, ◌≡◌, true, cond, List, [], ◌++◌, map, ◌⊎◌, Option, Some, None, length, get_or, take, drop, replicate}
+use Rattle.std.specs.Prelude.{ℕ, ◌+◌, ◌-◌, ◌*◌, ◌≤◌, ◌<◌, ◌≡◌, true, cond, List, [], ◌++◌, ◌⊎◌, Option, Some, None, length, get_or, take, drop, replicate}
 use Rattle.making.specs.declared.Number.{Number}
 use Rattle.meaning.specs.declared.Event.{Event}
 use Rattle.meaning.specs.declared.Fact.{Fact as Handed}
@@ -12,6 +12,7 @@ use Rattle.meaning.specs.Tables.{most, list_of}
 use Rattle.meaning.specs.Outcome.{facts_of, count_right}
 use Rattle.numbers.specs.declared.Asked.{Asked}
 use Rattle.numbers.specs.Matching.{matches_row, arguments_in, Readable}
+pub use Rattle.numbers.specs.Matching.{bare}
 
 -- a state with these counts of values: the lists depend on nothing else of it
 abbrev pub with_counts : List ℕ → State
@@ -24,10 +25,6 @@ numbered n = Some (record { 0 = n })
 -- the number of a value: its place, where it has one
 unfoldable pub number_in : List ℕ → ℕ → Option Number
 number_in xs y = cond (listed xs y) (numbered (place xs y)) None
-
--- values as plain numbers
-abbrev pub bare : List Value → List ℕ
-bare xs = map (λ (x : Value). x.0) xs
 
 -- the lists L with the fresh values behind them, as many as the counts grew by: those of the variable v stand from 24 * v on
 unfoldable pub with_fresh : List ℕ → List ℕ → List ℕ → Lists → Lists

@@ -31,8 +31,8 @@ unfoldable pub arguments_of : List ℕ → ℕ → ℕ → List Argument
 arguments_of raw i n = take n (argument_at raw i 0 ∷ argument_at raw i 1 ∷ argument_at raw i 2 ∷ [])
 
 -- values as plain numbers
-abbrev pub plain_values : List Value → List ℕ
-plain_values ys = map (λ (y : Value). y.0) ys
+abbrev pub bare : List Value → List ℕ
+bare ys = map (λ (y : Value). y.0) ys
 
 -- where the argument is the variable v, the value z is y
 unfoldable pub same_at : ℕ → ℕ → Argument → ℕ → Bool

@@ -5,7 +5,7 @@ ghost use Rattle.meaning.specs.Numbering;
 ghost use Rattle.meaning.specs.Numbering.{fits};
 ghost use Rattle.meaning.specs.Outcome.{fact_of};
 ghost use Rattle.rule.specs.Decoded.{argument_of, row_of};
-ghost use Rattle.numbers.specs.Matching.{matches_row, same_at, fits_first, plain_values};
+ghost use Rattle.numbers.specs.Matching.{matches_row, same_at, fits_first, bare};
 
 use meaning::{Fact, Value};
 use rule::{Argument, Row};
@@ -22,7 +22,7 @@ fn again(v: u32, y: Value, argument: Argument, z: Value) -> bool
 
 // Where the variable v has the value y, it has it at each of these later places too.
 fn repeats(v: u32, y: Value, arguments: &[Argument], values: &[Value]) -> bool
-    ensures { result ≡ Numbering.repeats v y.0 (map argument_of arguments.now) (plain_values values.now) }
+    ensures { result ≡ Numbering.repeats v y.0 (map argument_of arguments.now) (bare values.now) }
 {
     arguments
         .iter()
@@ -32,7 +32,7 @@ fn repeats(v: u32, y: Value, arguments: &[Argument], values: &[Value]) -> bool
 
 // The argument a fits its value y: a constant is the value, and a variable has it at the later places too.
 fn first_fits(a: Argument, y: Value, arguments: &[Argument], values: &[Value]) -> bool
-    ensures { result ≡ fits_first (argument_of a) y.0 (map argument_of arguments.now) (plain_values values.now) }
+    ensures { result ≡ fits_first (argument_of a) y.0 (map argument_of arguments.now) (bare values.now) }
 {
     match a {
         Argument::Variable(v) => repeats(v, y, arguments, values),
@@ -43,7 +43,7 @@ fn first_fits(a: Argument, y: Value, arguments: &[Argument], values: &[Value]) -
 // The arguments fit their values.
 fn all_fit(arguments: &[Argument], values: &[Value]) -> bool
     requires { length arguments.now ≡ length values.now }
-    ensures { result ≡ fits (map argument_of arguments.now) (plain_values values.now) }
+    ensures { result ≡ fits (map argument_of arguments.now) (bare values.now) }
 {
     for i in 0..arguments.len() {
         if !first_fits(
