@@ -14,6 +14,9 @@ use reading::{limits, with_names};
 use refusals::Refusal;
 use scan::scan;
 
+// How many bytes a text may have.
+const LONGEST: usize = 4096;
+
 // What a text that is taken is answered with: how many rows, predicates and variables there are, and where the names of predicates and of
 // variables stand in the text, in order of their numbers, the rest being nowhere.
 #[derive(Clone, Copy)]
@@ -41,7 +44,7 @@ pub fn translate(text: &[u8], rows: &mut [u32]) -> Result<Translation, Refusal>
     if rows.len() != 576 {
         return Err(Refusal::WrongSlice);
     }
-    if 4096 < text.len() {
+    if LONGEST < text.len() {
         return Err(Refusal::TooLong);
     }
     scan(text)?;
