@@ -1,4 +1,4 @@
-// What the scan keeps between two bytes, and one byte's step.
+// What the scan keeps between two bytes, and one byte's step. It stops at a byte that no rule text can have there.
 ghost use Rattle.std.specs.Prelude.{◌≡◌, ◌<◌, ◌≤◌, ◌+◌, ◌*◌, length};
 ghost use Rattle.spelling.specs.Kinds.{kind_code};
 ghost use Rattle.spelling.specs.Modes.{mode_code};
@@ -26,6 +26,7 @@ pub struct Shape {
     pub depth: usize,
 }
 
+// What the scan keeps between two bytes.
 #[derive(Clone, Copy)]
 pub struct Look {
     pub pending: Pending,
