@@ -80,7 +80,7 @@ fn apart(nodes: &[u32], m: u32, work: &mut [u32], n: u32, left: u32, r: u32) -> 
 }
 
 // The sweep of the diagram of r, over the last `left` levels or fewer: a visit, and where that goes no further nothing else.
-#[inline]
+#[inline(always)]
 #[cycle(sweep)]
 fn sweep(nodes: &[u32], m: u32, work: &mut [u32], n: u32, left: u32, r: u32) -> Swept
     requires noted { Noted nodes.now m work.old (length nodes.now / 3) n }

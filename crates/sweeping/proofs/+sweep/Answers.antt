@@ -1,3 +1,4 @@
+-- `apart` and `sweep` meet their contracts: both sides are swept, and the node is written with its note. Assumes nothing.
 use Rattle.std.proofs.Common.{◌≡◌, ◌+◌, ◌*◌, ◌-◌, ◌/◌, length, arith}
 use Rattle.sweeping.proofs.NoteLaws.{sides_ordered}
 use Rattle.sweeping.proofs.SweepLaws.{swept_room, swept_fits, swept}
