@@ -14,6 +14,7 @@ ghost use Rattle.card_block.specs.Shapes.{Shaped};
 use crate::moments::{Moment, walk};
 use crate::shape::shaped;
 use crate::sums::{checked, number_at};
+use std::fmt;
 
 // Why a block goes, and where the reader stops; the number stands for it in the list of a mended card.
 #[derive(Clone, Copy, PartialEq, Eq)]
@@ -21,6 +22,17 @@ pub enum Reason {
     Check = 1,
     Shape = 2,
     Number = 3,
+}
+
+// The word of a reason.
+impl fmt::Display for Reason {
+    fn fmt<W: fmt::Write>(&self, f: &mut fmt::Formatter<W>) -> fmt::Result {
+        match self {
+            Reason::Check => f.write_str("check"),
+            Reason::Shape => f.write_str("shape"),
+            Reason::Number => f.write_str("number"),
+        }
+    }
 }
 
 // What is carried from block to block: the number that runs on, and the moment that is open.

@@ -2,7 +2,7 @@
 // from a block whose records end in an open moment the pieces to come are looked at, so IN is a file and no pipe. No more than a part is held.
 #![tactic(auto)]
 
-use card_block::{Carried, Reason};
+use card_block::Carried;
 use card_mender::Held;
 use card_mender::looking::look;
 use card_text::{
@@ -45,15 +45,6 @@ fn flagged_ahead(file: &File, from: u64, carried: Carried) -> Result<bool, Stop>
         }
     }
     Ok(false)
-}
-
-// The word of a reason in the list.
-fn word(why: Reason) -> &'static str {
-    match why {
-        Reason::Check => "check",
-        Reason::Shape => "shape",
-        Reason::Number => "number",
-    }
 }
 
 // Mending under way: the file that is mended, the one that is written, the page of the list, what is carried, whether the stretch has begun, and
@@ -100,7 +91,6 @@ impl Mending<'_> {
         // A page has room for one more line.
         match card_mender::weigh(piece, self.carried, self.begun) {
             Err(why) => {
-                let why = word(why);
                 let _ = writeln!(self.page, "{place} {why} 0");
             }
             Ok(held) => {

@@ -72,15 +72,6 @@ fn check_all(file: &mut File, stderr: Stderr) -> Result<(), Refusal> {
     Err(Refusal::Unread)
 }
 
-// The word of a reason.
-fn word(why: Reason) -> &'static str {
-    match why {
-        Reason::Check => "check",
-        Reason::Shape => "shape",
-        Reason::Number => "number",
-    }
-}
-
 // The file is a card that the reader takes; or the refusal is said.
 pub fn fine(file: &mut File, mut stderr: Stderr, name: &[u8]) -> Result<(), Said> {
     let checked = check_all(file, stderr);
@@ -89,7 +80,6 @@ pub fn fine(file: &mut File, mut stderr: Stderr, name: &[u8]) -> Result<(), Said
         Ok(()) => Ok(()),
         Err(Refusal::Bad(place, why)) => {
             fail(stderr, name, b": block ");
-            let why = word(why);
             let _ = writeln!(stderr, "{place} is bad: {why}");
             Err(Said)
         }
