@@ -5,3 +5,4 @@ pub mod Tables
 pub mod Noting
 pub mod Clashes
 pub mod Scopes
+pub mod TwoBytes

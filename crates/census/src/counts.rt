@@ -10,12 +10,13 @@ ghost use Rattle.census.specs.Clashes.{Settled, Predicates, ToldClash};
 
 use crate::calls::count_arguments;
 use crate::names::{Wanted, is_name};
+use crate::noted::Noted;
 use crate::spans::Names;
 use spelling::modes::{Mode, next_mode};
 use spelling::words::{Taken, next_word};
 
 // A word comes: where it is a predicate's name, the count of its arguments is noted, or compared with what was noted. Whether they differ.
-fn settle(names: Names, counts: &mut [Option<u16>; 4096], mode: Mode, w: Taken) -> bool
+fn settle(names: Names, counts: &mut [Noted; 4096], mode: Mode, w: Taken) -> bool
     requires within { Within names.text.now w.from w.past × Lexed names.text.now w.past }
     requires bounds { (length names.text.now ≤ 4096) × (length names.spans.now ≤ 4096) }
     requires listed { name_code true (mode_code mode) (kind_code w.word) ≡ true → number_in (names_at names.text.now names.spans.now) (take (w.past - w.from) (drop w.from names.text.now)) < length names.spans.now }
@@ -26,10 +27,10 @@ fn settle(names: Names, counts: &mut [Option<u16>; 4096], mode: Mode, w: Taken) 
     }
     let i = names.find(&names.text[w.from..w.past]).unwrap();
     let count = count_arguments(names.text, w.past) as u16;
-    match counts[i] {
+    match counts[i].get() {
         Some(noted) => noted != count,
         None => {
-            counts[i] = Some(count);
+            counts[i] = Noted::count(count);
             false
         }
     }
@@ -41,7 +42,7 @@ pub fn clashes(names: Names) -> bool
     requires predicates { Predicates names.text.now names.spans.now }
     ensures { ToldClash names.entry.text.now result }
 {
-    let mut counts = [None; 4096];
+    let mut counts = [Noted::NOTHING; 4096];
     let mut mode = Mode::Operand;
     let mut at = 0;
     while let Some(w) = next_word(names.text, at) {

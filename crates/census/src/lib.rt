@@ -6,5 +6,6 @@ pub mod calls;
 pub mod constants;
 pub mod counts;
 pub mod names;
+pub mod noted;
 pub mod scopes;
 pub mod spans;
