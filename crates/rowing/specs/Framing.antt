@@ -1,8 +1,9 @@
 -- The rows, operators and frames of the code, and what they stand for. Assumes nothing: these are definitions.
-use Rattle.std.specs.Prelude.{ℕ}
+use Rattle.std.specs.Prelude.{ℕ, List, Option}
 use Rattle.meaning.specs.Rows
 use Rattle.text.specs.Words.{Binary, sinces, ands, ors, implies, once, historically, previously, negation, universal, existential}
-use Rattle.text.specs.Held.{Held, mark, applies, quantifies, joins, room_for}
+use Rattle.text.specs.Held.{Held, mark, applies, quantifies, joins, room_for, made, keeps}
+use Rattle.rowing.specs.Denoted.{Turns}
 use Rattle.rowing.specs.declared.rows.Row.{Row}
 use Rattle.rowing.specs.declared.rows.Row.TheVariants.{Truth, Both, Neg, Since, Previous, Exists}
 use Rattle.rowing.specs.declared.frames.Operator.{Operator}
@@ -46,3 +47,11 @@ room_in mark = 9
 room_in (applies o t) = 0
 room_in (quantifies q v) = 4
 room_in (joins o r) = room_for (joins o r)
+
+-- a frame takes its operand
+abbrev pub Late : Frame → List (List ℕ) → ℕ → List (List ℕ) → Option ℕ → Type 0
+Late frame table row table' row' = Turns (made (held_of frame)) table row table' row'
+
+-- an operator comes
+abbrev pub Early : Operator → List (List ℕ) → ℕ → List (List ℕ) → Option ℕ → Type 0
+Early operator table row table' row' = Turns (keeps (binary_of operator)) table row table' row'

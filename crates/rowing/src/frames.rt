@@ -2,9 +2,9 @@
 ghost use Rattle.std.specs.Prelude.{◌≡◌};
 ghost use Rattle.text.specs.Grammar.{level};
 ghost use Rattle.text.specs.Emit.{negated};
-ghost use Rattle.text.specs.Held.{joins, made, keeps};
+ghost use Rattle.text.specs.Held.{joins};
 ghost use Rattle.rowing.specs.Denoted.{Turns, Denies};
-ghost use Rattle.rowing.specs.Framing.{row_of, binary_of, held_of, room_in};
+ghost use Rattle.rowing.specs.Framing.{row_of, binary_of, held_of, room_in, Late, Early};
 
 use crate::rows::Row;
 use crate::table::Table;
@@ -99,7 +99,7 @@ fn denied(table: &mut Table, row: Row) -> Option<u8>
 // The frame takes its operand, which has the row.
 #[tactic(auto, using(crate::proofs::FrameLaws::negated_over), unfolding(crate::specs::Framing::held_of, crate::specs::Framing::row_of, text::specs::Held::made, text::specs::Emit::applied_rows, text::specs::Emit::bound_rows, text::specs::Emit::binary_rows))]
 pub fn late(table: &mut Table, frame: Frame, row: u8) -> Option<u8>
-    ensures { Turns (made (held_of frame)) table.old row table.new result }
+    ensures { Late frame table.old row table.new result }
 {
     match frame {
         Frame::Parenthesis => Some(row),
@@ -126,7 +126,7 @@ pub fn late(table: &mut Table, frame: Frame, row: u8) -> Option<u8>
 // The operator comes: what it keeps of its left operand, which has the row.
 #[tactic(auto, using(crate::proofs::FrameLaws::negated_longer), unfolding(crate::specs::Framing::binary_of, text::specs::Held::keeps))]
 pub fn early(table: &mut Table, operator: Operator, row: u8) -> Option<u8>
-    ensures { Turns (keeps (binary_of operator)) table.old row table.new result }
+    ensures { Early operator table.old row table.new result }
 {
     match operator {
         Operator::Since | Operator::And => Some(row),
