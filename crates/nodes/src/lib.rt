@@ -7,6 +7,9 @@ ghost use Rattle.std.specs.Prelude.{◌+◌, ◌<◌, ◌≤◌};
 ghost use Rattle.nodes.specs.Nodes.{Table, Splits};
 
 pub mod chain;
+pub mod table;
+
+use table::Nodes;
 
 // A node's three numbers.
 #[derive(Clone, Copy, PartialEq, Eq)]
@@ -22,10 +25,9 @@ pub fn read(nodes: &[u32], m: u32, r: u32) -> Node
     requires le_r { (2 ≤ r) × (r < m + 2) }
     ensures { Splits nodes.now m r result.level result.low result.high }
 {
-    let i = 3 * (r as usize - 2);
-    Node {
-        level: nodes[i],
-        low: nodes[i + 1],
-        high: nodes[i + 2],
+    Nodes {
+        slice: nodes,
+        count: m,
     }
+    .read(r)
 }
