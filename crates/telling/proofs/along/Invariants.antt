@@ -8,7 +8,7 @@ use Rattle.telling.specs.Entries.{Ordered}
 use Rattle.telling.proofs.along.Given as goal
 
 abbrev pub invariant-loop-q : goal.invariant-loop-q
-invariant-loop-q l = (l.q < l.kept + 2) × Ordered l.base (at (trees_of l.nodes l.kept) l.q) × (follow l.base l.k l.n (at (trees_of l.nodes l.kept) l.q) ≡ follow l.base l.k l.n (at (trees_of l.nodes l.kept) l.r))
+invariant-loop-q l = (l.q < l.nodes.count + 2) × Ordered l.base (at (trees_of l.nodes.slice.now l.nodes.count) l.q) × (follow l.base l.k l.n (at (trees_of l.nodes.slice.now l.nodes.count) l.q) ≡ follow l.base l.k l.n (at (trees_of l.nodes.slice.now l.nodes.count) l.r))
 
 abbrev pub decreases-loop-q : goal.decreases-loop-q
 decreases-loop-q l = l.q

@@ -6,4 +6,4 @@ use Rattle.telling.proofs.EntriesLaws.{Passing}
 use Rattle.telling.proofs.enter.Given as goal
 
 abbrev pub invariant-loop-r : goal.invariant-loop-r
-invariant-loop-r l = Passing l.nodes l.kept l.p l.base l.work l.r l.from × Rest (l.p + 1) l.fn.work l.work
+invariant-loop-r l = Passing l.nodes.slice.now l.nodes.count l.p l.base l.work l.r l.from × Rest (l.p + 1) l.fn.work l.work
