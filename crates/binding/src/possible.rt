@@ -3,10 +3,10 @@
 ghost use Rattle.std.specs.Prelude.{◌≡◌, Bool, Option, Some, None, ◌+◌, ◌<◌, ◌≤◌, length, get_or};
 ghost use Rattle.trees.specs.Bits.{bit};
 ghost use Rattle.trees.specs.Table.{at, trees_of};
-ghost use Rattle.nodes.specs.Nodes.{Table, Rest};
+ghost use Rattle.nodes.specs.Nodes.{Rest};
 ghost use Rattle.binding.specs.Fixing.{either, can, Marks};
 
-use nodes::read;
+use nodes::table::Nodes;
 
 // What the bit at a level is fixed to, where it is.
 fn fixed_at(fixed: &[Option<bool>; 40], level: u32) -> Option<bool>
@@ -31,12 +31,12 @@ fn mark(fixed: Option<bool>, low: u32, high: u32) -> u32
 }
 
 // The mark of the node r, where the references before it are marked.
-fn node_mark(nodes: &[u32], kept: u32, r: u32, fixed: &[Option<bool>; 40], work: &[u32]) -> u32
-    requires table { Table nodes.now kept × Marks nodes.now kept fixed.now work.now r }
-    requires le_r { (2 ≤ r) × (r < kept + 2) × (kept + 2 ≤ length work.now) × (length fixed.now ≡ 40) }
-    ensures { result ≡ bit (can fixed.now (at (trees_of nodes.now kept) r)) }
+fn node_mark(nodes: Nodes, r: u32, fixed: &[Option<bool>; 40], work: &[u32]) -> u32
+    requires marks { Marks nodes.slice.now nodes.count fixed.now work.now r }
+    requires le_r { (2 ≤ r) × (r < nodes.count + 2) × (nodes.count + 2 ≤ length work.now) × (length fixed.now ≡ 40) }
+    ensures { result ≡ bit (can fixed.now (at (trees_of nodes.entry.slice.now nodes.entry.count) r)) }
 {
-    let x = read(nodes, kept, r);
+    let x = nodes.read(r);
     mark(
         fixed_at(fixed, x.level),
         work[x.low as usize],
@@ -45,22 +45,15 @@ fn node_mark(nodes: &[u32], kept: u32, r: u32, fixed: &[Option<bool>; 40], work:
 }
 
 // Whether the diagram of p can say yes. The nodes past p's place are no part of it, and are not looked at.
-pub fn possible(
-    nodes: &[u32],
-    kept: u32,
-    p: u32,
-    fixed: &[Option<bool>; 40],
-    work: &mut [u32],
-) -> bool
-    requires table { Table nodes.now kept }
-    requires p_bound { (p < kept + 2) × (kept + 2 ≤ length work.old) × (length fixed.now ≡ 40) }
-    ensures value { result ≡ can fixed.now (at (trees_of nodes.now kept) p) }
-    ensures rest { Rest (kept + 2) work.old work.new }
+pub fn possible(nodes: Nodes, p: u32, fixed: &[Option<bool>; 40], work: &mut [u32]) -> bool
+    requires p_bound { (p < nodes.count + 2) × (nodes.count + 2 ≤ length work.old) × (length fixed.now ≡ 40) }
+    ensures value { result ≡ can fixed.now (at (trees_of nodes.entry.slice.now nodes.entry.count) p) }
+    ensures rest { Rest (nodes.entry.count + 2) work.old work.new }
 {
     work[0] = 0;
     work[1] = 1;
     for r in 2..p + 1 {
-        let mark = node_mark(nodes, kept, r, fixed, work);
+        let mark = node_mark(nodes, r, fixed, work);
         work[r as usize] = mark;
     }
     work[p as usize] == 1

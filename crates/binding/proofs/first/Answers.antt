@@ -7,8 +7,8 @@ use Rattle.binding.proofs.first.Goals as goal
 
 pub loop-j-init : goal.loop-j-init
 loop-j-init c =
-    let d = at (trees_of c.args.nodes.now c.args.kept) c.args.p in
-    (record { eq = λ i h. refl }, going_none d c.args.k c.args.order.now c.args.count (4 * c.args.k) c.requires.table.1 (not_no c.requires.table.0 c.requires.p_nonzero.0 c.requires.p_nonzero.1))
+    let d = at (trees_of c.args.nodes.slice.now c.args.nodes.count) c.args.p in
+    (record { eq = λ i h. refl }, going_none d c.args.k c.args.order.now c.args.count (4 * c.args.k) c.requires.fine (not_no c.args.nodes.table c.requires.p_nonzero.0 c.requires.p_nonzero.1))
 
 pub loop-j-preserved : goal.loop-j-preserved
 loop-j-preserved c =
@@ -19,4 +19,4 @@ loop-j-preserved c =
 pub returns-clause-first : goal.returns-clause-first
 returns-clause-first c =
     let e : c.loop-j.j ≡ c.args.count = omega arith in
-    going_first (4 * c.args.k) c.requires.table.1 (going_same e c.loop-j.invariant.1)
+    going_first (4 * c.args.k) c.requires.fine (going_same e c.loop-j.invariant.1)

@@ -6,4 +6,4 @@ use Rattle.binding.proofs.FirstLaws.{Going}
 use Rattle.binding.proofs.first.Given as goal
 
 abbrev pub invariant-loop-j : goal.invariant-loop-j
-invariant-loop-j l = Rest (l.kept + 2) l.initial.work l.work × Going (at (trees_of l.nodes l.kept) l.p) l.k l.order l.count l.j l.fixed l.answer
+invariant-loop-j l = Rest (l.nodes.count + 2) l.initial.work l.work × Going (at (trees_of l.nodes.slice.now l.nodes.count) l.p) l.k l.order l.count l.j l.fixed l.answer

@@ -15,7 +15,7 @@ below v k h g = let m : suc v * k ≤ 4 * k = mul-le-mul_right k h in omega arit
 -- the number so far is small
 small : (c : In-loop-level) → c.loop-level.n < 1024
 small c =
-    omega (arith, fixes_lt _ c.requires.table.1 c.loop-level.invariant.2, pow_mono (fits (c.args.v * c.args.k) c.args.k c.loop-level.level c.loop-level.invariant.0 c.requires.k_bound.0))
+    omega (arith, fixes_lt _ c.requires.fine c.loop-level.invariant.2, pow_mono (fits (c.args.v * c.args.k) c.args.k c.loop-level.level c.loop-level.invariant.0 c.requires.k_bound.0))
   where
     fits : (b k l : ℕ) → b ≤ l → k ≤ 10 → b + k - l ≤ 10
     fits b k l g h = omega arith
@@ -36,7 +36,7 @@ loop-level-preserved c =
     let e = c.settle-bit.ensures in
     let wide = below c.args.v c.args.k c.requires.k_bound.1 c.requires.k_bound.0 in
     let level = c.loop-level.level - 1 in
-    let more = fixes_more _ level (c.args.v * c.args.k + c.args.k - c.loop-level.level) _ _ _ (fixes_same (omega (arith, h)) refl v.2) (omega (arith, h, wide, c.requires.k_bound.2)) (c.requires.free.each level (omega arith) (omega (arith, h))) _ c.requires.table.1 e.settles in (
+    let more = fixes_more _ level (c.args.v * c.args.k + c.args.k - c.loop-level.level) _ _ _ (fixes_same (omega (arith, h)) refl v.2) (omega (arith, h, wide, c.requires.k_bound.2)) (c.requires.free.each level (omega arith) (omega (arith, h))) _ c.requires.fine e.settles in (
       omega (arith, h),
       record { eq = λ i q. e.rest.eq i q ∙ v.1.eq i q },
       rw (c.from.ensures ∙ bit_from c.settle-bit.result) (fixes_same refl (omega arith) more),

@@ -8,4 +8,4 @@ use Rattle.binding.proofs.least.Given as goal
 
 abbrev pub invariant-loop-level : goal.invariant-loop-level
 invariant-loop-level l =
-    (l.v * l.k ≤ l.level) × Rest (l.kept + 2) l.initial.work l.work × Fixes (at (trees_of l.nodes l.kept) l.p) l.level (l.v * l.k + l.k - l.level) l.initial.fixed l.fixed l.n
+    (l.v * l.k ≤ l.level) × Rest (l.nodes.count + 2) l.initial.work l.work × Fixes (at (trees_of l.nodes.slice.now l.nodes.count) l.p) l.level (l.v * l.k + l.k - l.level) l.initial.fixed l.fixed l.n

@@ -4,5 +4,5 @@ use Rattle.binding.proofs.possible.node_mark.Goals as goal
 
 pub returns : goal.returns
 returns c =
-    node_can c.requires.table.0 c.requires.le_r.0 c.requires.le_r.1 c.read-x.ensures c.requires.table.1 c.mark.result
+    node_can c.args.nodes.table c.requires.le_r.0 c.requires.le_r.1 c.read-x.ensures c.requires.marks c.mark.result
     (rw c.fixed_at.ensures at c.mark.ensures)

@@ -6,4 +6,4 @@ use Rattle.binding.specs.Fixing.{Marks}
 use Rattle.binding.proofs.possible.possible.Given as goal
 
 abbrev pub invariant-loop-r : goal.invariant-loop-r
-invariant-loop-r l = Marks l.nodes l.kept l.fixed l.work l.r × Rest (l.kept + 2) l.fn.work l.work
+invariant-loop-r l = Marks l.nodes.slice.now l.nodes.count l.fixed l.work l.r × Rest (l.nodes.count + 2) l.fn.work l.work
