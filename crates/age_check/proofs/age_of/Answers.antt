@@ -5,10 +5,10 @@ use Rattle.age_check.proofs.MarkLaws.{coded_same, leaf_oldest, deep_oldest, high
 use Rattle.age_check.proofs.age_of.Goals as goal
 
 pub returns-then-p-lt2 : goal.returns-then-p-lt2
-returns-then-p-lt2 c = coded_same c.marked.result (c.requires.marked.is c.args.p c.requires.table.2 ∙ leaf_oldest c.args.base _ _ c.if-p-lt2.true) c.marked.ensures
+returns-then-p-lt2 c = coded_same c.marked.result (c.requires.marked.is c.args.p c.requires.bounds.1 ∙ leaf_oldest c.args.base _ _ c.if-p-lt2.true) c.marked.ensures
 
 pub returns-then-base-x : goal.returns-then-base-x
 returns-then-base-x c = sym (deep_oldest c.read-x.ensures c.args.base c.if-base-x.true)
 
 pub returns : goal.returns
-returns c = coded_same c.marked-2.result (c.requires.marked.is c.args.p c.requires.table.2 ∙ high_oldest c.read-x.ensures c.args.base (omega (arith, c.if-base-x.false))) c.marked-2.ensures
+returns c = coded_same c.marked-2.result (c.requires.marked.is c.args.p c.requires.bounds.1 ∙ high_oldest c.read-x.ensures c.args.base (omega (arith, c.if-base-x.false))) c.marked-2.ensures

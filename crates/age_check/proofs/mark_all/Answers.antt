@@ -8,4 +8,4 @@ use Rattle.age_check.proofs.mark_all.Goals as goal
 pub loop-r-init : goal.loop-r-init
 loop-r-init c =
     let w = c.args.work.now in
-    (marks_none c.args.base c.args.nodes.now c.args.kept w (omega arith), record { eq = λ i h. get_or-set_other (set w 0 0) 1 i 4096 0 (omega arith) ∙ get_or-set_other w 0 i 0 0 (omega arith) })
+    (marks_none c.args.base c.args.nodes.slice.now c.args.nodes.count w (omega arith), record { eq = λ i h. get_or-set_other (set w 0 0) 1 i 4096 0 (omega arith) ∙ get_or-set_other w 0 i 0 0 (omega arith) })

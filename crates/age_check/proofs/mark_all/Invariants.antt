@@ -6,4 +6,4 @@ use Rattle.age_check.specs.Marks.{Marked}
 use Rattle.age_check.proofs.mark_all.Given as goal
 
 abbrev pub invariant-loop-r : goal.invariant-loop-r
-invariant-loop-r l = Marked l.base l.nodes l.kept l.work l.r × Rest (l.kept + 2) l.fn.work l.work
+invariant-loop-r l = Marked l.base l.nodes.slice.now l.nodes.count l.work l.r × Rest (l.nodes.count + 2) l.fn.work l.work
