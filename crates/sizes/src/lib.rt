@@ -7,9 +7,11 @@
 ghost use Rattle.std.specs.Prelude.{◌≡◌, map, ℕ, ◌+◌, ◌*◌, ◌-◌, ◌<◌, ◌≤◌, length, get_or, replicate};
 ghost use Rattle.trees.specs.Kept.{diagrams};
 ghost use Rattle.trees.specs.Sizes.{sizes_of};
-ghost use Rattle.nodes.specs.Nodes.{Table, Rest, Decides};
+ghost use Rattle.nodes.specs.Nodes.{Rest, Decides};
 ghost use Rattle.sizes.specs.Leading.{Leading};
 ghost use Rattle.sizes.specs.Words.{has_row, give, given, Counts, Pushed, Sized};
+
+use nodes::table::Nodes;
 
 // Joins the rows of w to the word of the node that r leads to.
 fn join(words: &mut [u32], r: u32, w: u32)
@@ -45,77 +47,61 @@ fn count_rows(word: u32, base: u32, sizes: &mut [u32; 64])
 }
 
 // Gives each node's word to both its sides, from the last node to the first, and counts its rows.
-fn push_down(nodes: &[u32], kept: u32, base: u32, words: &mut [u32], sizes: &mut [u32; 64])
-    requires table { Table nodes.now kept × (length words.old ≡ kept) }
+fn push_down(nodes: Nodes, base: u32, words: &mut [u32], sizes: &mut [u32; 64])
+    requires words_len { (length words.old ≡ nodes.count) }
     requires base_bound { (base ≤ 32) × (length sizes.old ≡ 64) × ((i : ℕ) → get_or sizes.old i 0 ≤ 4096) }
-    ensures { Pushed nodes.now kept (map (has_row base) words.old) sizes.old sizes.new }
+    ensures { Pushed nodes.entry.slice.now nodes.entry.count (map (has_row base) words.old) sizes.old sizes.new }
 {
-    for j in (0..kept as usize).rev() {
+    for j in (0..nodes.count as usize).rev() {
         let w = words[j];
-        join(words, nodes[3 * j + 1], w);
-        join(words, nodes[3 * j + 2], w);
+        join(words, nodes.slice[3 * j + 1], w);
+        join(words, nodes.slice[3 * j + 2], w);
         count_rows(w, base, sizes);
     }
 }
 
 // Adds the sizes of the n rows from `base` on.
-fn pass(
-    nodes: &[u32],
-    kept: u32,
-    refs: &[u32; 64],
-    base: u32,
-    n: u32,
-    words: &mut [u32],
-    sizes: &mut [u32; 64],
-)
-    requires table { Table nodes.now kept × (length words.old ≡ kept) }
-    requires base_bound { (base ≤ 32) × (n ≤ 32) × ((t : ℕ) → t < n → get_or refs.now (base + t) 0 < kept + 2) }
+fn pass(nodes: Nodes, refs: &[u32; 64], base: u32, n: u32, words: &mut [u32], sizes: &mut [u32; 64])
+    requires words_len { (length words.old ≡ nodes.count) }
+    requires base_bound { (base ≤ 32) × (n ≤ 32) × ((t : ℕ) → t < n → get_or refs.now (base + t) 0 < nodes.count + 2) }
     requires sizes_len { (length sizes.old ≡ 64) × ((i : ℕ) → get_or sizes.old i 0 ≤ 4096) }
-    ensures { Sized nodes.now kept refs.now base n sizes.old sizes.new }
+    ensures { Sized nodes.entry.slice.now nodes.entry.count refs.now base n sizes.old sizes.new }
 {
     words.fill(0);
     mark_roots(refs, base, n, words);
-    push_down(nodes, kept, base, words, sizes);
+    push_down(nodes, base, words, sizes);
 }
 
 // Leaves in `sizes`, for each of the first `count` rows, the number of different nodes of its diagram, and 0 past the rows. The
-// first `kept` numbers of the work slice are the words, and hold what is left of them; the others stay.
-pub fn sizes(
-    nodes: &[u32],
-    kept: u32,
-    refs: &[u32; 64],
-    count: u32,
-    work: &mut [u32],
-    sizes: &mut [u32; 64],
-)
-    requires table { Table nodes.now kept × Leading refs.now count kept }
-    requires kept_in_bounds { (kept ≤ length work.old) × (length sizes.old ≡ 64) }
-    ensures sizes_after { sizes.new ≡ sizes_of (diagrams nodes.now kept refs.now count) }
-    ensures rest { Rest kept work.old work.new }
+// first nodes.count numbers of the work slice are the words, and hold what is left of them; the others stay.
+pub fn sizes(nodes: Nodes, refs: &[u32; 64], count: u32, work: &mut [u32], sizes: &mut [u32; 64])
+    requires leading { Leading refs.now count nodes.count }
+    requires count_in_bounds { (nodes.count ≤ length work.old) × (length sizes.old ≡ 64) }
+    ensures sizes_after { sizes.new ≡ sizes_of (diagrams nodes.entry.slice.now nodes.entry.count refs.now count) }
+    ensures rest { Rest nodes.entry.count work.old work.new }
 {
     sizes.fill(0);
-    let words = &mut work[..kept as usize];
-    pass(nodes, kept, refs, 0, count.min(32), words, sizes);
+    let words = &mut work[..nodes.count as usize];
+    pass(nodes, refs, 0, count.min(32), words, sizes);
     if 32 < count {
-        pass(nodes, kept, refs, 32, count - 32, words, sizes);
+        pass(nodes, refs, 32, count - 32, words, sizes);
     }
 }
 
 // Whether the sizes told are those of the rows' diagrams. It uses the work slice as `sizes` does.
 pub fn sizes_right(
-    nodes: &[u32],
-    kept: u32,
+    nodes: Nodes,
     refs: &[u32; 64],
     count: u32,
     work: &mut [u32],
     told: &[u32; 64],
 ) -> bool
-    requires table { Table nodes.now kept × Leading refs.now count kept }
-    requires kept_in_bounds { (kept ≤ length work.old) × (length told.now ≡ 64) }
-    ensures decides { Decides (told.now ≡ sizes_of (diagrams nodes.now kept refs.now count)) result }
-    ensures rest { Rest kept work.old work.new }
+    requires leading { Leading refs.now count nodes.count }
+    requires count_in_bounds { (nodes.count ≤ length work.old) × (length told.now ≡ 64) }
+    ensures decides { Decides (told.now ≡ sizes_of (diagrams nodes.entry.slice.now nodes.entry.count refs.now count)) result }
+    ensures rest { Rest nodes.entry.count work.old work.new }
 {
     let mut own = [0; 64];
-    sizes(nodes, kept, refs, count, work, &mut own);
+    sizes(nodes, refs, count, work, &mut own);
     *told == own
 }

@@ -21,6 +21,7 @@ use diagram::{Done, Refused, Unformed};
 use keeping::check;
 use making::Number;
 use meaning::Event;
+use nodes::table::Nodes;
 use sizes::sizes_right;
 
 // What a step that is done gives back: the count of kept nodes and the room, and the visits of all complements and of the sweep.
@@ -63,7 +64,16 @@ fn kept_right(
     ensures check_leaves { CheckLeaves nodes.now kept work.old work.new result }
 {
     check(k, count, allowed, refs, kept, nodes, work)
-        && sizes_right(nodes, kept, refs, count, work, sizes)
+        && sizes_right(
+            Nodes {
+                slice: nodes,
+                count: kept,
+            },
+            refs,
+            count,
+            work,
+            sizes,
+        )
 }
 
 // Works one event: checks the diagrams and their sizes, works each row, and makes the nodes the canonical table of the new diagrams,

@@ -20,6 +20,7 @@ use diagram::row::{row, uncounted};
 use diagram::{Done, Refused};
 use making::Number;
 use meaning::Event;
+use nodes::table::Nodes;
 use rule::Row;
 use sweeping::renew;
 use walks::Counted;
@@ -142,7 +143,11 @@ pub fn worked(
     let room = run.count;
     let count = (rows.len() / 9) as u32;
     let y = renew(nodes, room, work, 4 * k, &news, count, refs);
-    sizes::sizes(nodes, y.kept, refs, count, work, sizes);
+    let table = Nodes {
+        slice: nodes,
+        count: y.kept,
+    };
+    sizes::sizes(table, refs, count, work, sizes);
     work[0..16 * c + 1024].fill(0);
     Ok(Stepped {
         done: Done { kept: y.kept, room },

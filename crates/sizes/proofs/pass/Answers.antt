@@ -9,4 +9,4 @@ use Rattle.sizes.proofs.pass.Goals as goal
 pub returns : goal.returns
 returns c =
     let zero : c.fill.new.self ≡ replicate (length c.args.words.now) 0 = search rules in
-    pass_sized c.fill.new.self c.mark_roots.new.words c.requires.table.0 c.requires.base_bound.2 (omega (arith, c.requires.base_bound.0, c.requires.base_bound.1, c.requires.sizes_len.0)) (rw c.requires.table.1 at zero) c.mark_roots.ensures c.push_down.ensures
+    pass_sized c.fill.new.self c.mark_roots.new.words c.args.nodes.table c.requires.base_bound.2 (omega (arith, c.requires.base_bound.0, c.requires.base_bound.1, c.requires.sizes_len.0)) (rw c.requires.words_len at zero) c.mark_roots.ensures c.push_down.ensures

@@ -3,4 +3,4 @@ use Rattle.sizes.proofs.PassLaws.{Pushing}
 use Rattle.sizes.proofs.push_down.Given as goal
 
 abbrev pub invariant-loop-j : goal.invariant-loop-j
-invariant-loop-j l = Pushing l.nodes l.kept l.base l.initial.words l.initial.sizes l.j l.words l.sizes
+invariant-loop-j l = Pushing l.nodes.slice.now l.nodes.count l.base l.initial.words l.initial.sizes l.j l.words l.sizes

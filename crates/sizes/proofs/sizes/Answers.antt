@@ -15,14 +15,14 @@ pub pass-requires-then-count-gt32-clause-sizes_len : goal.pass-requires-then-cou
 pass-requires-then-count-gt32-clause-sizes_len c =
     let z = zeros (goal.at.pass-requires-then-count-gt32-clause-sizes_len c).After-fill in
     let e : c.min.result ≡ 32 = omega arith in
-    (c.pass.ensures.size ∙ rw z refl, first_small _ _ _ _ c.requires.table.1 _ _ c.requires.table.0 c.if-count-gt32.true z (rw e at c.pass.ensures))
+    (c.pass.ensures.size ∙ rw z refl, first_small _ _ _ _ c.requires.leading _ _ c.args.nodes.table c.if-count-gt32.true z (rw e at c.pass.ensures))
 
 pub returns-then-count-gt32-clause-sizes_after : goal.returns-then-count-gt32-clause-sizes_after
 returns-then-count-gt32-clause-sizes_after c =
     let e : c.min.result ≡ 32 = omega arith in
-    sized_two _ _ _ _ c.requires.table.1 _ _ _ c.if-count-gt32.true (zeros (goal.at.returns-then-count-gt32-clause-sizes_after c).After-fill) (rw e at c.pass.ensures) c.pass-then-count-gt32.ensures
+    sized_two _ _ _ _ c.requires.leading _ _ _ c.if-count-gt32.true (zeros (goal.at.returns-then-count-gt32-clause-sizes_after c).After-fill) (rw e at c.pass.ensures) c.pass-then-count-gt32.ensures
 
 pub returns-else-count-gt32-clause-sizes_after : goal.returns-else-count-gt32-clause-sizes_after
 returns-else-count-gt32-clause-sizes_after c =
     let e : c.min.result ≡ c.args.count = omega arith in
-    sized_one _ _ _ _ c.requires.table.1 _ _ (zeros (goal.at.returns-else-count-gt32-clause-sizes_after c).After-fill) (rw e at c.pass.ensures)
+    sized_one _ _ _ _ c.requires.leading _ _ (zeros (goal.at.returns-else-count-gt32-clause-sizes_after c).After-fill) (rw e at c.pass.ensures)

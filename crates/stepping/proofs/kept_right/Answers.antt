@@ -18,12 +18,19 @@ returns-else-check c =
       check_leaves = c.check.ensures.check_leaves;
     }
 
+pub invariant_of-sizes_right : goal.invariant_of-sizes_right
+invariant_of-sizes_right c =
+    let s = c.args in
+    let well = sym c.check.ensures.value ∙ c.if-check.true in
+    let asked = checked_asked s.k s.count s.allowed.now s.refs.now s.sizes.now s.kept s.nodes.now s.work.now c.requires.0 c.requires.1 well c.check.new.work c.check.auto.work in
+    record { table = asked.0.0 }
+
 pub sizes_right-requires : goal.sizes_right-requires
 sizes_right-requires c =
     let s = c.args in
     let well = sym c.check.ensures.value ∙ c.if-check.true in
     let asked = checked_asked s.k s.count s.allowed.now s.refs.now s.sizes.now s.kept s.nodes.now s.work.now c.requires.0 c.requires.1 well c.check.new.work c.check.auto.work in
-    record { table = asked.0; kept_in_bounds = (asked.1, c.requires.2) }
+    record { leading = asked.0.1; count_in_bounds = (asked.1, c.requires.2) }
 
 pub returns-then-check : goal.returns-then-check
 returns-then-check c =

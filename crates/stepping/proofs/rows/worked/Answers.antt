@@ -57,6 +57,21 @@ renew-y-requires c =
     let t = sweep_ready s.k (count_of_rows s.rows.now) (planned s.rows.now s.event s.given.now) s.refs.now s.kept s.nodes.now s.work.now f (rw c.in-Some.is at rows.ensures) (put_mid 0 (15 * (length s.nodes.now / 3) - 0) (put_mid (4 * C) (5 * C + 4 * slots - 4 * C) c.args.work.now c.fill.new.self) rows.new.work) back.1 c.requires.ready.0 in
     record { table = t.0; nodes_len = t.1; awaits = t.2; rows = t.3 }
 
+pub invariant_of-table : goal.invariant_of-table
+unfolding count_of_rows
+invariant_of-table c =
+    let s = c.args in
+    let swept = c.renew-y in
+    let rows = c.work_rows in
+    let f = c.requires.fits in
+    let C = length c.args.nodes.now / 3 in
+    let slots = c.slots_for-slots.result in
+    let z = filled (4 * C) (5 * C + 4 * slots) c.args.work.now _ (omega arith) (omega (arith, f.room, c.slots_for-slots.ensures.1)) (c.fill.ensures.after (λ y h. h)) in
+    let back = lent_back s.nodes.now f _ c.slots_for-slots.ensures.1 z rows.new.work rows.auto.work in
+    let t = rw c.in-Some.is at rows.ensures in
+    let asked = sizes_ready s.k (count_of_rows s.rows.now) (planned s.rows.now s.event s.given.now) s.refs.now s.kept s.nodes.now s.work.now f t swept.ensures swept.auto.nodes (swept.auto.work ∙ back.1) in
+    record { table = asked.0.0 }
+
 pub sizes-requires : goal.sizes-requires
 unfolding count_of_rows
 sizes-requires c =
@@ -70,7 +85,7 @@ sizes-requires c =
     let back = lent_back s.nodes.now f _ c.slots_for-slots.ensures.1 z rows.new.work rows.auto.work in
     let t = rw c.in-Some.is at rows.ensures in
     let asked = sizes_ready s.k (count_of_rows s.rows.now) (planned s.rows.now s.event s.given.now) s.refs.now s.kept s.nodes.now s.work.now f t swept.ensures swept.auto.nodes (swept.auto.work ∙ back.1) in
-    record { table = asked.0; kept_in_bounds = (asked.1, omega (arith, c.requires.rows_value.3, t.new_lead.wide)) }
+    record { leading = asked.0.1; count_in_bounds = (asked.1, omega (arith, c.requires.rows_value.3, t.new_lead.wide)) }
 
 pub shape_of-work : goal.shape_of-work
 shape_of-work c =
