@@ -2,8 +2,10 @@
 // one walk over the nodes, children before parents, marks each with the set that its diagram asks. Assumes nothing.
 ghost use Rattle.std.specs.Prelude.{◌≡◌, ℕ, ◌+◌, ◌*◌, ◌/◌, ◌^◌, ◌<◌, ◌≤◌, length, get_or};
 ghost use Rattle.trees.specs.Table.{at, trees_of};
-ghost use Rattle.nodes.specs.Nodes.{Table, Rest, Rows, Decides};
+ghost use Rattle.nodes.specs.Nodes.{Rest, Rows, Decides};
 ghost use Rattle.keeping.specs.Checks.{has_bit, asked, Marks, RowsAllowed, Right, FreeOnly};
+
+use nodes::table::Nodes;
 
 // The set of a level's variable, which is level / k.
 fn own(level: u32, k: u32) -> u32
@@ -14,26 +16,26 @@ fn own(level: u32, k: u32) -> u32
 }
 
 // The set that the diagram of the node at place j asks, where the references before it are marked.
-fn asks(nodes: &[u32], kept: u32, work: &[u32], j: u32, k: u32) -> u32
-    requires table { Table nodes.now kept × Right nodes.now kept (4 * k) }
-    requires j_lt_kept { (j < kept) × (kept + 2 ≤ length work.now) × (0 < k) × (k ≤ 10) }
-    requires marks { Marks nodes.now kept k work.now j }
-    ensures { (v : ℕ) → has_bit result v ≡ asked k v (at (trees_of nodes.now kept) (j + 2)) }
+fn asks(nodes: Nodes, work: &[u32], j: u32, k: u32) -> u32
+    requires right { Right nodes.slice.now nodes.count (4 * k) }
+    requires j_lt_count { (j < nodes.count) × (nodes.count + 2 ≤ length work.now) × (0 < k) × (k ≤ 10) }
+    requires marks { Marks nodes.slice.now nodes.count k work.now j }
+    ensures { (v : ℕ) → has_bit result v ≡ asked k v (at (trees_of nodes.entry.slice.now nodes.entry.count) (j + 2)) }
 {
     let i = 3 * (j as usize);
-    own(nodes[i], k) | (work[nodes[i + 1] as usize] | work[nodes[i + 2] as usize])
+    own(nodes.slice[i], k) | (work[nodes.slice[i + 1] as usize] | work[nodes.slice[i + 2] as usize])
 }
 
 // Marks the leaves and each kept node.
-fn mark(nodes: &[u32], kept: u32, work: &mut [u32], k: u32)
-    requires table { Table nodes.now kept × Right nodes.now kept (4 * k) }
-    requires kept_in_bounds { (kept + 2 ≤ length work.old) × (0 < k) × (k ≤ 10) }
-    ensures { Marks nodes.now kept k work.new kept × Rest (kept + 2) work.old work.new }
+fn mark(nodes: Nodes, work: &mut [u32], k: u32)
+    requires right { Right nodes.slice.now nodes.count (4 * k) }
+    requires count_in_bounds { (nodes.count + 2 ≤ length work.old) × (0 < k) × (k ≤ 10) }
+    ensures { Marks nodes.entry.slice.now nodes.entry.count k work.new nodes.entry.count × Rest (nodes.entry.count + 2) work.old work.new }
 {
     work[0] = 0;
     work[1] = 0;
-    for j in 0..kept {
-        let set = asks(nodes, kept, work, j, k);
+    for j in 0..nodes.count {
+        let set = asks(nodes, work, j, k);
         work[j as usize + 2] = set;
     }
 }
@@ -54,23 +56,16 @@ fn rows_allowed(work: &[u32], allowed: &[u32; 64], rows: &[u32]) -> bool
 }
 
 // Whether the levels of each row's diagram are of variables that the row is allowed. Without nodes every diagram is a leaf.
-pub fn free_only(
-    nodes: &[u32],
-    kept: u32,
-    work: &mut [u32],
-    k: u32,
-    allowed: &[u32; 64],
-    rows: &[u32],
-) -> bool
-    requires table { Table nodes.now kept × Right nodes.now kept (4 * k) }
-    requires rows { Rows nodes.now kept (4 * k) rows.now (length rows.now) }
-    requires kept_in_bounds { (kept + 2 ≤ length work.old) × (0 < k) × (k ≤ 10) }
-    ensures decides { Decides (FreeOnly nodes.now kept k allowed.now rows.now (length rows.now)) result }
-    ensures rest { Rest (3 * kept) work.old work.new }
+pub fn free_only(nodes: Nodes, work: &mut [u32], k: u32, allowed: &[u32; 64], rows: &[u32]) -> bool
+    requires right { Right nodes.slice.now nodes.count (4 * k) }
+    requires rows { Rows nodes.slice.now nodes.count (4 * k) rows.now (length rows.now) }
+    requires count_in_bounds { (nodes.count + 2 ≤ length work.old) × (0 < k) × (k ≤ 10) }
+    ensures decides { Decides (FreeOnly nodes.entry.slice.now nodes.entry.count k allowed.now rows.now (length rows.now)) result }
+    ensures rest { Rest (3 * nodes.entry.count) work.old work.new }
 {
-    if kept == 0 {
+    if nodes.count == 0 {
         return true;
     }
-    mark(nodes, kept, work, k);
+    mark(nodes, work, k);
     rows_allowed(work, allowed, rows)
 }

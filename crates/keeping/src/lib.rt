@@ -13,6 +13,7 @@ ghost use Rattle.keeping.specs.Checks.{free_by, Sized, CheckLeaves};
 use crate::each::{all_differ, all_right, all_zero, inside};
 use crate::free::free_only;
 use crate::order::rows_in_order;
+use nodes::table::Nodes;
 
 // Whether a state's diagrams are well kept, pass after pass, for a rule of `count` rows of which row i may ask the variables of
 // allowed[i]. With c nodes in the slice, the passes use the first 15 * c numbers of `work` and leave them as they fall. Where
@@ -52,8 +53,12 @@ pub fn check(
     if !all_differ(nodes, kept, work) {
         return false;
     }
-    if !rows_in_order(nodes, kept, rows) {
+    let table = Nodes {
+        slice: nodes,
+        count: kept,
+    };
+    if !rows_in_order(table, rows) {
         return false;
     }
-    free_only(nodes, kept, work, k, allowed, rows)
+    free_only(table, work, k, allowed, rows)
 }

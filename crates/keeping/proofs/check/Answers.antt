@@ -45,18 +45,12 @@ returns-then-not-all_right-clause-value c =
 pub returns-then-not-all_differ-clause-value : goal.returns-then-not-all_differ-clause-value
 returns-then-not-all_differ-clause-value c = refused _ _ _ _ _ _ _ (λ w. c.if-not-all_differ.ensures.decides w.apart)
 
-pub rows_in_order-requires : goal.rows_in_order-requires
-rows_in_order-requires c =
-    let p = passed (goal.at.rows_in_order-requires c).Else-not-all_differ in
-    (passed_table p c.requires.sized.few c.requires.sized.nodes, c.if-not-inside.ensures)
+pub invariant_of-table : goal.invariant_of-table
+invariant_of-table c = record { table = passed_table (passed (goal.at.invariant_of-table c).Else-not-all_differ) c.requires.sized.few c.requires.sized.nodes }
 
 pub returns-then-not-rows_in_order-clause-value : goal.returns-then-not-rows_in_order-clause-value
 returns-then-not-rows_in_order-clause-value c =
     refused _ _ _ _ _ _ _ (λ w. c.if-not-rows_in_order.ensures (rows_table _ _ _ (long (goal.at.returns-then-not-rows_in_order-clause-value c).Start) c.split_at.ensures.front _ _ ∙ kept_order _ _ _ _ _ _ _ w))
-
-pub free_only-requires-clause-table : goal.free_only-requires-clause-table
-free_only-requires-clause-table c =
-    (passed_table (passed (goal.at.free_only-requires-clause-table c).Else-not-all_differ) c.requires.sized.few c.requires.sized.nodes, c.if-not-all_right.ensures)
 
 pub free_only-requires-clause-rows : goal.free_only-requires-clause-rows
 free_only-requires-clause-rows c =

@@ -6,4 +6,4 @@ use Rattle.keeping.specs.Checks.{Marks}
 use Rattle.keeping.proofs.free.mark.Given as goal
 
 abbrev pub invariant-loop-j : goal.invariant-loop-j
-invariant-loop-j l = Marks l.nodes l.kept l.k l.work l.j × Rest (l.kept + 2) l.initial.work l.work
+invariant-loop-j l = Marks l.nodes.slice.now l.nodes.count l.k l.work l.j × Rest (l.nodes.count + 2) l.initial.work l.work

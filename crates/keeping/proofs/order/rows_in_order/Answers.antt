@@ -14,9 +14,9 @@ returns-in_default c = rows_out _ _ _ c.loop-r.r-index _ _ c.loop-r-test.true (o
 
 pub loop-r-preserved : goal.loop-r-preserved
 loop-r-preserved c =
-    let o : InOrder c.args.nodes.now c.args.kept c.loop-r.n (get_or c.args.rows.now c.loop-r.r-index 0) c.if-n-r.n = elim c.if-n-r.branch [
+    let o : InOrder c.args.nodes.slice.now c.args.nodes.count c.loop-r.n (get_or c.args.rows.now c.loop-r.r-index 0) c.if-n-r.n = elim c.if-n-r.branch [
       | then-n-r+in-Some w ↦ rw w.n-is w.in-Some.ensures
-      | else-n-r w ↦ rw w.n-is (order_passed c.requires.0 c.loop-r.invariant.fits w.if-n-r.false)
+      | else-n-r w ↦ rw w.n-is (order_passed c.args.nodes.table c.loop-r.invariant.fits w.if-n-r.false)
     ] in
     rows_more _ _ _ c.loop-r.r-index _ _ c.loop-r-test.true c.loop-r.invariant o
 
