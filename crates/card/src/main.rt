@@ -2,7 +2,7 @@
 // well; the script ./card hands one over and turns it into a status.
 #![tactic(auto)]
 
-use card_text::{Said, Streams, done, given, say};
+use card_text::{Said, Streams, argument, done, given, say};
 use std::env::Env;
 use std::fs::File;
 use std::rt::Files;
@@ -22,13 +22,13 @@ fn with_one<R: Env + Files<File = File>>(
     streams: Streams,
     command: &[u8],
 ) -> Result<(), Said> {
-    let mut name = [0u8; 4096];
-    let Ok(n) = rt.arg(3, &mut name) else {
+    let mut words = [0u8; 4096];
+    let Some(name) = argument(rt, 3, &mut words) else {
         return usage(streams);
     };
     match command {
-        b"read" => card_show::show(rt, streams, &name[..n]),
-        b"write" => card_lines::write(rt, streams, &name[..n]),
+        b"read" => card_show::show(rt, streams, name),
+        b"write" => card_lines::write(rt, streams, name),
         _ => usage(streams),
     }
 }
@@ -39,33 +39,30 @@ fn with_two<R: Env + Files<File = File>>(
     streams: Streams,
     command: &[u8],
 ) -> Result<(), Said> {
-    let mut from = [0u8; 4096];
-    let Ok(n) = rt.arg(3, &mut from) else {
-        return usage(streams);
-    };
-    let mut to = [0u8; 4096];
-    let Ok(m) = rt.arg(4, &mut to) else {
+    let mut one = [0u8; 4096];
+    let mut other = [0u8; 4096];
+    let (Some(from), Some(to)) = (argument(rt, 3, &mut one), argument(rt, 4, &mut other)) else {
         return usage(streams);
     };
     match command {
-        b"mend" => card_mend::mend(rt, streams, &from[..n], &to[..m]),
+        b"mend" => card_mend::mend(rt, streams, from, to),
         _ => usage(streams),
     }
 }
 
 // The command that the second argument names.
 fn run<R: Env + Files<File = File>>(rt: &R, streams: Streams) -> Result<(), Said> {
-    let mut command = [0u8; 4096];
-    let Ok(n) = rt.arg(2, &mut command) else {
+    let mut words = [0u8; 4096];
+    let Some(command) = argument(rt, 2, &mut words) else {
         return usage(streams);
     };
     if !given(rt, 3) || given(rt, 5) {
         return usage(streams);
     }
     if given(rt, 4) {
-        with_two(rt, streams, &command[..n])
+        with_two(rt, streams, command)
     } else {
-        with_one(rt, streams, &command[..n])
+        with_one(rt, streams, command)
     }
 }
 

@@ -6,11 +6,11 @@ use card_block::Carried;
 use card_mender::Held;
 use card_mender::looking::look;
 use card_text::{
-    Page, Said, Streams, create, fail, open_read, opened, page, progress, progress_end, read_full,
-    turn, unlink, write_out,
+    Page, Said, Streams, at_end, create, fail, open_read, opened, page, progress, progress_end,
+    read_full, turn, unlink, write_out,
 };
 use std::fs::File;
-use std::io::{Read, Write};
+use std::io::Write;
 use std::ops::ControlFlow;
 use std::os::unix::fs::FileExt;
 use std::rt::Files;
@@ -103,7 +103,7 @@ impl Mending<'_> {
             }
         }
         self.place = place.wrapping_add(1);
-        turn(self.streams, &mut self.page)?;
+        turn(self.streams, "card", &mut self.page)?;
         Ok(())
     }
 
@@ -114,12 +114,10 @@ impl Mending<'_> {
         for _ in 0..u64::MAX {
             let read = read_full(&mut file, &mut part);
             if read.is_empty() {
-                // A read that fails looks like the end.
-                let mut one = [0u8; 1];
-                if file.read(&mut one).is_err() {
+                if !at_end(&mut file) {
                     return Err(Stop);
                 }
-                write_out(self.streams, &mut self.page)?;
+                write_out(self.streams, "card", &mut self.page)?;
                 return Ok(());
             }
             for piece in read.chunks(512) {

@@ -1,9 +1,9 @@
 // The first pass over a card: the first bad block, named by its place and its reason.
 use card_block::{Carried, Reason};
 use card_reader::Stop;
-use card_text::{Said, fail, progress, progress_end, read_full};
+use card_text::{Said, at_end, fail, progress, progress_end, read_full};
 use std::fs::File;
-use std::io::{Read, Stderr, Write};
+use std::io::{Stderr, Write};
 
 // Why a card is refused: the block at a place is bad, or the file cannot be read.
 #[derive(Clone, Copy)]
@@ -58,9 +58,7 @@ fn check_all(file: &mut File, stderr: Stderr) -> Result<(), Refusal> {
     for _ in 0..u64::MAX {
         let read = read_full(file, &mut part);
         if read.is_empty() {
-            // A read that fails looks like the end.
-            let mut one = [0u8; 1];
-            if file.read(&mut one).is_err() {
+            if !at_end(file) {
                 return Err(Refusal::Unread);
             }
             return reading.end();

@@ -72,12 +72,12 @@ fn show_all(file: &mut File, streams: Streams) -> Result<(), Said> {
     for _ in 0..u64::MAX {
         let read = read_full(file, &mut part);
         if read.is_empty() {
-            return write_out(streams, &mut page);
+            return write_out(streams, "card", &mut page);
         }
         for piece in read.chunks(512) {
             // A page has room for one more block.
             let _ = showing.show_piece(&mut page, piece);
-            turn(streams, &mut page)?;
+            turn(streams, "card", &mut page)?;
         }
     }
     Err(Said)

@@ -33,24 +33,34 @@ pub fn page() -> Page {
     Cursor::new([0; 65536])
 }
 
-// Writes the page to standard output and empties it, or says that it cannot.
-pub fn write_out(streams: Streams, page: &mut Page) -> Result<(), Said> {
-    let past = (page.position() as usize).min(65536);
-    page.set_position(0);
+// What stands on a page.
+pub fn written<const N: usize>(page: &Cursor<[u8; N]>) -> &[u8] {
+    let past = (page.position() as usize).min(N);
+    &page.get_ref()[..past]
+}
+
+// Writes a page of the program to standard output and empties it, or says that it cannot.
+pub fn write_out<const N: usize>(
+    streams: Streams,
+    program: &str,
+    page: &mut Cursor<[u8; N]>,
+) -> Result<(), Said> {
     let mut stdout = streams.stdout;
-    if stdout.write_all(&page.get_ref()[..past]).is_err() {
-        say(streams.stderr, b"card: standard output cannot be written\n");
+    if stdout.write_all(written(page)).is_err() {
+        let mut stderr = streams.stderr;
+        let _ = writeln!(stderr, "{program}: standard output cannot be written");
         return Err(Said);
     }
+    page.set_position(0);
     Ok(())
 }
 
 // Writes the page out where it is full.
-pub fn turn(streams: Streams, page: &mut Page) -> Result<(), Said> {
+pub fn turn(streams: Streams, program: &str, page: &mut Page) -> Result<(), Said> {
     if page.position() < FULL {
         return Ok(());
     }
-    write_out(streams, page)
+    write_out(streams, program, page)
 }
 
 // Reads until the slice is full, the input ends or a read fails, and answers what was read: the front of the slice.
@@ -65,6 +75,12 @@ pub fn read_full<'a, R: Read>(from: &mut R, buf: &'a mut [u8]) -> &'a [u8]
         }
     }
     &buf[..done]
+}
+
+// Where nothing more is read: whether the input came to its end. A read that fails looks like the end.
+pub fn at_end<R: Read>(from: &mut R) -> bool {
+    let mut one = [0u8; 1];
+    from.read(&mut one).is_ok()
 }
 
 // Writes to standard error.
@@ -97,6 +113,12 @@ pub fn progress_end(stderr: Stderr) {
 pub fn given<R: Env>(rt: &R, place: usize) -> bool {
     let mut none = [0u8; 0];
     !matches!(rt.arg(place, &mut none), Err(FillError::NotPresent))
+}
+
+// The program's argument at a place.
+pub fn argument<'a, R: Env>(rt: &R, place: usize, words: &'a mut [u8; 4096]) -> Option<&'a [u8]> {
+    let n = rt.arg(place, words).ok()?;
+    Some(&words[..n])
 }
 
 // The path that a name is. A path is text: what is no UTF-8 names no file.
@@ -138,9 +160,9 @@ pub fn opened(stderr: Stderr, name: &[u8], file: std::io::Result<File>) -> Resul
 
 // Notes that all went well: empties the file that the first argument names, or makes it where it is missing, and writes a line.
 pub fn done<R: Env + Files<File = File>>(rt: &R) {
-    let mut name = [0u8; 4096];
-    if let Ok(n) = rt.arg(1, &mut name)
-        && let Ok(path) = path(&name[..n])
+    let mut words = [0u8; 4096];
+    if let Some(name) = argument(rt, 1, &mut words)
+        && let Ok(path) = path(name)
         && let Ok(made) = fs::create(rt, path)
     {
         let mut to = made;
@@ -163,15 +185,9 @@ fn refused(stderr: Stderr, name: &[u8], why: Error) {
 fn words(all: &[u8; 128]) -> usize
     ensures { result ≤ 128 }
 {
-    let mut end = 0;
-    let mut cut = false;
-    for (i, b) in all.iter().enumerate() {
-        if *b == b'(' && 0 < i {
-            end = i - 1;
-            cut = true;
-        } else if *b != 0 && !cut {
-            end = i + 1;
-        }
+    let end = all.iter().position(|b| *b == 0).unwrap_or(128);
+    match all[..end].iter().rposition(|b| *b == b'(') {
+        Some(place) if 0 < place => place - 1,
+        _ => end,
     }
-    end
 }

@@ -7,8 +7,8 @@ mod refusals;
 mod showing;
 
 use crate::refusals::explain;
-use crate::showing::{Page, show_names, show_rows, write_out};
-use card_text::{Said, Streams, done, given, open_read, read_full, say};
+use crate::showing::{Page, show_names, show_rows};
+use card_text::{Said, Streams, argument, done, given, open_read, read_full, say, write_out};
 use std::env::Env;
 use std::fs::File;
 use std::io::{Cursor, Read};
@@ -31,7 +31,7 @@ fn answer(streams: Streams, text: &[u8], named: bool) -> Result<(), Said> {
             } else {
                 show_rows(&mut page, &rows, translation.rows)
             };
-            write_out(streams, &page)
+            write_out(streams, "rule", &mut page)
         }
     }
 }
@@ -62,11 +62,11 @@ fn from_named<R: Env + Files<File = File>>(
     place: usize,
     named: bool,
 ) -> Result<(), Said> {
-    let mut name = [0u8; 4096];
-    let Ok(n) = rt.arg(place, &mut name) else {
+    let mut words = [0u8; 4096];
+    let Some(name) = argument(rt, place, &mut words) else {
         return usage(streams);
     };
-    let Ok(opened) = open_read(rt, &name[..n]) else {
+    let Ok(opened) = open_read(rt, name) else {
         say(streams.stderr, b"rule: the file cannot be read\n");
         return Err(Said);
     };
@@ -79,11 +79,11 @@ fn run<R: Env + Files<File = File>>(rt: &R, streams: Streams) -> Result<(), Said
     if given(rt, 1) && !given(rt, 2) {
         return from_input(streams, false);
     }
-    let mut word = [0u8; 4096];
-    let Ok(n) = rt.arg(2, &mut word) else {
+    let mut words = [0u8; 4096];
+    let Some(word) = argument(rt, 2, &mut words) else {
         return usage(streams);
     };
-    let named = &word[..n] == b"-n".as_slice();
+    let named = word == b"-n".as_slice();
     match (named, given(rt, 3), given(rt, 4)) {
         (true, false, _) => from_input(streams, true),
         (false, false, _) => from_named(rt, streams, 2, false),

@@ -1,5 +1,5 @@
 // A refusal in plain words, the text, and a caret under the place.
-use card_text::say;
+use card_text::{say, written};
 use std::io;
 use std::io::{Cursor, Stderr, Write};
 use translate::refusals::Refusal;
@@ -47,8 +47,7 @@ pub fn explain(mut stderr: Stderr, text: &[u8], refusal: Refusal) {
     if let Refusal::NoText(place) = refusal {
         let mut out = Cursor::new([0; 12288]);
         if show_place(&mut out, text, place).is_ok() {
-            let past = (out.position() as usize).min(12288);
-            say(stderr, &out.get_ref()[..past]);
+            say(stderr, written(&out));
         }
     }
 }

@@ -1,5 +1,4 @@
 // The rows and the names of a rule text, a line each.
-use card_text::{Said, Streams, say};
 use census::spans::Span;
 use std::io;
 use std::io::{Cursor, Write};
@@ -43,15 +42,4 @@ fn show_spans(
 pub fn show_names(page: &mut Page, text: &[u8], t: &Translation) -> io::Result<()> {
     show_spans(page, "predicate", text, &t.predicate_names, t.predicates)?;
     show_spans(page, "variable", text, &t.variable_names, t.variables)
-}
-
-// Writes the page to standard output, or says that it cannot.
-pub fn write_out(streams: Streams, page: &Page) -> Result<(), Said> {
-    let past = (page.position() as usize).min(8192);
-    let mut stdout = streams.stdout;
-    if stdout.write_all(&page.get_ref()[..past]).is_err() {
-        say(streams.stderr, b"rule: standard output cannot be written\n");
-        return Err(Said);
-    }
-    Ok(())
 }
