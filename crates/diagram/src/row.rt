@@ -9,13 +9,12 @@ ghost use Rattle.walks.specs.Complements.{counted};
 ghost use Rattle.walks.specs.Walks.{Within};
 ghost use Rattle.walks.specs.Desks.{Desk};
 ghost use Rattle.diagram.specs.Steps.{drop_stages, does};
-ghost use Rattle.diagram.specs.Works.{Leads, Worked, Base, plainly, quietly, RowDone};
+ghost use Rattle.diagram.specs.Works.{Leads, Worked, Base, quietly, RowDone};
 
 use crate::Instruction;
-use making::Made;
 use making::lent::{Layout, Lent};
 use walks::parting::Three;
-use walks::{Counted, Seen, drop_walk, not_walk, since_walk};
+use walks::{Seen, drop_walk, not_walk, since_walk};
 
 // The reference of row a: no past the rows.
 fn pick(refs: &[u32; 64], a: u32) -> u32
@@ -48,20 +47,8 @@ fn drops_row(lent: &mut Lent<'_>, layout: Layout, k: u32, v: u32, p: u32) -> Opt
     Some(r)
 }
 
-// The answer of walks that count no visits.
-pub fn uncounted(m: Option<Made>) -> Option<Counted>
-    ensures { result ≡ plainly m }
-{
-    let made = m?;
-    Some(Counted {
-        count: made.count,
-        reference: made.reference,
-        visits: 0,
-    })
-}
-
-// The same of walks over lent slices.
-fn unvisited(reference: Option<u32>) -> Option<Seen>
+// The answer of a walk that counts no visits.
+pub fn unvisited(reference: Option<u32>) -> Option<Seen>
     ensures { result ≡ quietly reference }
 {
     let reference = reference?;
@@ -71,8 +58,9 @@ fn unvisited(reference: Option<u32>) -> Option<Seen>
     })
 }
 
-// The new diagram of row i over lent slices.
-fn walked(
+// The new diagram of row i, whose instruction is x, and the visits where it is a complement; `olds` are the references before
+// the event, and `news` those of the rows worked so far.
+pub fn row(
     lent: &mut Lent<'_>,
     layout: Layout,
     k: u32,
@@ -112,35 +100,4 @@ fn walked(
             unvisited(drops_row(lent, layout, k, v, p))
         }
     }
-}
-
-// The new diagram of row i, whose instruction is x, and the visits where it is a complement; `olds` are the references before
-// the event, and `news` those of the rows worked so far.
-pub fn row(
-    nodes: &mut [u32],
-    work: &mut [u32],
-    c: usize,
-    slots: usize,
-    n: u32,
-    k: u32,
-    i: u32,
-    x: Instruction,
-    olds: &[u32; 64],
-    news: &[u32; 64],
-) -> Option<Counted>
-    requires k_bound { (k ≤ 10) × Desk nodes.old n (4 * k) work.old c slots }
-    requires leads { Leads nodes.old n (4 * k) olds.now × Leads nodes.old n (4 * k) news.now }
-    ensures { RowDone k nodes.old nodes.new n olds.now news.now i (does x) work.old work.new c slots result }
-{
-    let mut lent = Lent {
-        nodes: &mut *nodes,
-        work: &mut *work,
-        count: n,
-    };
-    let seen = walked(&mut lent, Layout { c, slots }, k, i, x, olds, news)?;
-    Some(Counted {
-        count: lent.count,
-        reference: seen.reference,
-        visits: seen.visits,
-    })
 }

@@ -3,44 +3,30 @@ ghost use Rattle.std.specs.Prelude.{◌+◌, ◌*◌, ◌<◌, ◌≤◌, ◌||�
 ghost use Rattle.trees.specs.Tree.{eval, tree_of};
 ghost use Rattle.trees.specs.Table.{at, trees_of};
 ghost use Rattle.making.specs.Tables.{Added, Shelf, Shelved};
+ghost use Rattle.making.specs.Loans.{SameLoans, made};
 ghost use Rattle.diagram.specs.Steps.{turn_says};
 ghost use Rattle.diagram.specs.Works.{TurnOver};
 
+use making::Number;
 use making::into::into;
-use making::lent::Lent;
-use making::{Made, Number};
+use making::lent::{Layout, Lent};
 
 // The diagram that says what p says, or what the turn says: nothing where its fact does not match, and else that the four variables show
 // these numbers.
 pub fn take_turn(
-    nodes: &mut [u32],
-    work: &mut [u32],
-    c: usize,
-    n: u32,
+    lent: &mut Lent<'_>,
+    layout: Layout,
     k: u32,
     turn: Option<[Option<Number>; 4]>,
     p: u32,
-) -> Option<Made>
-    requires shelf { Shelf nodes.old n work.old c }
-    requires k_bound { (4 * k ≤ 64) × (p < n + 2) × TurnOver k turn (at (trees_of nodes.old n) p) }
-    ensures { Added (λ ns j. Shelved work.old ns j work.new c) nodes.old nodes.new n (tree_of (4 * k) (λ s. eval (at (trees_of nodes.old n) p) s || turn_says k turn s)) result }
+) -> Option<u32>
+    requires shelf { Shelf lent.old.nodes.now lent.old.count lent.old.work.now layout.c }
+    requires k_bound { (4 * k ≤ 64) × (p < lent.old.count + 2) × TurnOver k turn (at (trees_of lent.old.nodes.now lent.old.count) p) }
+    ensures same { SameLoans lent.old lent.new }
+    ensures added { Added (λ ns j. Shelved lent.old.work.now ns j lent.new.work.now layout.c) lent.old.nodes.now lent.new.nodes.now lent.old.count (tree_of (4 * k) (λ s. eval (at (trees_of lent.old.nodes.now lent.old.count) p) s || turn_says k turn s)) (made lent.new.count result) }
 {
     match turn {
-        None => Some(Made {
-            count: n,
-            reference: p,
-        }),
-        Some(places) => {
-            let mut lent = Lent {
-                nodes: &mut *nodes,
-                work: &mut *work,
-                count: n,
-            };
-            let reference = into(&mut lent, c, k, places, p)?;
-            Some(Made {
-                count: lent.count,
-                reference,
-            })
-        }
+        None => Some(p),
+        Some(places) => into(lent, layout.c, k, places, p),
     }
 }

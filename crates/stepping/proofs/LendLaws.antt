@@ -3,7 +3,7 @@ use Prim.Native.Nat.{ℕ, ◌+◌, ◌*◌, ◌-◌, ◌/◌, ◌≤◌, ◌<◌
 use mathlib.Core.Path.{◌≡◌, refl, sym, ap, ◌∙◌}
 use mathlib.Core.List.{List}
 use native.Mathlib.Omega.{arith}
-use lib.ListN.{length, get_or, take, drop, length-replicate}
+use lib.ListN.{length, get_or, take, drop, replicate, length-replicate}
 use lib.Seq.{ext_get_or, get_or-take, get_or-drop}
 use Rattle.trees.proofs.CanonicalLaws.{zeros_at}
 use borrow.Rule.Slice.PartMut.{put_mid, mid_len, same_len_mid, drop_put}
@@ -14,7 +14,9 @@ use Rattle.making.proofs.WalkLaws.{rest_trans}
 use Rattle.walks.specs.Desks.{Desk}
 use Rattle.walks.proofs.CallLaws.{desk_none}
 use Rattle.walks.proofs.MapLaws.{map_at, map_length}
+use Rattle.diagram.specs.Steps.{cleared}
 use Rattle.diagram.specs.Works.{Fits, Fresh, Ready}
+use Rattle.stepping.proofs.ClearLaws.{filled, cleared_is, rest_more, rest_two}
 
 -- chains depend on the numbers from 13 * c on and before 15 * c
 pub chained_part : {ns : List ℕ} {n : ℕ} {w w' : List ℕ} → 3 * n ≤ length ns → 1 ≤ length ns / 3 → ((x : ℕ) → 13 * (length ns / 3) ≤ x → x < 15 * (length ns / 3) → get_or w' x 0 ≡ get_or w x 0)
@@ -97,3 +99,19 @@ lent_back ns f slots few {w₁} z ys e =
     let room = f.room in
     let size = z.size in
     (rest_trans z.rest (lent_rest (15 * (length ns / 3)) w₁ (omega arith) ys e) (omega arith), same_len_mid 0 (15 * (length ns / 3) - 0) w₁ ys e ∙ z.size)
+
+module _ (ns : List ℕ) {k count : ℕ} {w : List ℕ} (f : Fits k count (length ns) (length w)) (slots : ℕ) (few : slots ≤ 2 * (length ns / 3))
+    {w₁ : List ℕ} (z : Zeroed (4 * (length ns / 3)) (5 * (length ns / 3) + 4 * slots) w w₁) (ys : List ℕ) where
+  -- the same slice, zeroed at the end of a refused step
+  pub lent_cleared : {zs : List ℕ} → zs ≡ replicate (length (take (16 * (length ns / 3) + 1024 - 0) (drop 0 (put_mid 0 (15 * (length ns / 3) - 0) w₁ ys)))) 0
+      → length ys ≡ length (take (15 * (length ns / 3) - 0) (drop 0 w₁)) → put_mid 0 (16 * (length ns / 3) + 1024 - 0) (put_mid 0 (15 * (length ns / 3) - 0) w₁ ys) zs ≡ cleared (length ns / 3) w
+  lent_cleared {zs} y e =
+      let back = lent_back ns f slots few z ys e in
+      cleared_is (length ns / 3) w f.room (rest_more back.0 (omega arith)) back.1 (filled 0 (16 * (length ns / 3) + 1024) _ zs (omega arith) (omega (arith, f.room, back.1)) y)
+
+  -- and after the sweep, which changes less of it
+  pub lent_swept : {m : ℕ} {u : List ℕ} → m ≤ 15 * (length ns / 3) → Rest m (put_mid 0 (15 * (length ns / 3) - 0) w₁ ys) u → length u ≡ length (put_mid 0 (15 * (length ns / 3) - 0) w₁ ys)
+      → length ys ≡ length (take (15 * (length ns / 3) - 0) (drop 0 w₁)) → Rest (15 * (length ns / 3)) w u × (length u ≡ length w)
+  lent_swept h r l e =
+      let back = lent_back ns f slots few z ys e in
+      (rest_two (15 * (length ns / 3)) back.0 r (omega arith) h, l ∙ back.1)

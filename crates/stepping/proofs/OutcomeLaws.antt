@@ -53,6 +53,17 @@ ready k allowed C count refs kept ns pos few wide size small w =
     leads : (a : ℕ) → Within ns kept (4 * k) (4 * k) (get_or refs a 0)
     leads a = ⊎_elim (λ h. within_all ns kept (4 * k) (get_or refs a 0) (rows.inside a h) (rows.fine a h)) (λ h. rw (w.none a h) (within_no ns kept (4 * k))) (lt_or_ge a count)
 
+-- the nodes that were lent are back in their slice: what is said of the ones holds of the other
+pub rows_back : {levels count n : ℕ} {ns ms news : List ℕ} → Rows ns n levels news count → ms ≡ ns → Rows ms n levels news count
+rows_back r e = rw e r
+
+pub zeroed_back : {a : ℕ} {ns ms xs : List ℕ} → Zeroed a (length ms) ms xs → ms ≡ ns → Zeroed a (length ns) ns xs
+zeroed_back z e = rw e at z
+
+pub renewal_back : {ns ms : List ℕ} {n levels : ℕ} {news : List ℕ} {count : ℕ} {w ns' w' : List ℕ} {kept : ℕ} {refs : List ℕ} {visits : ℕ}
+    → Renewal ms n levels news count w ns' w' kept refs visits → ms ≡ ns → Renewal ns n levels news count w ns' w' kept refs visits
+renewal_back r e = rw e at r
+
 -- the work's outcome does not ask what stands in front of the work slice
 pub outcome_same : (b : Bool) (k count : ℕ) (plan : List Task) (refs sizes : List ℕ) (kept : ℕ) (ns w w₁ : List ℕ) → cleared (length ns / 3) w₁ ≡ cleared (length ns / 3) w
     → work_outcome b k count plan refs sizes kept ns w₁ ≡ work_outcome b k count plan refs sizes kept ns w

@@ -7,7 +7,9 @@ ghost use Rattle.trees.specs.Kept.{diagrams};
 ghost use Rattle.meaning.specs.Rows.{count_of_rows, right, check_rows};
 ghost use Rattle.rule.specs.Decoded.{row_of};
 ghost use Rattle.nodes.specs.Chains.{Chained};
+ghost use Rattle.making.specs.Loans.{SameLoans};
 ghost use Rattle.walks.specs.Desks.{Desk};
+ghost use Rattle.walks.specs.Complements.{counted};
 ghost use Rattle.diagram.specs.Steps.{work_table, work_outcome, Leaves};
 ghost use Rattle.diagram.specs.Counts.{Visited};
 ghost use Rattle.diagram.specs.Works.{Fits, Leads, RowDone, Fresh, Ready};
@@ -16,80 +18,66 @@ ghost use Rattle.stepping.specs.Answers.{told_of, AllWorked};
 
 use crate::Stepped;
 use crate::atoms::atom;
-use diagram::row::{row, uncounted};
+use diagram::row::{row, unvisited};
 use diagram::{Done, Refused};
 use making::Number;
+use making::lent::{Layout, Lent};
 use meaning::Event;
 use nodes::table::Nodes;
 use rule::Row;
 use sweeping::renew;
-use walks::Counted;
+use walks::Seen;
 
 // The new diagram of row i, whose decoded form is `read`, and the visits where it is a complement.
 fn one_row(
-    nodes: &mut [u32],
-    work: &mut [u32],
-    c: usize,
-    slots: usize,
-    n: u32,
+    lent: &mut Lent<'_>,
+    layout: Layout,
     k: u32,
     i: u32,
     read: Row,
-    event: Event,
+    event: &Event,
     given: &[Option<Number>; 96],
     olds: &[u32; 64],
     news: &[u32; 64],
-) -> Option<Counted>
-    requires k_bound { (k ≤ 10) × (event.count ≤ 8) × Desk nodes.old n (4 * k) work.old c slots }
-    requires leads { Leads nodes.old n (4 * k) olds.now × Leads nodes.old n (4 * k) news.now × (length given.now ≡ 96) }
-    ensures { RowDone k nodes.old nodes.new n olds.now news.now i (asked (row_of read) event given.now) work.old work.new c slots result }
+) -> Option<Seen>
+    requires k_bound { (k ≤ 10) × (event.now.count ≤ 8) × Desk lent.old.nodes.now lent.old.count (4 * k) lent.old.work.now layout.c layout.slots }
+    requires leads { Leads lent.old.nodes.now lent.old.count (4 * k) olds.now × Leads lent.old.nodes.now lent.old.count (4 * k) news.now × (length given.now ≡ 96) }
+    ensures same { SameLoans lent.old lent.new }
+    ensures done { RowDone k lent.old.nodes.now lent.new.nodes.now lent.old.count olds.now news.now i (asked (row_of read) event.now given.now) lent.old.work.now lent.new.work.now layout.c layout.slots (counted lent.new.count result) }
 {
     if instructions::is_atom(read) {
-        return uncounted(atom(nodes, work, c, slots, n, k, read, event, given));
+        return unvisited(atom(lent, layout, k, read, event, given));
     }
     let x = instructions::instruction(read);
-    row(nodes, work, c, slots, n, k, i, x, olds, news)
-}
-
-// What the work on all rows gives back: the count of nodes, and the visits of all complements.
-#[derive(Clone, Copy)]
-struct Run {
-    count: u32,
-    visits: u32,
+    row(lent, layout, k, i, x, olds, news)
 }
 
 // Works the rows in order, each as it is read, as long as there is room: `olds` are the references before the event, and `news` become those
-// after it.
+// after it. It gives back the visits of all complements.
 fn work_rows(
-    nodes: &mut [u32],
-    work: &mut [u32],
-    c: usize,
-    slots: usize,
-    kept: u32,
+    lent: &mut Lent<'_>,
+    layout: Layout,
     k: u32,
     rows: &[u32],
-    event: Event,
+    event: &Event,
     given: &[Option<Number>; 96],
     olds: &[u32; 64],
     news: &mut [u32; 64],
-) -> Option<Run>
-    requires k_bound { (k ≤ 10) × (check_rows rows.now ≡ right) × (event.count ≤ 8) × (length given.now ≡ 96) × Desk nodes.old kept (4 * k) work.old c slots }
-    requires leads { Leads nodes.old kept (4 * k) olds.now × (news.old ≡ replicate 64 0) }
-    requires by_index { ((a : ℕ) → count_of_rows rows.now ≤ a → get_or olds.now a 0 ≡ 0) × Fresh nodes.old kept work.old c }
-    ensures { AllWorked k (planned rows.now event given.now) (diagrams nodes.old kept olds.now (count_of_rows rows.now)) nodes.old kept nodes.new work.new c slots olds.now (count_of_rows rows.now) result news.new }
+) -> Option<u32>
+    requires k_bound { (k ≤ 10) × (check_rows rows.now ≡ right) × (event.now.count ≤ 8) × (length given.now ≡ 96) × Desk lent.old.nodes.now lent.old.count (4 * k) lent.old.work.now layout.c layout.slots }
+    requires leads { Leads lent.old.nodes.now lent.old.count (4 * k) olds.now × (news.old ≡ replicate 64 0) }
+    requires by_index { ((a : ℕ) → count_of_rows rows.now ≤ a → get_or olds.now a 0 ≡ 0) × Fresh lent.old.nodes.now lent.old.count lent.old.work.now layout.c }
+    ensures same { SameLoans lent.old lent.new }
+    ensures all { AllWorked k (planned rows.now event.now given.now) (diagrams lent.old.nodes.now lent.old.count olds.now (count_of_rows rows.now)) lent.old.nodes.now lent.old.count lent.new.nodes.now lent.new.work.now layout.c layout.slots olds.now (count_of_rows rows.now) lent.new.count result news.new }
 {
-    let mut n = kept;
     let mut visits = 0;
     for i in 0..rows.len() / 9 {
         let read = rule::row_at(rows, i);
-        let done = one_row(
-            nodes, work, c, slots, n, k, i as u32, read, event, given, olds, news,
-        )?;
+        let done = one_row(lent, layout, k, i as u32, read, event, given, olds, news)?;
         news[i] = done.reference;
-        n = done.count;
         visits += done.visits;
     }
-    Some(Run { count: n, visits })
+    Some(visits)
 }
 
 // How many slots the memory of results gets: some for each kept node, and no more than there is place for.
@@ -123,24 +111,18 @@ pub fn worked(
     let slots = slots_for(c, kept);
     work[4 * c..5 * c + 4 * slots].fill(0);
     let mut news = [0; 64];
-    let Some(run) = work_rows(
-        nodes,
-        &mut work[0..15 * c],
-        c,
-        slots,
-        kept,
-        k,
-        rows,
-        event,
-        given,
-        refs,
-        &mut news,
-    ) else {
+    let mut lent = Lent {
+        nodes: &mut *nodes,
+        work: &mut work[0..15 * c],
+        count: kept,
+    };
+    let layout = Layout { c, slots };
+    let Some(visits) = work_rows(&mut lent, layout, k, rows, &event, given, refs, &mut news) else {
         nodes[3 * (kept as usize)..].fill(0);
         work[0..16 * c + 1024].fill(0);
         return Err(Refused::Full);
     };
-    let room = run.count;
+    let room = lent.count;
     let count = (rows.len() / 9) as u32;
     let y = renew(nodes, room, work, 4 * k, &news, count, refs);
     let table = Nodes {
@@ -151,7 +133,7 @@ pub fn worked(
     work[0..16 * c + 1024].fill(0);
     Ok(Stepped {
         done: Done { kept: y.kept, room },
-        complements: run.visits,
+        complements: visits,
         swept: y.visits,
     })
 }

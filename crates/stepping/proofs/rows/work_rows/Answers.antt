@@ -25,73 +25,51 @@ reads rows e given i h q = ap (λ (r : Rows.Row). asked r e given) (ap row_of q 
 
 pub loop-i-init : goal.loop-i-init
 loop-i-init c =
-    let s = c in
-    let most : count_of_rows s.args.rows.now ≤ 64 = omega (arith, few_rows _ s.requires.k_bound.1, count_is s.args.rows.now) in (
-      refl,
-      rw s.requires.leads.1 (through_none s.args.k (planned s.args.rows.now s.args.event s.args.given.now) _ s.args.nodes.now s.args.kept s.args.work.now s.args.c s.args.slots s.args.olds.now s.requires.k_bound.4 s.requires.leads.0
-          (old_are s.args.nodes.now s.args.kept s.args.olds.now (count_of_rows s.args.rows.now) (omega (arith, most, s.requires.leads.0.wide)) s.requires.by_index.0) s.requires.by_index.1),
+    let s = c.args in
+    let lent = s.lent.now in
+    let most : count_of_rows s.rows.now ≤ 64 = omega (arith, few_rows _ c.requires.k_bound.1, count_is s.rows.now) in (
+      (refl, refl, refl, refl),
+      rw c.requires.leads.1 (through_none s.k (planned s.rows.now s.event.now s.given.now) _ lent.nodes.now lent.count lent.work.now s.layout.c s.layout.slots s.olds.now c.requires.k_bound.4 c.requires.leads.0
+          (old_are lent.nodes.now lent.count s.olds.now (count_of_rows s.rows.now) (omega (arith, most, c.requires.leads.0.wide)) c.requires.by_index.0) c.requires.by_index.1),
     )
-
-pub row_at-read-requires : goal.row_at-read-requires
-row_at-read-requires c = let l = c.loop-i in omega (arith, c.loop-i-test.true)
 
 pub overflow_cast-i : goal.overflow_cast-i
 overflow_cast-i c = omega (arith, few_rows _ c.requires.k_bound.1, c.loop-i-test.true)
 
-pub one_row-requires : goal.one_row-requires
-one_row-requires c =
-    let s = c in
-    let t = c.loop-i.invariant.1 in
-    record { k_bound = (s.requires.k_bound.0, s.requires.k_bound.2, t.desk); leads = (t.old_lead, t.new_lead, s.requires.k_bound.3) }
-
-pub shape_of-nodes-in_err-done : goal.shape_of-nodes-in_err-done
-shape_of-nodes-in_err-done c = c.one_row.auto.nodes ∙ c.loop-i.invariant.1.size
-
-pub shape_of-work-in_err-done : goal.shape_of-work-in_err-done
-shape_of-work-in_err-done c = c.one_row.auto.work ∙ c.loop-i.invariant.0
-
-pub returns-in_err-done : goal.returns-in_err-done
-returns-in_err-done c =
-    let s = c in
+pub returns-in_err-done-clause-all : goal.returns-in_err-done-clause-all
+returns-in_err-done-clause-all c =
+    let s = c.args in
     let l = c.loop-i in
-    let h : l.i < length s.args.rows.now / 9 = omega (arith, c.loop-i-test.true) in
-    let x = reads s.args.rows.now s.args.event s.args.given.now l.i h c.row_at-read.ensures.whole in
-    rw c.from_residual.ensures (through_short s.args.k (planned s.args.rows.now s.args.event s.args.given.now) _ s.args.nodes.now s.args.kept l.invariant.1 (count_of_rows s.args.rows.now) (omega (arith, count_is s.args.rows.now)) (rw (c.in_err-done.was, x) at c.one_row.ensures))
-
-pub offset_bounds-news-i : goal.offset_bounds-news-i
-offset_bounds-news-i c = omega (arith, few_rows _ c.requires.k_bound.1, c.loop-i-test.true)
+    let h : l.i < length s.rows.now / 9 = omega (arith, c.loop-i-test.true) in
+    let x = reads s.rows.now s.event.now s.given.now l.i h c.row_at-read.ensures.whole in
+    rw c.from_residual.ensures (through_short s.k (planned s.rows.now s.event.now s.given.now) _ s.lent.now.nodes.now s.lent.now.count l.invariant.1 (count_of_rows s.rows.now) (omega (arith, count_is s.rows.now)) (rw x at c.in_err-done.ensures.done))
 
 pub bounds-news-i : goal.bounds-news-i
-bounds-news-i c = omega (arith, few_rows _ c.requires.k_bound.1, c.loop-i-test.true, c.loop-i.invariant.1.new_lead.wide)
+bounds-news-i c = omega (arith, few_rows _ c.requires.k_bound.1, c.loop-i-test.true)
 
 pub overflow_add-visits : goal.overflow_add-visits
 overflow_add-visits c =
-    let s = c in
+    let s = c.args in
     let l = c.loop-i in
-    let h : l.i < length s.args.rows.now / 9 = omega (arith, c.loop-i-test.true) in
-    let x = reads s.args.rows.now s.args.event s.args.given.now l.i h c.row_at-read.ensures.whole in
-    let g = rw (c.in_ok-done.was, x) at c.one_row.ensures in
-    let t = through_more s.args.k (planned s.args.rows.now s.args.event s.args.given.now) _ s.args.nodes.now s.args.kept l.invariant.1 g.0 (omega (arith, few_rows _ s.requires.k_bound.1)) _ g.1 g.2 in
-    omega (arith, t.tally.small, few_rows _ s.requires.k_bound.1)
+    let h : l.i < length s.rows.now / 9 = omega (arith, c.loop-i-test.true) in
+    let x = reads s.rows.now s.event.now s.given.now l.i h c.row_at-read.ensures.whole in
+    let g = rw x at c.in_ok-done.ensures.done in
+    let t = through_more s.k (planned s.rows.now s.event.now s.given.now) _ s.lent.now.nodes.now s.lent.now.count l.invariant.1 g.0 (omega (arith, few_rows _ c.requires.k_bound.1)) _ g.1 g.2 in
+    omega (arith, t.tally.small, few_rows _ c.requires.k_bound.1)
 
 pub loop-i-preserved : goal.loop-i-preserved
 loop-i-preserved c =
-    let s = c in
+    let s = c.args in
     let l = c.loop-i in
-    let h : l.i < length s.args.rows.now / 9 = omega (arith, c.loop-i-test.true) in
-    let x = reads s.args.rows.now s.args.event s.args.given.now l.i h c.row_at-read.ensures.whole in
-    let g = rw (c.in_ok-done.was, x) at c.one_row.ensures in
-    let t = through_more s.args.k (planned s.args.rows.now s.args.event s.args.given.now) _ s.args.nodes.now s.args.kept l.invariant.1 g.0 (omega (arith, few_rows _ s.requires.k_bound.1)) _ g.1 g.2 in
-    (c.one_row.auto.work ∙ l.invariant.0, t)
+    let e = l.invariant.0 in
+    let f = c.one_row.ensures.same in
+    let h : l.i < length s.rows.now / 9 = omega (arith, c.loop-i-test.true) in
+    let x = reads s.rows.now s.event.now s.given.now l.i h c.row_at-read.ensures.whole in
+    let g = rw x at c.in_ok-done.ensures.done in
+    ((f.0 ∙ e.0, f.1 ∙ e.1, f.2 ∙ e.2, f.3 ∙ e.3), through_more s.k (planned s.rows.now s.event.now s.given.now) _ s.lent.now.nodes.now s.lent.now.count l.invariant.1 g.0 (omega (arith, few_rows _ c.requires.k_bound.1)) _ g.1 g.2)
 
-pub shape_of-nodes : goal.shape_of-nodes
-shape_of-nodes c = c.loop-i.invariant.1.size
-
-pub shape_of-work : goal.shape_of-work
-shape_of-work c = c.loop-i.invariant.0
-
-pub returns : goal.returns
-returns c =
+pub returns-clause-all : goal.returns-clause-all
+returns-clause-all c =
     let l = c.loop-i in
     let e : l.i ≡ count_of_rows c.args.rows.now = omega (arith, c.loop-i-test.false, count_is c.args.rows.now) in
     rw e at l.invariant.1

@@ -1,9 +1,9 @@
--- `row::walked` meets its contract: one law for each instruction. Assumes nothing.
+-- `row::row` meets its contract: one law for each instruction. Assumes nothing.
 use native.Mathlib.Omega.{arith}
 use Rattle.making.specs.Loans.{made}
 use Rattle.walks.specs.Complements.{counted}
 use Rattle.diagram.proofs.RowLaws.{quiet, within_no, leads_to, row_yes, row_and, row_not, row_since, row_old, row_drop}
-use Rattle.diagram.proofs.row.walked.Goals as goal
+use Rattle.diagram.proofs.row.row.Goals as goal
 
 pub since_walk-requires : goal.since_walk-requires
 since_walk-requires c =
