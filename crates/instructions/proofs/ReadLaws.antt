@@ -102,7 +102,7 @@ module _ (L : Lists) (given : List (Option Number)) (f : ℕ) where
 
   from_here : (j y v : ℕ) (gs : List Argument) (ys : List ℕ) → From j (variable v ∷ gs) (y ∷ ys) → v < 4 → number_read given f v j ≡ record { 0 = place (L v) y }
   unfolding number_at
-  from_here j y v gs ys h lv = ap (λ (n : Option Number). unwrap_or n (record { 0 = 0 })) (rw (let z : j + 0 ≡ j = omega arith in z) at (h v 0 lv refl))
+  from_here j y v gs ys h lv = ap (λ (n : Option Number). unwrap_or n (record { 0 = 4294967295 })) (rw (let z : j + 0 ≡ j = omega arith in z) at (h v 0 lv refl))
 
   place_reads : (gs : List Argument) (ys : List ℕ) (v j : ℕ) → v < 4 → From j gs ys → fits gs ys ≡ true → place_read v j gs given f ≡ place_of L v gs ys
   unfolding place_read place_of names fits

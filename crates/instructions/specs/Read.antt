@@ -15,9 +15,9 @@ unfoldable pub names : ℕ → Argument → Bool
 names v (variable w) = eqb w v
 names v (constant c) = false
 
--- the number that variable v has for the value j of fact f; 0 where none is told, which is so of no fact that an atom matches
+-- the number that variable v has for the value j of fact f; past all numbers where none is told, which is so of no fact that an atom matches
 abbrev pub number_read : List (Option Number) → ℕ → ℕ → ℕ → Number
-number_read given f v j = unwrap_or (number_at given f v j) (record { 0 = 0 })
+number_read given f v j = unwrap_or (number_at given f v j) (record { 0 = 4294967295 })
 
 -- what the bits of variable v are to show: the number at its first place among the arguments, counted from j on, and any number where it has none
 unfoldable pub place_read : ℕ → ℕ → List Argument → List (Option Number) → ℕ → Option Number

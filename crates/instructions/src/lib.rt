@@ -29,7 +29,7 @@ fn place_of(v: u32, atom: Atom, given: &[Option<Number>; 96], f: usize) -> Optio
     let used = atom.count.min(3) as usize;
     for j in 0..used {
         if is_variable(v, atom.arguments[j]) {
-            return Some(number_of(given, f, v as usize, j).unwrap_or(Number(0)));
+            return Some(number_of(given, f, v as usize, j).unwrap_or(Number(u32::MAX)));
         }
     }
     None
