@@ -14,7 +14,6 @@ use Rattle.trees.proofs.Tests.{lt_or_ge}
 use Rattle.trees.proofs.TreeLaws.{asks_eval, fine_off, fine_on}
 use Rattle.trees.proofs.FunctionLaws.{tree_one}
 use Rattle.making.specs.declared.Made.{Made}
-use Rattle.walks.specs.declared.Counted.{Counted}
 use Rattle.std.specs.Prelude.{Option, Some, None}
 use Rattle.diagram.specs.declared.Instruction.{Instruction}
 use Rattle.diagram.specs.declared.Instruction.TheVariants.{Yes, And, Not, Since, Old, Drop}
@@ -22,7 +21,7 @@ use Rattle.making.specs.Tables.{Added}
 use Rattle.walks.specs.Walks.{Within}
 use Rattle.walks.specs.Desks.{Desk, Remembered}
 use Rattle.making.specs.Loans.{made}
-use Rattle.walks.specs.Complements.{Complemented, counted}
+use Rattle.walks.specs.Complements.{Counted, Complemented, counted}
 use Rattle.walks.proofs.DeskLaws.{desk_stays}
 use Rattle.walks.proofs.MapLaws.{map_is}
 use Rattle.walks.proofs.ComplementLaws.{complement_fits}

@@ -5,7 +5,6 @@ use Rattle.trees.specs.Tree.{Tree, off, eval, Fine, tree_of}
 use Rattle.trees.specs.Table.{add_trees, at, trees_of}
 use Rattle.making.specs.declared.Number.{Number}
 use Rattle.making.specs.declared.Made.{Made}
-use Rattle.walks.specs.declared.Counted.{Counted}
 use Rattle.walks.specs.declared.Seen.{Seen}
 use Rattle.diagram.specs.declared.Instruction.{Instruction}
 use Rattle.diagram.specs.declared.Instruction.TheVariants.{Yes, And, Not, Since, Old, Drop}
@@ -15,7 +14,7 @@ use Rattle.nodes.specs.Nodes.{Table, Front, Rest, To}
 use Rattle.making.specs.Cubes.{Over, SameShape}
 use Rattle.walks.specs.Walks.{Within}
 use Rattle.walks.specs.Desks.{Desk, Remembered}
-use Rattle.walks.specs.Complements.{map_of}
+use Rattle.walks.specs.Complements.{Counted, map_of}
 use Rattle.diagram.specs.Steps.{Turn, Task, facts, does, task_says, task_stages, new_trees, stages}
 use Rattle.diagram.specs.Counts.{counting, ceiling}
 

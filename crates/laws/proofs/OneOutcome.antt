@@ -17,8 +17,7 @@ use Rattle.nodes.specs.Nodes.{Rest, Table, Sides, Holds, Grown, Stuck}
 use Rattle.making.specs.declared.Made.{Made}
 use Rattle.std.specs.Prelude.{Option, Some, None}
 use Rattle.making.specs.Tables.{Added}
-use Rattle.walks.specs.declared.Counted.{Counted}
-use Rattle.walks.specs.Complements.{Complemented}
+use Rattle.walks.specs.Complements.{Counted, Complemented}
 use Rattle.diagram.specs.declared.Instruction.TheVariants as instruction
 use Rattle.diagram.specs.Steps.{Task, facts, does}
 use Rattle.diagram.specs.Works.{Reached, Short, TolledBy, RowDone}

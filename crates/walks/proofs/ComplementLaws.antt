@@ -13,10 +13,9 @@ use Rattle.visits.proofs.VisitSteps.{refines_leaf, refines_hit, apart_refines}
 use Rattle.std.specs.Prelude.{Option, Some, None}
 use Rattle.making.specs.Tables.{Shelved}
 use Rattle.making.proofs.WalkLaws.{front_less, joined}
-use Rattle.walks.specs.declared.Counted.{Counted}
 use Rattle.walks.specs.Walks.{Within}
 use Rattle.walks.specs.Desks.{Desk}
-use Rattle.walks.specs.Complements.{map_of, KeptNot, Complemented}
+use Rattle.walks.specs.Complements.{Counted, map_of, KeptNot, Complemented}
 use Rattle.walks.proofs.MapLaws.{map_at, map_length, map_is, map_write}
 use Rattle.walks.proofs.NotLaws.{not_leaf, not_node, map_hit}
 use Rattle.walks.proofs.StepLaws.{Step}

@@ -6,10 +6,9 @@ use Rattle.trees.specs.Table.{at, trees_of}
 use Rattle.trees.specs.Sizes.{node_count}
 use Rattle.visits.proofs.Visited.{complement_visits}
 use Rattle.std.specs.Prelude.{Some}
-use Rattle.walks.specs.declared.Counted.{Counted}
 use Rattle.walks.specs.Walks.{Within}
 use Rattle.walks.specs.Desks.{Desk}
-use Rattle.walks.specs.Complements.{map_of, Complemented}
+use Rattle.walks.specs.Complements.{Counted, map_of, Complemented}
 use Rattle.walks.proofs.MapLaws.{map_length}
 
 -- "Negation of a diagram of n nodes makes at most 2 × n + 1 visits": what `not_walk` promises is so

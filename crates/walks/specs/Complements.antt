@@ -4,9 +4,14 @@ use Rattle.trees.specs.Tree.{Tree, not_t}
 use Rattle.trees.specs.Table.{at, trees_of}
 use Rattle.nodes.specs.Nodes.{Grown, Stuck}
 use Rattle.visits.specs.Visits.{complement, Refines}
-use Rattle.walks.specs.declared.Counted.{Counted}
 use Rattle.walks.specs.declared.Seen.{Seen}
 use Rattle.walks.specs.Desks.{Desk}
+
+-- what a walk or a row that counts visits leaves: the count of nodes, the reference of the result, and how many visits it made
+pub record Counted : Type 0 where
+  pub count : ℕ
+  pub reference : ℕ
+  pub visits : ℕ
 
 -- the map of complements as a list: a number for each of the c places
 abbrev pub map_of : ℕ → List ℕ → List ℕ

@@ -108,14 +108,6 @@ pub struct Seen {
     pub visits: u32,
 }
 
-// The same of a row: with the count of nodes.
-#[derive(Clone, Copy)]
-pub struct Counted {
-    pub count: u32,
-    pub reference: u32,
-    pub visits: u32,
-}
-
 // The node x, which is the complement of p, made and written down after so many visits.
 fn keep_not(
     lent: &mut Lent<'_>,
