@@ -1,13 +1,15 @@
 -- Laws of the question about an event's counts: it asks, of each fact, each atom of the rule. Assumes nothing.
 use Prim.Native.Nat.{ℕ, zero, suc, min, ◌≤◌, ◌<◌}
 use mathlib.Core.Path.{◌≡◌, refl, sym, ◌∙◌}
-use mathlib.Core.Bool.{Bool, true, false, not, ◌&&◌, ◌||◌, and-false}
+use mathlib.Core.Bool.{Bool, true, false, not, ◌&&◌, ◌||◌}
 use mathlib.Core.List.{List, [], ◌∷◌, ◌++◌}
 use native.Mathlib.Omega.{arith}
 use lib.Dec.{eqb, leb}
-use lib.ListN.{length, take, length-take}
+use lib.ListN.{length, get_or, take, length-take}
 use borrow.Author.Tests.{ne_eqb, le-leb, lt-leb}
-use Rattle.std.specs.List.{list_all}
+use Rattle.std.specs.List.{list_all, range_with_len}
+use Rattle.std.proofs.lemmas.List.FromFn.{length-range_with_len, get_or-range_with_len}
+use Rattle.std.proofs.lemmas.List.Sums.{AllPass-from_list_all, list_all-from_AllPass}
 use Rattle.trees.specs.Kept.{all_below}
 use Rattle.trees.proofs.Tests.{false_true, not_true}
 use Rattle.trees.proofs.KeptLaws.{all_at, all_of}
@@ -71,23 +73,20 @@ fact_is raw f = rw (agree_all raw f (count_of_rows raw))
 pub counts_high : (raw : List ℕ) (p n : ℕ) → 3 < n → FactAgrees raw p n false
 counts_high raw p n h = record { each = λ f fp fn. sym (fact_is raw f ∙ rw (fn, lt-leb n 3 h)) }
 
--- an atom of the predicate has another count
-pub counts_other : (raw : List ℕ) (p n j : ℕ) → j < count_of_rows raw → other_count raw j p n ≡ true → FactAgrees raw p n false
-counts_other raw p n j l h = record {
-  each = λ f fp fn. sym (fact_is raw f
-      ∙ rw (
-        fp,
-        fn,
-        not_true (all_below (count_of_rows raw) (λ j. not (other_count raw j p n)))
-            (λ t. false_true refl (rw h at (all_at (count_of_rows raw) (λ j. not (other_count raw j p n)) t j l))),
-      ) (and-false (leb n 3)));
-}
+-- the numbers below n, tested one after the other
+pub all_numbers : (n : ℕ) (f : ℕ → Bool) → list_all f (range_with_len 0 n) ≡ all_below n f
+all_numbers n f = go (list_all f (range_with_len 0 n)) refl
+  where
+    at : (k d : ℕ) → k < n → get_or (range_with_len 0 n) k d ≡ k
+    at k d l = get_or-range_with_len 0 n k d l ∙ omega arith
+
+    go : (t : Bool) → list_all f (range_with_len 0 n) ≡ t → t ≡ all_below n f
+    go true e = sym (all_of n f (λ k l. rw (at k 0 l) at (AllPass-from_list_all f _ e k 0 (rw (length-range_with_len 0 n) l))))
+    go false e = sym (not_true (all_below n f) (λ h. false_true e (list_all-from_AllPass f (range_with_len 0 n) (λ k d l. let m : k < n = rw (length-range_with_len 0 n) at l in rw (at k d m) (all_at n f h k m)))))
 
 -- no atom of the predicate has another count
-pub counts_right : (raw : List ℕ) (p n : ℕ) → n ≤ 3 → ((j : ℕ) → j < count_of_rows raw → other_count raw j p n ≡ false) → FactAgrees raw p n true
-counts_right raw p n l h = record {
-  each = λ f fp fn. sym (fact_is raw f ∙ rw (fp, fn, le-leb n 3 l, all_of (count_of_rows raw) (λ j. not (other_count raw j p n)) (λ j k. rw (h j k))));
-}
+pub counts_all : (raw : List ℕ) (p n : ℕ) {r : Bool} → n ≤ 3 → r ≡ all_below (count_of_rows raw) (λ j. not (other_count raw j p n)) → FactAgrees raw p n r
+counts_all raw p n l e = record { each = λ f fp fn. e ∙ sym (fact_is raw f ∙ rw (fp, fn, le-leb n 3 l) refl) }
 
 -- what a read past the facts would give
 abbrev pub no_fact : Given

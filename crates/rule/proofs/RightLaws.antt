@@ -17,23 +17,9 @@ use Rattle.rule.specs.Table.{entry, used_as, used_pairs}
 use Rattle.rule.specs.Checking.{pairs_right, agrees_before, atom_of, other_count}
 use Rattle.rule.proofs.TableLaws.{entry_use}
 
--- a pair whose mark and value were read
-pub pair_read : (raw : List ℕ) (i j : ℕ) (used : Bool) {u : Bool} {m x : ℕ} {r : Bool} → u ≡ used → m ≡ field raw i (3 + 2 * j) → x ≡ field raw i (4 + 2 * j)
-    → r ≡ pair_right u m x → r ≡ pair_right used (field raw i (3 + 2 * j)) (field raw i (4 + 2 * j))
-pair_read raw i j used s p q e = e ∙ rw (s, p, q)
-
 -- the pair at place j of the row at place i, of which the first n are used
 abbrev pub pair_at : List ℕ → ℕ → ℕ → ℕ → Bool
 pair_at raw i n j = pair_right (ltb j n) (field raw i (3 + 2 * j)) (field raw i (4 + 2 * j))
-
--- one of the three is wrong, or none
-pub pair_wrong : (raw : List ℕ) (i n j : ℕ) → j < 3 → pair_at raw i n j ≡ false → false ≡ pairs_right raw i n
-unfolding pairs_right
-pair_wrong raw i n j l e = sym (not_true (all_below 3 (pair_at raw i n)) (λ t. false_true e (all_at 3 (pair_at raw i n) t j l)))
-
-pub pairs_all : (raw : List ℕ) (i n : ℕ) → ((j : ℕ) → j < 3 → pair_at raw i n j ≡ true) → true ≡ pairs_right raw i n
-unfolding pairs_right
-pairs_all raw i n h = sym (all_of 3 (pair_at raw i n) h)
 
 -- a field whose use was looked up
 pub field_read : (i x kind f : ℕ) {u : Entry} {r : Bool} → f < 2 → u ≡ entry kind f → r ≡ field_right i (used_as u) x → r ≡ field_right i (use_of kind f) x

@@ -5,6 +5,7 @@ use mathlib.Core.List.{List, [], ◌∷◌, map}
 use native.Mathlib.Omega.{arith}
 use lib.ListN.{get_or, take}
 use lib.Seq.{get_or-take}
+use borrow.Author.Tests.{ne_eqb}
 use Rattle.meaning.specs.Rows
 use Rattle.meaning.specs.Rows.{unused, uses, use_of}
 use Rattle.rule.specs.declared.right.Use.{Use}
@@ -44,14 +45,7 @@ pairs_used (suc (suc (suc (suc (suc (suc zero)))))) q some few e = cc
 pairs_used (suc (suc (suc (suc (suc (suc (suc zero))))))) q some few e = cc
 pairs_used (suc (suc (suc (suc (suc (suc (suc (suc kind)))))))) q some few e = absurd (omega arith)
 
-pub pairs_unused : (kind q : ℕ) → 0 < kind → kind ≤ 7 → (entry kind 2 ≡ Arguments → ⊥) → 0 ≡ used_pairs kind q
+-- and where they are not, none
+pub pairs_unused : (kind q : ℕ) → (entry kind 2 ≡ Arguments → ⊥) → 0 ≡ used_pairs kind q
 unfolding used_pairs entry table
-pairs_unused zero q some few e = absurd (omega arith)
-pairs_unused (suc zero) q some few e = refl
-pairs_unused (suc (suc zero)) q some few e = absurd (e refl)
-pairs_unused (suc (suc (suc zero))) q some few e = refl
-pairs_unused (suc (suc (suc (suc zero)))) q some few e = refl
-pairs_unused (suc (suc (suc (suc (suc zero))))) q some few e = refl
-pairs_unused (suc (suc (suc (suc (suc (suc zero)))))) q some few e = refl
-pairs_unused (suc (suc (suc (suc (suc (suc (suc zero))))))) q some few e = refl
-pairs_unused (suc (suc (suc (suc (suc (suc (suc (suc kind)))))))) q some few e = absurd (omega arith)
+pairs_unused kind q e = rw (ne_eqb kind 2 (λ z. e (rw z refl)))

@@ -125,15 +125,8 @@ pub fn check(rows: &[u32]) -> Result<[u32; 64], Fault>
 fn fact_agrees(rows: &[u32], predicate: u32, count: u32) -> bool
     ensures { FactAgrees rows.now predicate count result }
 {
-    if MOST_VALUES < count {
-        return false;
-    }
-    for i in 0..rows.len() / 9 {
-        if right::other_count(rows, i, predicate, count) {
-            return false;
-        }
-    }
-    true
+    count <= MOST_VALUES
+        && (0..rows.len() / 9).all(|i| !right::other_count(rows, i, predicate, count))
 }
 
 // The event has at most eight facts, and each agrees: refusal 5 is given where it is not so. Facts past the count are not looked at.

@@ -6,6 +6,9 @@ ghost use Rattle.rule.specs.Checking.{pairs_right, agrees_before, atom_of, other
 
 use super::field_of;
 
+// The kind of an atom.
+const ATOM: u32 = 2;
+
 // How a kind uses a field of its rows.
 #[derive(Clone, Copy)]
 pub enum Use {
@@ -76,14 +79,12 @@ fn pairs_right(rows: &[u32], i: usize, used: u32) -> bool
     requires { 9 * i + 9 ≤ length rows.now }
     ensures { result ≡ pairs_right rows.now i used }
 {
-    for j in 0..3 {
-        let mark = field_of(rows, i, 3 + 2 * j);
-        let value = field_of(rows, i, 4 + 2 * j);
-        if !pair_right((j as u32) < used, mark, value) {
-            return false;
-        }
-    }
-    true
+    (0..3).all(|j: u32| {
+        let at = 2 * j as usize;
+        let mark = field_of(rows, i, 3 + at);
+        let value = field_of(rows, i, 4 + at);
+        pair_right(j < used, mark, value)
+    })
 }
 
 // The row at place `i` keeps the row rules.
@@ -107,7 +108,7 @@ fn is_atom_of(rows: &[u32], i: usize, predicate: u32) -> bool
     requires { 9 * i + 9 ≤ length rows.now }
     ensures { result ≡ atom_of rows.now i predicate }
 {
-    field_of(rows, i, 0) == 2 && predicate == field_of(rows, i, 1)
+    field_of(rows, i, 0) == ATOM && predicate == field_of(rows, i, 1)
 }
 
 // The row at place `i` disagrees with no earlier row, where the earlier ones agree: the nearest atom of its predicate decides.
@@ -115,7 +116,7 @@ pub fn counts_agree(rows: &[u32], i: usize) -> bool
     requires { (9 * i + 9 ≤ length rows.now) × ((j : ℕ) → j < i → agrees_before rows.now j ≡ true) }
     ensures { result ≡ agrees_before rows.now i }
 {
-    if field_of(rows, i, 0) != 2 {
+    if field_of(rows, i, 0) != ATOM {
         return true;
     }
     let p = field_of(rows, i, 1);

@@ -6,12 +6,12 @@ use native.Mathlib.Omega.{arith}
 use Rattle.rule.proofs.RightLaws.{no_atom, first_atom, nearest_atom}
 use Rattle.rule.proofs.right.counts_agree.Goals as goal
 
-pub returns-then-field_of-ne2 : goal.returns-then-field_of-ne2
-returns-then-field_of-ne2 c = no_atom _ _ c.field_of.ensures c.if-field_of-ne2.true
+pub returns-then-field_of-ne-ATOM : goal.returns-then-field_of-ne-ATOM
+returns-then-field_of-ne-ATOM c = no_atom _ _ c.field_of.ensures c.if-field_of-ne-ATOM.true
 
 pub returns-then-is_atom_of : goal.returns-then-is_atom_of
 returns-then-is_atom_of c =
-    nearest_atom _ _ _ _ (sym c.field_of.ensures ∙ c.if-field_of-ne2.false) c.field_of-p.ensures (omega arith) (λ k h q. c.loop-j.invariant k (omega arith) q)
+    nearest_atom _ _ _ _ (sym c.field_of.ensures ∙ c.if-field_of-ne-ATOM.false) c.field_of-p.ensures (omega arith) (λ k h q. c.loop-j.invariant k (omega arith) q)
     (sym c.is_atom_of.ensures ∙ c.if-is_atom_of.true) (c.requires.1 _ (omega arith)) c.field_of-then-is_atom_of.ensures c.field_of-then-is_atom_of-2.ensures
 
 pub loop-j-preserved : goal.loop-j-preserved

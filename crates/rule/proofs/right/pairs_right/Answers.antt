@@ -1,16 +1,14 @@
-use mathlib.Core.Path.{refl, sym, ◌∙◌}
-use native.Mathlib.Omega.{arith}
-use borrow.Author.Count.{below_more}
-use Rattle.rule.proofs.RightLaws.{pair_read, pair_wrong, pairs_all}
+-- `rule::right::pairs_right` meets its contract: each of the three is asked. Assumes nothing.
+use Rattle.std.proofs.Common.{rules, tests, refl, ◌∙◌}
+use Rattle.std.proofs.lemmas.Iterator.{YieldsList-from_range}
+use Rattle.std.proofs.lemmas.Iterator.Search.{all_from_yields_List}
+use Rattle.rule.specs.Checking.{pairs_right}
+use Rattle.rule.proofs.AgreesLaws.{all_numbers}
+use Rattle.rule.proofs.RightLaws.{pair_at}
 use Rattle.rule.proofs.right.pairs_right.Goals as goal
 
-pub returns-then-not-pair_right : goal.returns-then-not-pair_right
-returns-then-not-pair_right c =
-    pair_wrong _ _ _ _ c.loop-j-test.true (sym (pair_read _ _ _ _ refl c.field_of-mark.ensures c.field_of-value.ensures c.pair_right.ensures) ∙ c.if-not-pair_right.true)
-
-pub loop-j-preserved : goal.loop-j-preserved
-loop-j-preserved c =
-    below_more _ _ c.loop-j.invariant (sym (pair_read _ _ _ _ refl c.field_of-mark.ensures c.field_of-value.ensures c.pair_right.ensures) ∙ c.if-not-pair_right.false)
-
 pub returns : goal.returns
-returns c = pairs_all _ _ _ (λ k h. c.loop-j.invariant k (omega arith))
+unfolding pairs_right
+returns c =
+    all_from_yields_List (pair_at c.args.rows.now c.args.i c.args.used) _ _ _ c.all.ensures.ran (YieldsList-from_range 0 3 3 refl refl) (λ x b q k. search (rules, tests))
+    ∙ all_numbers 3 (pair_at c.args.rows.now c.args.i c.args.used)

@@ -7,4 +7,4 @@ pub returns-in-Arguments : goal.returns-in-Arguments
 returns-in-Arguments c = pairs_used _ _ c.requires.0 c.requires.1 (sym c.use_of.ensures ∙ c.in-Arguments.is)
 
 pub returns-in_default : goal.returns-in_default
-returns-in_default c = pairs_unused _ _ c.requires.0 c.requires.1 (λ e. c.in_default.not-Arguments (c.use_of.ensures ∙ e))
+returns-in_default c = pairs_unused _ _ (λ e. c.in_default.not-Arguments (c.use_of.ensures ∙ e))
