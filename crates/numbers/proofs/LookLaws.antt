@@ -7,7 +7,7 @@ use native.Mathlib.Omega.{arith}
 use lib.Dec.{eqb, ltb, leb}
 use lib.ListN.{length, get_or, take, drop, length-map}
 use lib.Seq.{take-take}
-use borrow.Author.Tests.{lt-ltb, le-ltb, lt-leb, le-leb, leb-true, ltb-true, eqb-true, eq-eqb, ne_eqb}
+use borrow.Author.Tests.{lt-ltb, le-ltb, leb-true, ltb-true, eqb-true, eq-eqb, ne_eqb}
 use Rattle.std.specs.Prelude.{Option, Some, None}
 use Rattle.std.specs.List.{position_or_len}
 use Rattle.trees.proofs.Tests.{and_true_l, and_true_r}
@@ -110,33 +110,29 @@ module _ (xs : List Value) (y : ℕ) {r : Option ℕ}
       go true q = cc
       go false q = refl
 
+-- a k that is right is small
+pub small : (k : ℕ) → k_right k ≡ true → k ≤ 10
+unfolding k_right
+small k e = leb-true k 10 (and_true_r (ltb 0 k) (leb k 10) e)
+
 -- each test that fails leaves nothing to look in
 module _ (k : ℕ) (counts values : List ℕ) (v : ℕ) where
-  pub no_k : k ≡ 0 → false ≡ readable k counts values v
-  unfolding readable k_right
-  no_k e = rw e refl
-
-  pub large_k : 10 < k → false ≡ readable k counts values v
-  unfolding readable k_right
-  large_k h = rw (lt-ltb 0 k (omega arith), lt-leb k 10 h) refl
+  pub wrong_k : k_right k ≡ false → false ≡ readable k counts values v
+  unfolding readable
+  wrong_k e = rw e refl
 
   pub no_variable : 3 < v → false ≡ readable k counts values v
   unfolding readable
   no_variable h = rw (le-ltb v 4 h, and-false (values_right k values), and-false (k_right k))
 
-  module _ (pos : k ≡ 0 → ⊥) (few : k ≤ 10) where
-    right_k : k_right k ≡ true
-    unfolding k_right
-    right_k = rw (lt-ltb 0 k (omega (arith, pos)), le-leb k 10 few) refl
-
+  module _ (right_k : k_right k ≡ true) where
     pub no_parts : (length values ≡ 4 * most k → ⊥) → false ≡ readable k counts values v
     unfolding readable values_right
     no_parts h = rw (right_k, ne_eqb (length values) (4 * most k) h) refl
 
-    module _ (parts : length values ≡ 4 * most k) where
-      pub counted : v ≤ 3 → leb (get_or counts v 0) (most k) ≡ readable k counts values v
-      unfolding readable values_right
-      counted h = rw (right_k, eq-eqb (length values) (4 * most k) parts, lt-ltb v 4 (omega arith)) refl
+    pub counted : length values ≡ 4 * most k → v ≤ 3 → leb (get_or counts v 0) (most k) ≡ readable k counts values v
+    unfolding readable values_right
+    counted parts h = rw (right_k, eq-eqb (length values) (4 * most k) parts, lt-ltb v 4 (omega arith)) refl
 
   -- where there is something to look in, it is the variable's part
   module _ (r : readable k counts values v ≡ true) where

@@ -87,10 +87,9 @@ impl Noted {
         ensures { Carried parts.now.counts (part_of parts.now.m parts.now.counts parts.now.values.now) (fact_of fact).values (λ M. ask_rows (fact_of fact) M (rule_of rows.now)) (AskedBy (fact_of fact) rows.now (count_of_rows rows.now)) (sheet self.old.counts self.old.fresh self.old.numbers) (sheet self.new.counts self.new.fresh self.new.numbers) }
     {
         for i in 0..rows.len() / 9 {
-            if !matches(rule::row_at(rows, i), fact) {
-                continue;
+            if matches(rule::row_at(rows, i), fact) {
+                self.ask_arguments(parts, rows, i, fact);
             }
-            self.ask_arguments(parts, rows, i, fact);
         }
     }
 }

@@ -7,7 +7,7 @@ pub mod looking; // looking.rt: a value's number, and whether one is left
 pub mod matching; // matching.rt: the atoms that match a fact
 
 ghost use Rattle.std.specs.Prelude.{◌≡◌, ◌+◌, ◌*◌, ◌<◌, ◌≤◌, length, get_or};
-ghost use Rattle.meaning.specs.Outcome.{fact_of};
+ghost use Rattle.meaning.specs.Outcome.{fact_of, k_right};
 ghost use Rattle.meaning.specs.Tables;
 ghost use Rattle.numbers.specs.Asking.{number_at};
 ghost use Rattle.numbers.specs.Looking.{number_told};
@@ -56,6 +56,21 @@ pub fn most(k: u32) -> u32
     ensures { result ≡ Tables.most k }
 {
     (1 << k) - 1
+}
+
+// "k from 1 to 10"
+pub fn k_right(k: u32) -> bool
+    ensures { result ≡ k_right k }
+{
+    (1..=10).contains(&k)
+}
+
+// The length of the value slice: four parts, each of the most values of a variable.
+pub fn listed(k: u32) -> usize
+    requires { k ≤ 10 }
+    ensures { result ≡ 4 * Tables.most k }
+{
+    4 * most(k) as usize
 }
 
 // The number that variable v has for value j of fact f, if any: the table `given` is read here and nowhere else.

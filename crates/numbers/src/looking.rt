@@ -5,7 +5,7 @@ ghost use Rattle.numbers.specs.Asking.{part_of};
 ghost use Rattle.numbers.specs.Looking;
 ghost use Rattle.numbers.specs.Looking.{looked_up, look_up};
 
-use super::{Lookup, most};
+use super::{Lookup, k_right, listed, most};
 use making::Number;
 use meaning::Value;
 
@@ -45,11 +45,10 @@ impl Parts<'_> {
 fn readable(k: u32, counts: [u32; 4], values: &[u32], variable: u32) -> bool
     ensures { result ≡ Looking.readable k counts values.now variable }
 {
-    if k == 0 || 10 < k || 3 < variable {
+    if !k_right(k) || 3 < variable {
         return false;
     }
-    let m = most(k);
-    values.len() == (4 * m) as usize && counts[variable as usize] <= m
+    values.len() == listed(k) && counts[variable as usize] <= most(k)
 }
 
 // "Is this lot new to the rule?" Whether the variable has a number for y, and whether one is left where it has none. The value slice
