@@ -7,9 +7,9 @@ use nodes::table::Nodes;
 
 // Walks the diagram of the node r, which is not among the n nodes passed so far: low side first, then high, each unless it was
 // passed, then the node itself, which must stand at the place of the count. Gives the count; None where a node stands out of order.
-fn in_order(nodes: Nodes, n: u32, r: u32) -> Option<u32>
-    requires n_le_count { (n ≤ nodes.count) × (n + 2 ≤ r) × (r < nodes.count + 2) }
-    ensures { Follows nodes.entry.slice.now nodes.entry.count n r result }
+fn in_order(nodes: &Nodes<'_>, n: u32, r: u32) -> Option<u32>
+    requires n_le_count { (n ≤ nodes.now.count) × (n + 2 ≤ r) × (r < nodes.now.count + 2) }
+    ensures { Follows nodes.now.slice.now nodes.now.count n r result }
 {
     let node = nodes.read(r);
     let (low, high) = (node.low, node.high);
@@ -35,7 +35,7 @@ pub fn rows_in_order(nodes: Nodes, rows: &[u32]) -> bool
     let mut n = 0;
     for r in rows {
         if n + 2 <= *r {
-            let Some(count) = in_order(nodes, n, *r) else {
+            let Some(count) = in_order(&nodes, n, *r) else {
                 return false;
             };
             n = count;
