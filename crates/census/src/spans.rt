@@ -25,6 +25,8 @@ pub struct Names<'a> {
 }
 
 impl Names<'_> {
+    ghost use Rattle.std.specs.Prelude.{◌≤◌, length};
+    ghost use Rattle.text.specs.Unfold.{number_in};
     ghost use Rattle.census.specs.Tables.{names_at, Found};
 
     // The number of a name, where it is one of these.
@@ -39,5 +41,13 @@ impl Names<'_> {
             }
         }
         None
+    }
+
+    // The number of a name, which is how many there are where it is none of these.
+    pub fn number(self, name: &[u8]) -> usize
+        ensures number { result ≡ number_in (names_at self.entry.text.now self.entry.spans.now) name.now }
+        ensures few { result ≤ length self.entry.spans.now }
+    {
+        self.find(name).unwrap_or(self.spans.len())
     }
 }

@@ -38,12 +38,11 @@ fn word_end(text: &[u8], at: usize) -> usize
     requires { at ≤ length text.now }
     ensures { Ends text.now at result }
 {
-    for i in at..text.len() {
-        if !is_word_byte(text[i]) {
-            return i;
-        }
-    }
-    text.len()
+    let rest = &text[at..];
+    at + rest
+        .iter()
+        .position(|b| !is_word_byte(*b))
+        .unwrap_or(rest.len())
 }
 
 // The end of the spaces from `at` on.
@@ -51,12 +50,8 @@ fn spaces_end(text: &[u8], at: usize) -> usize
     requires { at ≤ length text.now }
     ensures { Skips text.now at result }
 {
-    for i in at..text.len() {
-        if text[i] != b' ' {
-            return i;
-        }
-    }
-    text.len()
+    let rest = &text[at..];
+    at + rest.iter().position(|b| *b != b' ').unwrap_or(rest.len())
 }
 
 // The first word from `at` on, or none where no word is left, for a text that spells words from there.
