@@ -33,10 +33,10 @@ fn add(names: Names, nine: &mut [u32; 9], w: Taken)
     let bytes = &names.text[w.from..w.past];
     match w.word {
         Kind::Name => {
-            let slot = names.find(bytes).unwrap_or(names.spans.len());
-            put(nine, 0, slot as u32);
+            put(nine, 0, names.number(bytes) as u32);
         }
         Kind::Constant => {
+            // A text with a constant of no value has refusal 4, which comes first.
             put(nine, 1, value_of(bytes).unwrap_or(0));
         }
         _ => {}

@@ -143,7 +143,7 @@ module _ (text : List ℕ) (spans : List Span) (counts : List (Option ℕ)) (mod
 
         module _ (z : asked ≡ true) where
           compared : Compared (get_or counts (number_in (names_at text spans) (take (taken.past - taken.from) (drop taken.from text))) None) (number_in (names_at text spans) (take (taken.past - taken.from) (drop taken.from text))) (arguments_in stepped.ws) counts counts' r
-          compared = (rw z at t) stepped.ws left_spells
+          compared = ((rw z at t) stepped.ws left_spells).1
 
           named_so : get_or (names_at text spans) (number_in (names_at text spans) (take (taken.past - taken.from) (drop taken.from text))) [] ≡ take (taken.past - taken.from) (drop taken.from text)
           named_so = number_at (names_at text spans) (take (taken.past - taken.from) (drop taken.from text)) (clash_listed z)

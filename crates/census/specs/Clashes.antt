@@ -1,5 +1,5 @@
 -- Names with the counts of their arguments, and refusal 7 by them. Assumes nothing: these are definitions.
-use Rattle.std.specs.Prelude.{ℕ, ◌-◌, ◌≤◌, ◌≡◌, Bool, true, false, not, ◌||◌, List, [], ◌∷◌, eqb, take, drop, get_or, set, length, Option, Some, None}
+use Rattle.std.specs.Prelude.{ℕ, ◌-◌, ◌≤◌, ◌<◌, ◌≡◌, Bool, true, false, not, ◌||◌, List, [], ◌∷◌, eqb, take, drop, get_or, set, length, Option, Some, None}
 use Rattle.text.specs.Words.{Word, same}
 use Rattle.text.specs.Grammar.{Reading, RuleText}
 use Rattle.text.specs.Unfold.{atoms, number_in, predicate_names}
@@ -55,7 +55,8 @@ abbrev pub Settled : List ℕ → List (List ℕ) → Bool → ℕ → ℕ → L
 Settled text names false from past counts counts' r = (counts' ≡ counts) × (r ≡ false)
 Settled text names true from past counts counts' r =
     (ws : List Word) → Spells ws (drop past text)
-    → Compared (get_or counts (number_in names (take (past - from) (drop from text))) None) (number_in names (take (past - from) (drop from text))) (arguments_in ws) counts counts' r
+    → (arguments_in ws < 65535)
+    × Compared (get_or counts (number_in names (take (past - from) (drop from text))) None) (number_in names (take (past - from) (drop from text))) (arguments_in ws) counts counts' r
 
 -- the table has the names of predicates
 pub record Predicates (text : List ℕ) (spans : List Span) : Type 0 where

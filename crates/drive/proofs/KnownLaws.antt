@@ -4,27 +4,18 @@ use native.Mathlib.Omega.{arith}
 use mathlib.Core.Path.{◌≡◌, refl, ap, ◌∙◌}
 use mathlib.Core.Bool.{Bool}
 use mathlib.Core.List.{List, [], ◌∷◌}
-use lib.ListN.{length, take, drop}
+use lib.ListN.{take, drop}
 use Rattle.std.specs.Prelude.{Option, Some, None}
-use Rattle.std.specs.Option.{unwrap_or}
 use Rattle.meaning.specs.Rows
 use Rattle.text.specs.Words.{Word, Spelled}
 use Rattle.text.specs.Unfold.{number_in}
 use Rattle.text.specs.Parts.{nine}
 use Rattle.spelling.specs.declared.words.Taken.{Taken}
 use Rattle.spelling.specs.Codes.{Next}
-use Rattle.census.specs.declared.spans.Span.{Span}
-use Rattle.census.specs.Tables.{names_at, Found}
-use Rattle.census.proofs.TableLaws.{table_length}
 use Rattle.rowing.specs.Denoted.{Makes}
 use Rattle.atomic.specs.Arguments.{arguments_after, Numbers}
 use Rattle.drive.specs.Drives.{slot_after}
 use Rattle.drive.specs.Driving.{SlotAt, Atomic}
-
-module _ (text : List ℕ) (spans : List Span) (name : List ℕ) where
-  pub number_or : (r : Option ℕ) (v : ℕ) → Found (names_at text spans) name r → v ≡ unwrap_or r (length spans) → (v ≡ number_in (names_at text spans) name) × (v ≤ length spans)
-  number_or (Some i) v f e = (e ∙ f.0, omega (arith, f.1, table_length text spans))
-  number_or None v f e = (omega (arith, f, table_length text spans), omega arith)
 
 pub atom_made : (ps vs : List (List ℕ)) (text bytes : List ℕ) (at p : ℕ) (numbers : List ℕ) (table table' : List (List ℕ)) (row' : Option ℕ) → p ≡ number_in ps bytes
     → Numbers vs text p at numbers → Makes table numbers table' row' → Atomic ps vs text bytes at table table' row'

@@ -44,8 +44,7 @@ impl<'a> Known<'a> {
     pub fn predicate(self, name: &[u8]) -> u32
         ensures { result ≡ number_in (names_at self.entry.text.now self.entry.predicates.now) name.now }
     {
-        let names = self.predicate_names();
-        names.find(name).unwrap_or(names.spans.len()) as u32
+        self.predicate_names().number(name) as u32
     }
 
     // The slot of the variable with the name, or how many there are.
@@ -53,7 +52,6 @@ impl<'a> Known<'a> {
         ensures slot { result ≡ number_in (names_at self.entry.text.now self.entry.variables.now) name.now }
         ensures small { result ≤ 4 }
     {
-        let names = self.variable_names();
-        names.find(name).unwrap_or(names.spans.len()) as u8
+        self.variable_names().number(name) as u8
     }
 }

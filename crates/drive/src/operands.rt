@@ -24,10 +24,11 @@ fn slot_after(known: Known, at: usize) -> u8
     requires { Lexed known.text.now at }
     ensures { SlotAt (names_at known.entry.text.now known.entry.variables.now) known.entry.text.now at result }
 {
-    let Some(w) = next_word(known.text, at) else {
-        return 0;
-    };
-    known.slot(&known.text[w.from..w.past])
+    match next_word(known.text, at) {
+        Some(w) => known.slot(&known.text[w.from..w.past]),
+        // The text ends at its quantifier, which no rule text does.
+        None => 0,
+    }
 }
 
 // The row of the atom whose name is the word.

@@ -29,7 +29,7 @@ pub bounds-counts-i-in-None : goal.bounds-counts-i-in-None
 bounds-counts-i-in-None c = omega (arith, find_number _ _ _ _ c.find.ensures c.unwrap-i.ensures, table_length c.args.names.text.now c.args.names.spans.now, c.requires.bounds.1)
 
 pub returns-in-Some : goal.returns-in-Some
-returns-in-Some c = settled_old _ _ _ _ _ _ (sym c.is_name.ensures ∙ c.if-not-is_name.false) _ _ c.count_arguments-count.ensures (find_number _ _ _ _ c.find.ensures c.unwrap-i.ensures).0 _ (get_or_default c.args.counts.now c.unwrap-i.result None c.index-counts-i.result (omega (arith, find_number _ _ _ _ c.find.ensures c.unwrap-i.ensures, table_length c.args.names.text.now c.args.names.spans.now, c.requires.bounds.1, c.told-counts)) ∙ sym c.get.ensures ∙ c.in-Some.is)
+returns-in-Some c = settled_old _ _ _ _ _ _ (sym c.is_name.ensures ∙ c.if-not-is_name.false) _ _ c.requires.bounds.0 c.count_arguments-count.ensures (find_number _ _ _ _ c.find.ensures c.unwrap-i.ensures).0 _ (get_or_default c.args.counts.now c.unwrap-i.result None c.index-counts-i.result (omega (arith, find_number _ _ _ _ c.find.ensures c.unwrap-i.ensures, table_length c.args.names.text.now c.args.names.spans.now, c.requires.bounds.1, c.told-counts)) ∙ sym c.get.ensures ∙ c.in-Some.is)
 
 pub returns-in-None : goal.returns-in-None
-returns-in-None c = rw c.count.ensures (settled_new _ _ _ _ _ _ (sym c.is_name.ensures ∙ c.if-not-is_name.false) _ _ c.count_arguments-count.ensures (find_number _ _ _ _ c.find.ensures c.unwrap-i.ensures).0 (get_or_default c.args.counts.now c.unwrap-i.result None c.index-counts-i.result (omega (arith, find_number _ _ _ _ c.find.ensures c.unwrap-i.ensures, table_length c.args.names.text.now c.args.names.spans.now, c.requires.bounds.1, c.told-counts)) ∙ sym c.get.ensures ∙ c.in-None.is))
+returns-in-None c = rw c.count.ensures (settled_new _ _ _ _ _ _ (sym c.is_name.ensures ∙ c.if-not-is_name.false) _ _ c.requires.bounds.0 c.count_arguments-count.ensures (find_number _ _ _ _ c.find.ensures c.unwrap-i.ensures).0 (get_or_default c.args.counts.now c.unwrap-i.result None c.index-counts-i.result (omega (arith, find_number _ _ _ _ c.find.ensures c.unwrap-i.ensures, table_length c.args.names.text.now c.args.names.spans.now, c.requires.bounds.1, c.told-counts)) ∙ sym c.get.ensures ∙ c.in-None.is))
