@@ -56,10 +56,7 @@ pub fn begun() -> Carried
 pub fn records(piece: &[u8]) -> usize
     ensures { result ≡ get_or piece.now 1 0 }
 {
-    match piece.get(1) {
-        Some(count) => usize::from(*count),
-        None => 0,
-    }
+    piece.get(1).map_or(0, |count| usize::from(*count))
 }
 
 // A block of a good shape: a moment that is open runs on into it where it has the next number. Number comes after shape: a block that isn't above

@@ -10,7 +10,7 @@ use card_text::{
     read_full, turn, unlink, write_out,
 };
 use std::fs::File;
-use std::io::Write;
+use std::io::{Error, Write};
 use std::ops::ControlFlow;
 use std::os::unix::fs::FileExt;
 use std::rt::Files;
@@ -25,6 +25,12 @@ impl From<Said> for Stop {
     }
 }
 
+impl From<Error> for Stop {
+    fn from(_: Error) -> Stop {
+        Stop
+    }
+}
+
 // The places that a file may have: 2^40 blocks.
 const PLACES: u64 = 1099511627776;
 
@@ -33,9 +39,7 @@ fn flagged_ahead(file: &File, from: u64, carried: Carried) -> Result<bool, Stop>
     let mut carries = carried;
     let mut piece = [0u8; 512];
     for place in from..PLACES {
-        let Ok(n) = file.read_at(&mut piece, place * 512) else {
-            return Err(Stop);
-        };
+        let n = file.read_at(&mut piece, place * 512)?;
         if n == 0 {
             return Ok(false);
         }
@@ -78,9 +82,7 @@ impl Mending<'_> {
             return Err(Stop);
         }
         let block = card_mender::kept_block(piece, from, end);
-        if self.to.write_all(&block).is_err() {
-            return Err(Stop);
-        }
+        self.to.write_all(&block)?;
         Ok(())
     }
 
@@ -142,9 +144,7 @@ fn mend_into(file: &File, to: &mut File, streams: Streams) -> Result<(), Stop> {
     let mended = mending.mend_all();
     progress_end(streams.stderr);
     // The system may tell only now that what was written found no room.
-    if to.sync_all().is_err() {
-        return Err(Stop);
-    }
+    to.sync_all()?;
     mended
 }
 

@@ -123,10 +123,7 @@ pub fn argument<'a, R: Env>(rt: &R, place: usize, words: &'a mut [u8; 4096]) -> 
 
 // The path that a name is. A path is text: what is no UTF-8 names no file.
 fn path(name: &[u8]) -> std::io::Result<&str> {
-    match str::from_utf8(name) {
-        Ok(text) => Ok(text),
-        Err(_) => Err(Error::from(ErrorKind::InvalidFilename)),
-    }
+    str::from_utf8(name).map_err(|_| Error::from(ErrorKind::InvalidFilename))
 }
 
 // Opens the file of this name to read it.
