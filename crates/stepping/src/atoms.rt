@@ -7,10 +7,9 @@ ghost use Rattle.diagram.specs.Steps.{turns_say, turn_stages};
 ghost use Rattle.diagram.specs.Works.{Worked};
 ghost use Rattle.instructions.specs.Planned.{turns_to};
 
+use crate::Moment;
 use diagram::turns::take_turn;
-use making::Number;
 use making::lent::{Layout, Lent};
-use meaning::Event;
 use rule::Row;
 
 // The new diagram of a row to which each fact adds what it has.
@@ -19,17 +18,16 @@ pub fn atom(
     layout: Layout,
     k: u32,
     read: Row,
-    event: &Event,
-    given: &[Option<Number>; 96],
+    moment: Moment<'_>,
 ) -> Option<u32>
-    requires { (k ≤ 10) × (event.now.count ≤ 8) × (length given.now ≡ 96) × Desk lent.old.nodes.now lent.old.count (4 * k) lent.old.work.now layout.c layout.slots }
+    requires { (k ≤ 10) × Desk lent.old.nodes.now lent.old.count (4 * k) lent.old.work.now layout.c layout.slots }
     ensures same { SameLoans lent.old lent.new }
-    ensures worked { Worked (4 * k) lent.old.nodes.now lent.new.nodes.now lent.old.count (turn_stages k [] (turns_to (row_of read) event.now given.now event.now.count)) (turns_say k (turns_to (row_of read) event.now given.now event.now.count)) lent.old.work.now lent.new.work.now layout.c layout.slots (made lent.new.count result) }
+    ensures worked { Worked (4 * k) lent.old.nodes.now lent.new.nodes.now lent.old.count (turn_stages k [] (turns_to (row_of read) moment.entry.event.now moment.entry.given.now moment.entry.event.now.count)) (turns_say k (turns_to (row_of read) moment.entry.event.now moment.entry.given.now moment.entry.event.now.count)) lent.old.work.now lent.new.work.now layout.c layout.slots (made lent.new.count result) }
 {
     let mut reference = 0;
-    for f in 0..event.count as usize {
-        let matched = numbers::matches(read, event.facts[f]);
-        let turn = instructions::turn(read, matched, given, f);
+    for f in 0..moment.event.count as usize {
+        let matched = numbers::matches(read, moment.event.facts[f]);
+        let turn = instructions::turn(read, matched, moment.given, f);
         reference = take_turn(lent, layout, k, turn, reference)?;
     }
     Some(reference)

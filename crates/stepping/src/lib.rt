@@ -32,6 +32,15 @@ pub struct Stepped {
     pub swept: u32,
 }
 
+// One event at a rule that is right: the rule's rows, what happens, and the numbers of the facts' values.
+#[derive(Clone, Copy)]
+struct Moment<'a> {
+    rows: &'a [u32],
+    event: &'a Event,
+    given: &'a [Option<Number>; 96],
+    ghost right: { (check_rows rows.now ≡ right) × (event.now.count ≤ 8) × (length given.now ≡ 96) × (length event.now.facts ≡ 8) },
+}
+
 // Whether the numbers and lengths are ones that a step can work with.
 fn fit(k: u32, count: u32, nodes: usize, work: usize) -> bool
     ensures { Decides (Fits k count nodes work) result }
@@ -104,7 +113,12 @@ pub fn step(
         work[0..16 * c + 1024].fill(0);
         return Err(Refused::Bad);
     }
-    worked(k, rows, event, given, refs, sizes, kept, nodes, work)
+    let moment = Moment {
+        rows,
+        event: &event,
+        given,
+    };
+    worked(k, moment, refs, sizes, kept, nodes, work)
 }
 
 // Checks the diagrams and their sizes, and changes none.

@@ -16,13 +16,11 @@ ghost use Rattle.diagram.specs.Works.{Fits, Leads, RowDone, Fresh, Ready};
 ghost use Rattle.instructions.specs.Planned.{asked, planned};
 ghost use Rattle.stepping.specs.Answers.{told_of, AllWorked};
 
-use crate::Stepped;
 use crate::atoms::atom;
+use crate::{Moment, Stepped};
 use diagram::row::{row, unvisited};
 use diagram::{Done, Refused};
-use making::Number;
 use making::lent::{Layout, Lent};
-use meaning::Event;
 use nodes::table::Nodes;
 use rule::Row;
 use sweeping::renew;
@@ -35,18 +33,17 @@ fn one_row(
     k: u32,
     i: u32,
     read: Row,
-    event: &Event,
-    given: &[Option<Number>; 96],
+    moment: Moment<'_>,
     olds: &[u32; 64],
     news: &[u32; 64],
 ) -> Option<Seen>
-    requires k_bound { (k ≤ 10) × (event.now.count ≤ 8) × Desk lent.old.nodes.now lent.old.count (4 * k) lent.old.work.now layout.c layout.slots }
-    requires leads { Leads lent.old.nodes.now lent.old.count (4 * k) olds.now × Leads lent.old.nodes.now lent.old.count (4 * k) news.now × (length given.now ≡ 96) }
+    requires k_bound { (k ≤ 10) × Desk lent.old.nodes.now lent.old.count (4 * k) lent.old.work.now layout.c layout.slots }
+    requires leads { Leads lent.old.nodes.now lent.old.count (4 * k) olds.now × Leads lent.old.nodes.now lent.old.count (4 * k) news.now }
     ensures same { SameLoans lent.old lent.new }
-    ensures done { RowDone k lent.old.nodes.now lent.new.nodes.now lent.old.count olds.now news.now i (asked (row_of read) event.now given.now) lent.old.work.now lent.new.work.now layout.c layout.slots (counted lent.new.count result) }
+    ensures done { RowDone k lent.old.nodes.now lent.new.nodes.now lent.old.count olds.now news.now i (asked (row_of read) moment.entry.event.now moment.entry.given.now) lent.old.work.now lent.new.work.now layout.c layout.slots (counted lent.new.count result) }
 {
     if instructions::is_atom(read) {
-        return unvisited(atom(lent, layout, k, read, event, given));
+        return unvisited(atom(lent, layout, k, read, moment));
     }
     let x = instructions::instruction(read);
     row(lent, layout, k, i, x, olds, news)
@@ -58,22 +55,20 @@ fn work_rows(
     lent: &mut Lent<'_>,
     layout: Layout,
     k: u32,
-    rows: &[u32],
-    event: &Event,
-    given: &[Option<Number>; 96],
+    moment: Moment<'_>,
     olds: &[u32; 64],
     news: &mut [u32; 64],
 ) -> Option<u32>
-    requires k_bound { (k ≤ 10) × (check_rows rows.now ≡ right) × (event.now.count ≤ 8) × (length given.now ≡ 96) × Desk lent.old.nodes.now lent.old.count (4 * k) lent.old.work.now layout.c layout.slots }
+    requires k_bound { (k ≤ 10) × Desk lent.old.nodes.now lent.old.count (4 * k) lent.old.work.now layout.c layout.slots }
     requires leads { Leads lent.old.nodes.now lent.old.count (4 * k) olds.now × (news.old ≡ replicate 64 0) }
-    requires by_index { ((a : ℕ) → count_of_rows rows.now ≤ a → get_or olds.now a 0 ≡ 0) × Fresh lent.old.nodes.now lent.old.count lent.old.work.now layout.c }
+    requires by_index { ((a : ℕ) → count_of_rows moment.rows.now ≤ a → get_or olds.now a 0 ≡ 0) × Fresh lent.old.nodes.now lent.old.count lent.old.work.now layout.c }
     ensures same { SameLoans lent.old lent.new }
-    ensures all { AllWorked k (planned rows.now event.now given.now) (diagrams lent.old.nodes.now lent.old.count olds.now (count_of_rows rows.now)) lent.old.nodes.now lent.old.count lent.new.nodes.now lent.new.work.now layout.c layout.slots olds.now (count_of_rows rows.now) lent.new.count result news.new }
+    ensures all { AllWorked k (planned moment.entry.rows.now moment.entry.event.now moment.entry.given.now) (diagrams lent.old.nodes.now lent.old.count olds.now (count_of_rows moment.entry.rows.now)) lent.old.nodes.now lent.old.count lent.new.nodes.now lent.new.work.now layout.c layout.slots olds.now (count_of_rows moment.entry.rows.now) lent.new.count result news.new }
 {
     let mut visits = 0;
-    for i in 0..rows.len() / 9 {
-        let read = rule::row_at(rows, i);
-        let done = one_row(lent, layout, k, i as u32, read, event, given, olds, news)?;
+    for i in 0..moment.rows.len() / 9 {
+        let read = rule::row_at(moment.rows, i);
+        let done = one_row(lent, layout, k, i as u32, read, moment, olds, news)?;
         news[i] = done.reference;
         visits += done.visits;
     }
@@ -92,20 +87,18 @@ fn slots_for(c: usize, kept: u32) -> usize
 // Works an event on diagrams that are well kept.
 pub fn worked(
     k: u32,
-    rows: &[u32],
-    event: Event,
-    given: &[Option<Number>; 96],
+    moment: Moment<'_>,
     refs: &mut [u32; 64],
     sizes: &mut [u32; 64],
     kept: u32,
     nodes: &mut [u32],
     work: &mut [u32],
 ) -> Result<Stepped, Refused>
-    requires rows_value { (check_rows rows.now ≡ right) × (event.count ≤ 8) × (length given.now ≡ 96) × (length sizes.old ≡ 64) }
-    requires fits { Fits k (count_of_rows rows.now) (length nodes.old) (length work.old) }
-    requires ready { Ready k (count_of_rows rows.now) refs.old kept nodes.old × Chained nodes.old kept work.old }
-    ensures leaves { Leaves (work_outcome (leb (length (work_table k (count_of_rows rows.now) (planned rows.now event given.now) refs.old kept nodes.old)) (length nodes.old / 3)) k (count_of_rows rows.now) (planned rows.now event given.now) refs.old sizes.old kept nodes.old work.old) (told_of result) refs.new sizes.new nodes.new work.new }
-    ensures visits { IfOk result (λ s. Visited k (count_of_rows rows.now) (planned rows.now event given.now) refs.old kept nodes.old s.done.kept s.complements s.swept) }
+    requires sizes_long { length sizes.old ≡ 64 }
+    requires fits { Fits k (count_of_rows moment.rows.now) (length nodes.old) (length work.old) }
+    requires ready { Ready k (count_of_rows moment.rows.now) refs.old kept nodes.old × Chained nodes.old kept work.old }
+    ensures leaves { Leaves (work_outcome (leb (length (work_table k (count_of_rows moment.entry.rows.now) (planned moment.entry.rows.now moment.entry.event.now moment.entry.given.now) refs.old kept nodes.old)) (length nodes.old / 3)) k (count_of_rows moment.entry.rows.now) (planned moment.entry.rows.now moment.entry.event.now moment.entry.given.now) refs.old sizes.old kept nodes.old work.old) (told_of result) refs.new sizes.new nodes.new work.new }
+    ensures visits { IfOk result (λ s. Visited k (count_of_rows moment.entry.rows.now) (planned moment.entry.rows.now moment.entry.event.now moment.entry.given.now) refs.old kept nodes.old s.done.kept s.complements s.swept) }
 {
     let c = nodes.len() / 3;
     let slots = slots_for(c, kept);
@@ -117,13 +110,13 @@ pub fn worked(
         count: kept,
     };
     let layout = Layout { c, slots };
-    let Some(visits) = work_rows(&mut lent, layout, k, rows, &event, given, refs, &mut news) else {
+    let Some(visits) = work_rows(&mut lent, layout, k, moment, refs, &mut news) else {
         nodes[3 * (kept as usize)..].fill(0);
         work[0..16 * c + 1024].fill(0);
         return Err(Refused::Full);
     };
     let room = lent.count;
-    let count = (rows.len() / 9) as u32;
+    let count = (moment.rows.len() / 9) as u32;
     let y = renew(nodes, room, work, 4 * k, &news, count, refs);
     let table = Nodes {
         slice: nodes,

@@ -51,7 +51,7 @@ worked-requires c =
     let f = rw c.if-not-fit.false at c.fit.ensures in
     let good = c.if-not-kept_right.false in
     record {
-      rows_value = (c.requires.0, c.requires.1, c.requires.2, c.requires.4);
+      sizes_long = c.requires.4;
       fits = rw done.auto.work f;
       ready = (
         ready s.k s.free.now (length s.nodes.now / 3) (count_of_rows s.rows.now) s.refs.now s.kept s.nodes.now f.least f.few c.requires.3 f.whole f.small

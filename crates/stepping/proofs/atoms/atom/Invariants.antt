@@ -9,4 +9,4 @@ use Rattle.stepping.proofs.atoms.atom.Given as goal
 abbrev pub invariant-loop-f : goal.invariant-loop-f
 invariant-loop-f l =
     SameLoans l.initial.lent l.lent
-    × Turning l.k (turns_to (row_of l.read) l.event l.given l.event.count) (places (row_of l.read) l.given) l.initial.lent.nodes.now l.initial.lent.count l.lent.nodes.now l.lent.count l.reference l.f l.initial.lent.work.now l.lent.work.now l.layout.c l.layout.slots
+    × Turning l.k (turns_to (row_of l.read) l.moment.event.now l.moment.given.now l.moment.event.now.count) (places (row_of l.read) l.moment.given.now) l.initial.lent.nodes.now l.initial.lent.count l.lent.nodes.now l.lent.count l.reference l.f l.initial.lent.work.now l.lent.work.now l.layout.c l.layout.slots

@@ -9,4 +9,4 @@ use Rattle.stepping.proofs.rows.work_rows.Given as goal
 abbrev pub invariant-loop-i : goal.invariant-loop-i
 invariant-loop-i l =
     SameLoans l.initial.lent l.lent
-    × Through l.k (planned l.rows l.event l.given) (diagrams l.initial.lent.nodes.now l.initial.lent.count l.olds (count_of_rows l.rows)) l.initial.lent.nodes.now l.initial.lent.count l.lent.nodes.now l.lent.count l.lent.work.now l.layout.c l.layout.slots l.olds l.news l.i l.visits
+    × Through l.k (planned l.moment.rows.now l.moment.event.now l.moment.given.now) (diagrams l.initial.lent.nodes.now l.initial.lent.count l.olds (count_of_rows l.moment.rows.now)) l.initial.lent.nodes.now l.initial.lent.count l.lent.nodes.now l.lent.count l.lent.work.now l.layout.c l.layout.slots l.olds l.news l.i l.visits

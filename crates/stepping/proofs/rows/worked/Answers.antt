@@ -21,7 +21,7 @@ work_rows-requires c =
     let slots = c.slots_for-slots.result in
     let z = filled (4 * C) (5 * C + 4 * slots) c.args.work.now _ (omega arith) (omega (arith, f.room, few.1)) (c.fill.ensures.after (λ y h. h)) in
     record {
-      k_bound = (f.most, c.requires.rows_value.0, c.requires.rows_value.1, c.requires.rows_value.2, desk_ready f r c.requires.ready.1 _ few.0 few.1 z);
+      k_bound = (f.most, desk_ready f r c.requires.ready.1 _ few.0 few.1 z);
       leads = (r.leads, refl);
       by_index = (r.none, fresh_ready f r _ z);
     }
@@ -33,12 +33,12 @@ returns-in_default-clause-leaves c =
     let C = length c.args.nodes.now / 3 in
     let slots = c.slots_for-slots.result in
     let z = filled (4 * C) (5 * C + 4 * slots) c.args.work.now _ (omega arith) (omega (arith, f.room, c.slots_for-slots.ensures.1)) (c.fill.ensures.after (λ y h. h)) in
-    full_leaves s.k (count_of_rows s.rows.now) (planned s.rows.now s.event s.given.now) s.refs.now s.kept s.nodes.now s.work.now f s.sizes.now c.requires.ready.0 (c.in_default.ensures.all)
+    full_leaves s.k (count_of_rows s.moment.rows.now) (planned s.moment.rows.now s.moment.event.now s.moment.given.now) s.refs.now s.kept s.nodes.now s.work.now f s.sizes.now c.requires.ready.0 (c.in_default.ensures.all)
     (zeroed_back (filled _ _ _ _ (omega arith) (omega arith) (c.fill-in_default.ensures.after (λ y h. h))) (search rules))
     (lent_cleared s.nodes.now f _ c.slots_for-slots.ensures.1 z _ (c.fill-in_default-2.ensures.after (λ y h. h)) (search rules))
 
 pub overflow_cast-count : goal.overflow_cast-count
-overflow_cast-count c = omega (arith, few_rows _ c.requires.rows_value.0)
+overflow_cast-count c = omega (arith, few_rows _ c.args.moment.right.0)
 
 pub renew-y-requires-clause-awaits : goal.renew-y-requires-clause-awaits
 unfolding count_of_rows
@@ -48,7 +48,7 @@ pub renew-y-requires-clause-rows : goal.renew-y-requires-clause-rows
 unfolding count_of_rows
 renew-y-requires-clause-rows c =
     let s = c.args in
-    let t = sweep_ready s.k (count_of_rows s.rows.now) (planned s.rows.now s.event s.given.now) s.refs.now s.kept s.nodes.now s.work.now c.requires.fits c.in-Some.ensures.all s.work.now refl c.requires.ready.0 in
+    let t = sweep_ready s.k (count_of_rows s.moment.rows.now) (planned s.moment.rows.now s.moment.event.now s.moment.given.now) s.refs.now s.kept s.nodes.now s.work.now c.requires.fits c.in-Some.ensures.all s.work.now refl c.requires.ready.0 in
     rows_back t.3 (search rules)
 
 pub invariant_of-table : goal.invariant_of-table
@@ -62,7 +62,7 @@ invariant_of-table c =
     let t = c.in-Some.ensures.all in
     let swept = renewal_back {ns = c.work_rows.new.lent.nodes.now} c.renew-y.ensures (search rules) in
     let after = lent_swept s.nodes.now f _ c.slots_for-slots.ensures.1 z _ (omega (arith, t.size)) swept.rest c.renew-y.auto.work (search rules) in
-    let asked = sizes_ready s.k (count_of_rows s.rows.now) (planned s.rows.now s.event s.given.now) s.refs.now s.kept s.nodes.now s.work.now f t swept (search rules) after.1 in
+    let asked = sizes_ready s.k (count_of_rows s.moment.rows.now) (planned s.moment.rows.now s.moment.event.now s.moment.given.now) s.refs.now s.kept s.nodes.now s.work.now f t swept (search rules) after.1 in
     record { table = asked.0.0 }
 
 pub sizes-requires : goal.sizes-requires
@@ -76,8 +76,8 @@ sizes-requires c =
     let t = c.in-Some.ensures.all in
     let swept = renewal_back {ns = c.work_rows.new.lent.nodes.now} c.renew-y.ensures (search rules) in
     let after = lent_swept s.nodes.now f _ c.slots_for-slots.ensures.1 z _ (omega (arith, t.size)) swept.rest c.renew-y.auto.work (search rules) in
-    let asked = sizes_ready s.k (count_of_rows s.rows.now) (planned s.rows.now s.event s.given.now) s.refs.now s.kept s.nodes.now s.work.now f t swept (search rules) after.1 in
-    record { leading = asked.0.1; count_in_bounds = (asked.1, omega (arith, c.requires.rows_value.3, t.new_lead.wide)) }
+    let asked = sizes_ready s.k (count_of_rows s.moment.rows.now) (planned s.moment.rows.now s.moment.event.now s.moment.given.now) s.refs.now s.kept s.nodes.now s.work.now f t swept (search rules) after.1 in
+    record { leading = asked.0.1; count_in_bounds = (asked.1, omega (arith, c.requires.sizes_long, t.new_lead.wide)) }
 
 pub returns : goal.returns
 unfolding count_of_rows
@@ -90,12 +90,12 @@ returns c =
     let t = c.in-Some.ensures.all in
     let swept = renewal_back {ns = c.work_rows.new.lent.nodes.now} c.renew-y.ensures (search rules) in
     let after = lent_swept s.nodes.now f _ c.slots_for-slots.ensures.1 z _ (omega (arith, t.size)) swept.rest c.renew-y.auto.work (search rules) in
-    let asked = sizes_ready s.k (count_of_rows s.rows.now) (planned s.rows.now s.event s.given.now) s.refs.now s.kept s.nodes.now s.work.now f t swept (search rules) after.1 in
+    let asked = sizes_ready s.k (count_of_rows s.moment.rows.now) (planned s.moment.rows.now s.moment.event.now s.moment.given.now) s.refs.now s.kept s.nodes.now s.work.now f t swept (search rules) after.1 in
     let found = c.sizes in
-    let ready = sweep_ready s.k (count_of_rows s.rows.now) (planned s.rows.now s.event s.given.now) s.refs.now s.kept s.nodes.now s.work.now f t s.work.now refl c.requires.ready.0 in
+    let ready = sweep_ready s.k (count_of_rows s.moment.rows.now) (planned s.moment.rows.now s.moment.event.now s.moment.given.now) s.refs.now s.kept s.nodes.now s.work.now f t s.work.now refl c.requires.ready.0 in
     record {
-      leaves = done_leaves s.k (count_of_rows s.rows.now) (planned s.rows.now s.event s.given.now) s.refs.now s.kept s.nodes.now s.work.now f t s.sizes.now swept found.ensures.sizes_after
+      leaves = done_leaves s.k (count_of_rows s.moment.rows.now) (planned s.moment.rows.now s.moment.event.now s.moment.given.now) s.refs.now s.kept s.nodes.now s.work.now f t s.sizes.now swept found.ensures.sizes_after
           (cleared_is C s.work.now f.room (rest_two (16 * C + 1024) after.0 found.ensures.rest (omega arith) (omega (arith, asked.1))) (found.auto.work ∙ after.1)
           (filled 0 _ _ _ (omega arith) (omega (arith, f.room, after.1, found.auto.work)) (c.fill-2.ensures.after (λ y h. h))));
-      visits = done_visits s.k (count_of_rows s.rows.now) (planned s.rows.now s.event s.given.now) s.refs.now s.kept s.nodes.now s.work.now f t ready.3 swept;
+      visits = done_visits s.k (count_of_rows s.moment.rows.now) (planned s.moment.rows.now s.moment.event.now s.moment.given.now) s.refs.now s.kept s.nodes.now s.work.now f t ready.3 swept;
     }
