@@ -10,6 +10,13 @@ ghost use Rattle.linked.specs.Calls.{LinkedStart, LinkedEvent, LinkedLookup};
 use meaning::Value;
 use monitor::Figures;
 
+// How many numbers a state, the answer of start and event, and that of lookup are.
+const STATE: usize = 135;
+
+const ANSWER: usize = 10;
+
+const TOLD: usize = 2;
+
 // Start. False, with nothing written, where the state has not 135 numbers or the answer not 10.
 pub fn moheguzari_start(
     k: u32,
@@ -21,10 +28,10 @@ pub fn moheguzari_start(
 ) -> bool
     ensures { LinkedStart k rows.now nodes.old values.old state.old answer.old result nodes.new values.new state.new answer.new }
 {
-    if state.len() != 135 {
+    if state.len() != STATE {
         return false;
     }
-    if answer.len() != 10 {
+    if answer.len() != ANSWER {
         return false;
     }
     let turn = monitor::start(k, rows, nodes, values);
@@ -49,10 +56,10 @@ pub fn moheguzari_event(
     if facts.len() % 5 != 0 {
         return false;
     }
-    if state.len() != 135 {
+    if state.len() != STATE {
         return false;
     }
-    if answer.len() != 10 {
+    if answer.len() != ANSWER {
         return false;
     }
     let before = packing::unpack(state);
@@ -80,10 +87,10 @@ pub fn moheguzari_lookup(
 ) -> bool
     ensures { LinkedLookup values.now state.now variable value answer.old result answer.new }
 {
-    if state.len() != 135 {
+    if state.len() != STATE {
         return false;
     }
-    if answer.len() != 2 {
+    if answer.len() != TOLD {
         return false;
     }
     let before = packing::unpack(state);

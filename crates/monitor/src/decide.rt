@@ -8,19 +8,12 @@ ghost use Rattle.monitor.specs.Decisions.{decision_of};
 use crate::lent;
 use crate::refusals::Refusal;
 
-// "k from 1 to 10"
-fn k_right(k: u32) -> bool
-    ensures { result ≡ k_right k }
-{
-    (1..=10).contains(&k)
-}
-
 // Refusals 1 to 3, in this order; where none applies, the free variables of each row.
 pub fn judge(k: u32, rows: &[u32], nodes: &[u32], values: &[u32]) -> Result<[u32; 64], Refusal>
     ensures decides { decision_of result ≡ judge_start (k_right k) (check_rows rows.now) (nodes_right nodes.now && values_right k values.now) }
     ensures free { IfOk result (Free rows.now) }
 {
-    if !k_right(k) {
+    if !numbers::k_right(k) {
         return Err(Refusal::K);
     }
     let free = rule::check(rows)?;

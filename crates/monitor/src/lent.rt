@@ -19,7 +19,7 @@ pub fn lengths_right(k: u32, nodes: &[u32], values: &[u32]) -> bool
     requires { k ≤ 10 }
     ensures { result ≡ (nodes_right nodes.now && values_right k values.now) }
 {
-    nodes_right(nodes) && values.len() == (4 * numbers::most(k)) as usize
+    nodes_right(nodes) && values.len() == numbers::listed(k)
 }
 
 // Whether the count of rows is the rule's n, and the value lists are right: a part of refusal 4. Only the first w numbers of the work

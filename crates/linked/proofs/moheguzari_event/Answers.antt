@@ -10,14 +10,14 @@ use Rattle.linked.proofs.moheguzari_event.Goals as goal
 pub returns-then-facts-ne0 : goal.returns-then-facts-ne0
 returns-then-facts-ne0 c = event_not_made _ _ _ _ _ _ _ (other_facts _ _ _ c.if-facts-ne0.true)
 
-pub returns-then-state-ne135 : goal.returns-then-state-ne135
-returns-then-state-ne135 c = event_not_made _ _ _ _ _ _ _ (whole_facts _ _ _ c.if-facts-ne0.false ∙ other_state _ _ c.if-state-ne135.true)
+pub returns-then-state-ne-STATE : goal.returns-then-state-ne-STATE
+returns-then-state-ne-STATE c = event_not_made _ _ _ _ _ _ _ (whole_facts _ _ _ c.if-facts-ne0.false ∙ other_state _ _ c.if-state-ne-STATE.true)
 
-pub returns-then-answer-ne10 : goal.returns-then-answer-ne10
-returns-then-answer-ne10 c = event_not_made _ _ _ _ _ _ _ (whole_facts _ _ _ c.if-facts-ne0.false ∙ other_answer _ _ c.if-state-ne135.false c.if-answer-ne10.true)
+pub returns-then-answer-ne-ANSWER : goal.returns-then-answer-ne-ANSWER
+returns-then-answer-ne-ANSWER c = event_not_made _ _ _ _ _ _ _ (whole_facts _ _ _ c.if-facts-ne0.false ∙ other_answer _ _ c.if-state-ne-STATE.false c.if-answer-ne-ANSWER.true)
 
 pub returns : goal.returns
 returns c =
     event_made _ _ _ _ _ _ _ (whole c.of-figures.result c.unpack-before.result.refs c.unpack-before.result.sizes) _ (turn_of c.event_on-said.result c.event_on-said.new.refs c.event_on-said.new.sizes) _ _ _ _ _ _ _ _
-    c.if-facts-ne0.false c.if-state-ne135.false c.if-answer-ne10.false (state_same _ _ c.of-figures.ensures ∙ c.unpack-before.ensures) c.event-event.ensures
+    c.if-facts-ne0.false c.if-state-ne-STATE.false c.if-answer-ne-ANSWER.false (state_same _ _ c.of-figures.ensures ∙ c.unpack-before.ensures) c.event-event.ensures
     c.event_on-said.ensures.happens c.event_on-said.ensures.looks c.event_on-said.ensures.numbers (c.pack.ensures ∙ ap packed_state c.with.ensures) (c.copy_from_slice.ensures.after ∙ c.answered-written.ensures)
