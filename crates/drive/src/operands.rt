@@ -49,9 +49,15 @@ fn truth(table: &mut Table) -> Option<u8>
 }
 
 // The word comes.
-pub fn operand(known: Known, table: &mut Table, stack: &mut Stack, t: Taken, row: u8) -> Option<u8>
+pub fn operand<const N: usize>(
+    known: Known,
+    table: &mut Table,
+    stack: &mut Stack<N>,
+    t: Taken,
+    row: u8,
+) -> Option<u8>
     requires within { Within known.text.now t.from t.past × Lexed known.text.now t.past }
-    requires room { length stack.old < 4096 }
+    requires room { length stack.old < N }
     ensures moves { Moves (names_at known.entry.text.now known.entry.variables.now) (at_operand (names_at known.entry.text.now known.entry.predicates.now) (names_at known.entry.text.now known.entry.variables.now)) known.entry.text.now 0 (kind_code t.word) t.from t.past table.old row stack.old table.new result stack.new }
     ensures near { length stack.new ≤ length stack.old + 1 }
 {

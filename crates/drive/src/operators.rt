@@ -10,8 +10,13 @@ use rowing::table::Table;
 use spelling::kinds::Kind;
 
 // The operator waits for its right operand. There is no last row then, and 0 stands for it.
-fn join(table: &mut Table, stack: &mut Stack, operator: Operator, row: u8) -> Option<u8>
-    requires { length stack.old < 4096 }
+fn join<const N: usize>(
+    table: &mut Table,
+    stack: &mut Stack<N>,
+    operator: Operator,
+    row: u8,
+) -> Option<u8>
+    requires { length stack.old < N }
     ensures joins { Joins (binary_of operator) table.old row stack.old table.new result stack.new }
     ensures near { length stack.new ≤ length stack.old + 1 }
 {
@@ -20,8 +25,13 @@ fn join(table: &mut Table, stack: &mut Stack, operator: Operator, row: u8) -> Op
 }
 
 // The word comes.
-pub fn operator(table: &mut Table, stack: &mut Stack, word: Kind, row: u8) -> Option<u8>
-    requires { length stack.old < 4096 }
+pub fn operator<const N: usize>(
+    table: &mut Table,
+    stack: &mut Stack<N>,
+    word: Kind,
+    row: u8,
+) -> Option<u8>
+    requires { length stack.old < N }
     ensures operates { Operates (kind_code word) table.old row stack.old table.new result stack.new }
     ensures near { length stack.new ≤ length stack.old + 1 }
 {

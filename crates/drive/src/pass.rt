@@ -19,16 +19,16 @@ use spelling::modes::{Mode, next_mode};
 use spelling::words::{Taken, next_word};
 
 // A word comes, by what must come.
-fn one(
+fn one<const N: usize>(
     known: Known,
     table: &mut Table,
-    stack: &mut Stack,
+    stack: &mut Stack<N>,
     mode: Mode,
     t: Taken,
     row: u8,
 ) -> Option<u8>
     requires within { Within known.text.now t.from t.past × Lexed known.text.now t.past }
-    requires room { length stack.old < 4096 }
+    requires room { length stack.old < N }
     ensures moves { Moves (names_at known.entry.text.now known.entry.variables.now) (at_mode (names_at known.entry.text.now known.entry.predicates.now) (names_at known.entry.text.now known.entry.variables.now) (mode_code mode)) known.entry.text.now (mode_code mode) (kind_code t.word) t.from t.past table.old row stack.old table.new result stack.new }
     ensures near { length stack.new ≤ length stack.old + 1 }
 {
@@ -46,7 +46,7 @@ pub fn rows_of(known: Known, table: &mut Table) -> Option<()>
     ensures { RowsOf known.entry.text.now table.new result }
 {
     table.clear();
-    let mut stack = Stack::new();
+    let mut stack = Stack::<4096>::new();
     let mut row = 0;
     let mut mode = Mode::Operand;
     let mut at = 0;

@@ -13,35 +13,35 @@ const UP_TO_PARENTHESIS: u8 = 5;
 
 const TO_THE_END: u8 = 10;
 
-// At most 4,096 frames.
+// At most N frames.
 #[derive(Drop)]
-pub struct Stack {
-    frames: [Frame; 4096],
+pub struct Stack<const N: usize> {
+    frames: [Frame; N],
     top: usize,
 }
 
-impl Model for Stack {
+impl<const N: usize> Model for Stack<N> {
     ghost Value = { List Held };
 
     ghost view = { λ s. waiting_in s.frames s.top };
 
-    ghost invariant = { λ s. s.top ≤ 4096 };
+    ghost invariant = { λ s. s.top ≤ N };
 }
 
-impl Stack {
+impl<const N: usize> Stack<N> {
     // No frames.
     pub fn new() -> Self
         ensures { result ≡ [] }
     {
         Stack {
-            frames: [Frame::Parenthesis; 4096],
+            frames: [Frame::Parenthesis; N],
             top: 0,
         }
     }
 
     // A frame comes, and waits for its operand.
     pub fn push(&mut self, frame: Frame)
-        requires { length self.old < 4096 }
+        requires { length self.old < N }
         ensures { self.new ≡ held_of frame ∷ self.old }
     {
         self.frames[self.top] = frame;
@@ -65,7 +65,12 @@ impl Stack {
 }
 
 // The frames with room below the limit take their operand, which has the row, from the top on.
-pub fn fill(table: &mut Table, stack: &mut Stack, limit: u8, row: u8) -> Option<u8>
+pub fn fill<const N: usize>(
+    table: &mut Table,
+    stack: &mut Stack<N>,
+    limit: u8,
+    row: u8,
+) -> Option<u8>
     ensures fills { Fills limit table.old row stack.old table.new result stack.new }
     ensures fewer { length stack.new ≤ length stack.old }
 {
@@ -77,8 +82,13 @@ pub fn fill(table: &mut Table, stack: &mut Stack, limit: u8, row: u8) -> Option<
 }
 
 // An operator comes, and waits for its right operand.
-pub fn push(table: &mut Table, stack: &mut Stack, operator: Operator, row: u8) -> Option<()>
-    requires { length stack.old < 4096 }
+pub fn push<const N: usize>(
+    table: &mut Table,
+    stack: &mut Stack<N>,
+    operator: Operator,
+    row: u8,
+) -> Option<()>
+    requires { length stack.old < N }
     ensures pushes { Pushes (binary_of operator) table.old row stack.old table.new result stack.new }
     ensures near { length stack.new ≤ length stack.old + 1 }
 {
@@ -89,7 +99,7 @@ pub fn push(table: &mut Table, stack: &mut Stack, operator: Operator, row: u8) -
 }
 
 // `)` comes: the frames take their operand, up to the last parenthesis, and that is closed.
-pub fn shut(table: &mut Table, stack: &mut Stack, row: u8) -> Option<u8>
+pub fn shut<const N: usize>(table: &mut Table, stack: &mut Stack<N>, row: u8) -> Option<u8>
     ensures shuts { Shuts table.old row stack.old table.new result stack.new }
     ensures fewer { length stack.new ≤ length stack.old }
 {
@@ -99,7 +109,7 @@ pub fn shut(table: &mut Table, stack: &mut Stack, row: u8) -> Option<u8>
 }
 
 // The end comes: all frames take their operand.
-pub fn finish(table: &mut Table, stack: &mut Stack, row: u8) -> Option<u8>
+pub fn finish<const N: usize>(table: &mut Table, stack: &mut Stack<N>, row: u8) -> Option<u8>
     ensures { Finishes table.old row stack.old table.new result }
 {
     fill(table, stack, TO_THE_END, row)

@@ -6,10 +6,10 @@ use Rattle.rowing.specs.Stacking.{fill_rows}
 use Rattle.rowing.proofs.stack.fill.Given as goal
 
 abbrev pub invariant-loop-frame : goal.invariant-loop-frame
-invariant-loop-frame l = record {
+invariant-loop-frame g l = record {
   same : fill_rows l.limit (record { rows = l.initial.table; row = l.initial.last }) l.initial.stack ≡ fill_rows l.limit (record { rows = l.table; row = l.last }) l.stack;
   fewer : length l.stack ≤ length l.initial.stack;
 }
 
 abbrev pub decreases-loop-frame : goal.decreases-loop-frame
-decreases-loop-frame l = length l.stack
+decreases-loop-frame g l = length l.stack

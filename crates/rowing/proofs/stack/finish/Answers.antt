@@ -3,4 +3,4 @@ use Rattle.rowing.proofs.ShutLaws.{finish_all}
 use Rattle.rowing.proofs.stack.finish.Goals as goal
 
 pub returns : goal.returns
-returns c = finish_all _ _ _ _ _ _ c.fill.ensures.fills
+returns g c = finish_all _ _ _ _ _ _ c.fill.ensures.fills

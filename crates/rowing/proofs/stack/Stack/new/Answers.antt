@@ -4,4 +4,4 @@ use Rattle.rowing.proofs.StackLaws.{waiting_none}
 use Rattle.rowing.proofs.stack.Stack.new.Goals as goal
 
 pub returns : goal.returns
-returns c = waiting_none _ 0 refl
+returns g c = waiting_none _ 0 refl

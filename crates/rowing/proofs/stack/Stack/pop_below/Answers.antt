@@ -4,11 +4,11 @@ use Rattle.rowing.proofs.StackLaws.{waiting_none, waiting_top, closed_empty, clo
 use Rattle.rowing.proofs.stack.Stack.pop_below.Goals as goal
 
 pub returns-then-self-eq0 : goal.returns-then-self-eq0
-returns-then-self-eq0 c = (refl, closed_empty _ _ (sym c.self.view_is ∙ waiting_none _ _ c.if-self-eq0.true))
+returns-then-self-eq0 g c = (refl, closed_empty _ _ (sym c.self.view_is ∙ waiting_none _ _ c.if-self-eq0.true))
 
 pub returns-then-limit-room : goal.returns-then-limit-room
-returns-then-limit-room c =
+returns-then-limit-room g c =
     (refl, closed_top _ _ _ _ (sym c.self.view_is ∙ waiting_top _ _ c.if-self-eq0.false) (rw c.room.ensures at c.if-limit-room.true))
 
 pub returns : goal.returns
-returns c = (sym c.self.view_is ∙ waiting_top _ _ c.if-self-eq0.false, rw c.room.ensures at c.if-limit-room.false)
+returns g c = (sym c.self.view_is ∙ waiting_top _ _ c.if-self-eq0.false, rw c.room.ensures at c.if-limit-room.false)

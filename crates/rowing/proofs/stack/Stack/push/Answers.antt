@@ -6,10 +6,10 @@ use Rattle.rowing.proofs.StackLaws.{waiting_length, waiting_set}
 use Rattle.rowing.proofs.stack.Stack.push.Goals as goal
 
 pub bounds-self-inside-self-inside : goal.bounds-self-inside-self-inside
-bounds-self-inside-self-inside c = omega (arith, ap length c.self.view_is, waiting_length c.self.inside.frames c.self.inside.top, c.requires)
+bounds-self-inside-self-inside g c = omega (arith, ap length c.self.view_is, waiting_length c.self.inside.frames c.self.inside.top, c.requires)
 
 pub invariant_of-self : goal.invariant_of-self
-invariant_of-self c = omega (arith, ap length c.self.view_is, waiting_length c.self.inside.frames c.self.inside.top, c.requires)
+invariant_of-self g c = omega (arith, ap length c.self.view_is, waiting_length c.self.inside.frames c.self.inside.top, c.requires)
 
 pub returns : goal.returns
-returns c = rw (← c.self.view_is) (waiting_set _ _ _ (omega (arith, ap length c.self.view_is, waiting_length c.self.inside.frames c.self.inside.top, c.requires)))
+returns g c = rw (← c.self.view_is) (waiting_set _ _ _ (omega (arith, ap length c.self.view_is, waiting_length c.self.inside.frames c.self.inside.top, c.requires)))
