@@ -3,12 +3,12 @@ use Prim.Native.Nat.{ℕ, zero, suc, ◌+◌, ◌-◌, ◌*◌, ◌≤◌, ◌<�
 use native.Mathlib.Omega.{arith}
 use native.Mathlib.Numerals.{add-one}
 use mathlib.Core.Path.{◌≡◌, refl, sym, ap, ◌∙◌}
-use mathlib.Core.Bool.{Bool, true, false}
+use mathlib.Core.Bool.{Bool, true, false, ◌&&◌, ◌||◌, true≢false}
 use mathlib.Core.List.{List, [], ◌∷◌}
-use lib.Dec.{eqb}
+use lib.Dec.{eqb, ltb}
 use lib.ListN.{take, drop, get_or}
 use lib.Seq.{drop-drop, take-take, get_or-drop, get_or-take}
-use borrow.Author.Tests.{eq-eqb, ne_eqb, lt-ltb, le-ltb}
+use borrow.Author.Tests.{ne_eqb, lt-ltb, le-ltb, eqb-true, ltb-true}
 use Rattle.std.proofs.Common.{Option, Some, None, Result, Ok, Err}
 use Rattle.cards.specs.Bytes.{number_of}
 use Rattle.cards.specs.Moments.{Record}
@@ -18,7 +18,7 @@ use Rattle.card_block.specs.declared.Reason.{Reason}
 use Rattle.card_block.specs.declared.Reason.TheVariants.{Shape}
 use Rattle.card_block.specs.declared.moments.Moment.{Moment}
 use Rattle.card_block.specs.Shapes.{records_from}
-use Rattle.card_block.specs.Judging.{open_at, held_by, held, left_by, may_belong, onward, went_by, went_on, walked_by}
+use Rattle.card_block.specs.Judging.{open_at, held_by, held, may_belong, onward, went_by, went_on, walked_by}
 
 -- what is open is held as it is
 pub held_open : (x : Option Moment) → held (open_at x) ≡ x
@@ -32,24 +32,50 @@ open_onward true count stamp new = refl
 open_onward false zero stamp new = refl
 open_onward false (suc count) stamp new = refl
 
+-- what may belong
+pub begins : (new : ℕ) → true ≡ may_belong (open_at None).count (open_at None).stamp new
+unfolding may_belong open_at closed
+begins new = refl
+
+pub ninth : (m : Moment) (new : ℕ) → 7 ≤ m.more → ltb m.more 7 ≡ may_belong (open_at (Some m)).count (open_at (Some m)).stamp new
+unfolding may_belong open_at
+ninth m new h = rw (le-ltb m.more 7 h, ne_eqb (suc m.more) 0 (λ z. omega arith), le-ltb (suc m.more) 8 (omega arith))
+
+pub follows : (m : Moment) (new : ℕ) → m.more < 7 → eqb new m.stamp ≡ may_belong (open_at (Some m)).count (open_at (Some m)).stamp new
+unfolding may_belong open_at
+follows m new h = rw (ne_eqb (suc m.more) 0 (λ z. omega arith), lt-ltb (suc m.more) 8 (omega arith))
+
+pub few : (o : Open) (new : ℕ) → may_belong o.count o.stamp new ≡ true → o.count ≤ 8
+unfolding may_belong
+few o new e = go (eqb o.count 0) refl (ltb o.count 8) refl e
+  where
+    go : (p : Bool) → eqb o.count 0 ≡ p → (q : Bool) → ltb o.count 8 ≡ q → (p || (q && eqb new o.stamp)) ≡ true → o.count ≤ 8
+    go true f q g h = omega (arith, eqb-true o.count 0 f)
+    go false f true g h = omega (arith, ltb-true o.count 8 g)
+    go false f false g h = absurd (true≢false (sym h))
+
+-- what is open then
+pub onward_ends : (held : Option Moment) (new : ℕ) → open_at None ≡ onward true (open_at held).count (open_at held).stamp new
+unfolding onward open_at closed
+onward_ends held new = refl
+
+pub onward_first : (new : ℕ) → open_at (Some (record { stamp = new; more = 0 })) ≡ onward false (open_at None).count (open_at None).stamp new
+unfolding onward open_at closed more
+onward_first new = refl
+
+pub onward_more : (m : Moment) (new : ℕ) → open_at (Some (record { stamp = m.stamp; more = m.more + 1 })) ≡ onward false (open_at (Some m)).count (open_at (Some m)).stamp new
+unfolding onward open_at more
+onward_more m new = rw add-one
+
 -- what a record makes of the open moment
-pub went_first : (stamp : ℕ) (last : Bool) → Ok (left_by last 0 stamp) ≡ went_on (open_at None) stamp last
-unfolding went_on went_by may_belong onward open_at held held_by closed more
-went_first stamp true = refl
-went_first stamp false = refl
+pub went_wrong : (o : Open) (new : ℕ) (last : Bool) → may_belong o.count o.stamp new ≡ false → Err Shape ≡ went_on o new last
+unfolding went_on went_by
+went_wrong o new last e = rw e
 
-pub went_more : (m : Moment) (stamp : ℕ) (last : Bool) → m.more < 7 → m.stamp ≡ stamp → Ok (left_by last (m.more + 1) stamp) ≡ went_on (open_at (Some m)) stamp last
-unfolding went_on went_by may_belong onward open_at held held_by closed more
-went_more m stamp true h e = rw (ne_eqb (suc m.more) 0 (λ z. omega arith), lt-ltb (suc m.more) 8 (omega arith), eq-eqb stamp m.stamp (sym e))
-went_more m stamp false h e = rw (ne_eqb (suc m.more) 0 (λ z. omega arith), lt-ltb (suc m.more) 8 (omega arith), eq-eqb stamp m.stamp (sym e), add-one, e)
-
-pub went_ninth : (m : Moment) (stamp : ℕ) (last : Bool) → 7 ≤ m.more → Err Shape ≡ went_on (open_at (Some m)) stamp last
-unfolding went_on went_by may_belong open_at
-went_ninth m stamp last h = rw (ne_eqb (suc m.more) 0 (λ z. omega arith), le-ltb (suc m.more) 8 (omega arith))
-
-pub went_other : (m : Moment) (stamp : ℕ) (last : Bool) → m.more < 7 → (m.stamp ≡ stamp → ⊥) → Err Shape ≡ went_on (open_at (Some m)) stamp last
-unfolding went_on went_by may_belong open_at
-went_other m stamp last k h = rw (ne_eqb (suc m.more) 0 (λ z. omega arith), lt-ltb (suc m.more) 8 (omega arith), ne_eqb stamp m.stamp (λ e. h (sym e)))
+pub went_right : (o : Open) (new : ℕ) (last : Bool) (h : Option Moment) → may_belong o.count o.stamp new ≡ true → open_at h ≡ onward last o.count o.stamp new
+    → Ok h ≡ went_on o new last
+unfolding went_on went_by
+went_right o new last h e f = rw (e, sym f) (ap Ok (sym (held_open h)))
 
 -- a record that belongs leaves the next moment open, and one that does not is a bad shape
 pub went_ok : (o : Open) (new : ℕ) (last : Bool) (h : Option Moment) → Ok h ≡ went_on o new last

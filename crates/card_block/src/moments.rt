@@ -1,7 +1,7 @@
 // The moments that run through a block, and the one that is open.
 ghost use Rattle.std.specs.Prelude.{◌+◌, ◌*◌, ◌≤◌, ◌≡◌, length, drop};
 ghost use Rattle.card_block.specs.Shapes.{records_from};
-ghost use Rattle.card_block.specs.Judging.{open_at, left_by, went_on, walked_by};
+ghost use Rattle.card_block.specs.Judging.{open_at, may_belong, onward, went_on, walked_by};
 
 use crate::Reason;
 use crate::sums::number_at;
@@ -16,31 +16,41 @@ pub struct Moment {
 // A moment has at most 8 records, so 7 beyond its first.
 const MOST: u32 = 7;
 
-// What a record of this stamp leaves open, which has so many before it in its moment: nothing where it is the last.
-fn left(stamp: u32, more: u32, last: bool) -> Option<Moment>
-    ensures { result ≡ left_by last more stamp }
+// A record of this stamp can belong to the open moment, or begin one.
+pub fn may_belong(held: Option<Moment>, stamp: u32) -> bool
+    ensures { result ≡ may_belong (open_at held).count (open_at held).stamp stamp }
 {
-    if last {
-        None
-    } else {
-        Some(Moment { stamp, more })
+    match held {
+        None => true,
+        Some(m) => m.more < MOST && stamp == m.stamp,
     }
 }
 
-// What is open after a record of this stamp, flagged as the last of its moment or not. A record that is a ninth, or has another stamp than the
-// open moment, is a bad shape.
-pub fn go_on(held: Option<Moment>, stamp: u32, last: bool) -> Result<Option<Moment>, Reason>
+// What is open after a record of this stamp, flagged as the last of its moment or not.
+pub fn go_on(held: Option<Moment>, stamp: u32, last: bool) -> Option<Moment>
+    requires { (open_at held).count ≤ 8 }
+    ensures { open_at result ≡ onward last (open_at held).count (open_at held).stamp stamp }
+{
+    if last {
+        return None;
+    }
+    match held {
+        None => Some(Moment { stamp, more: 0 }),
+        Some(m) => Some(Moment {
+            stamp: m.stamp,
+            more: m.more + 1,
+        }),
+    }
+}
+
+// The same, of any record: one that is a ninth, or has another stamp than the open moment, is a bad shape.
+pub fn went_on(held: Option<Moment>, stamp: u32, last: bool) -> Result<Option<Moment>, Reason>
     ensures { result ≡ went_on (open_at held) stamp last }
 {
-    match held {
-        None => Ok(left(stamp, 0, last)),
-        Some(m) => {
-            if MOST <= m.more || m.stamp != stamp {
-                return Err(Reason::Shape);
-            }
-            Ok(left(stamp, m.more + 1, last))
-        }
+    if !may_belong(held, stamp) {
+        return Err(Reason::Shape);
     }
+    Ok(go_on(held, stamp, last))
 }
 
 // What is open after the first `records` records of a block.
@@ -51,7 +61,7 @@ pub fn walk(piece: &[u8], records: usize, before: Option<Moment>) -> Result<Opti
     let mut held = before;
     for i in 0..records {
         let at = 6 + 24 * i;
-        held = go_on(held, number_at(piece, at), piece[at + 9] == 1)?;
+        held = went_on(held, number_at(piece, at), piece[at + 9] == 1)?;
     }
     Ok(held)
 }

@@ -6,21 +6,22 @@ mod parsing; // parsing.rt: numbers and facts of a line
 
 use crate::parsing::{fact, number};
 use card_records::Fact;
-use card_text::{Said, Streams, create, fail, opened, say, unlink};
+use card_text::{Said, Streams, create, fail, opened, unlink, written};
 use card_writer::Sheet;
 use std::fs::File;
 use std::io::{Cursor, Read, Stderr, Write};
 use std::rt::Files;
 
-// The card under way: where its blocks go, the block that has records and is not written yet, its number, and the line that is being read with
-// its number.
+// The line that is being read, as far as it has come.
+type Text = Cursor<[u8; 512]>;
+
+// The card under way: where its blocks go, the block that has records and is not written yet, its number, and the number of the line.
 #[derive(Drop)]
 struct Writing<'a> {
     to: &'a mut File,
     stderr: Stderr,
     sheet: Option<Sheet>,
     number: u64,
-    text: Cursor<[u8; 512]>,
     line: u64,
 }
 
@@ -44,9 +45,8 @@ impl Writing<'_> {
 
     // One record more; a block with 21 is written first.
     fn add(&mut self, f: Fact) -> Result<(), Said> {
-        if let Some(sheet) = self.sheet
-            && 21 <= sheet.records
-        {
+        let full = matches!(&self.sheet, Some(sheet) if 21 <= sheet.records);
+        if full && let Some(sheet) = self.sheet {
             self.write_block(sheet)?;
             self.sheet = None;
             self.number = self.number.wrapping_add(1);
@@ -54,12 +54,14 @@ impl Writing<'_> {
         let Ok(number) = u32::try_from(self.number) else {
             return self.refused(": the card has more than 2^32 blocks");
         };
-        let mut sheet = match self.sheet {
-            Some(sheet) if sheet.records < 21 => sheet,
-            _ => Sheet::begin(number),
-        };
-        sheet.add(f);
-        self.sheet = Some(sheet);
+        match &mut self.sheet {
+            Some(sheet) if sheet.records < 21 => sheet.add(f),
+            _ => {
+                let mut sheet = Sheet::begin(number);
+                sheet.add(f);
+                self.sheet = Some(sheet);
+            }
+        }
         Ok(())
     }
 
@@ -80,37 +82,41 @@ impl Writing<'_> {
     }
 
     // The line is whole: a stamp, a colon and a space, and the facts.
-    fn end_line(&mut self) -> Result<(), Said> {
-        let held = (self.text.position() as usize).min(512);
-        let mut text = [0; 512];
-        text.copy_from_slice(self.text.get_ref());
-        match number(&text[..held]) {
+    fn end_line(&mut self, text: &mut Text) -> Result<(), Said> {
+        match number(written(text)) {
             Some((stamp, [b':', b' ', facts @ ..])) if !facts.is_empty() => {
                 self.add_facts(facts, stamp)?;
             }
             _ => return self.refused(" is no moment"),
         }
-        self.text.set_position(0);
+        text.set_position(0);
         self.line = self.line.wrapping_add(1);
         Ok(())
     }
 
-    // A part of the input.
-    fn add_part(&mut self, part: &[u8]) -> Result<(), Said> {
-        for b in part {
-            if *b == b'\n' {
-                self.end_line()?;
-            } else if self.text.write_all(&[*b]).is_err() {
-                return self.refused(" is too long");
-            }
+    // Bytes of a line.
+    fn hold(&self, text: &mut Text, bytes: &[u8]) -> Result<(), Said> {
+        if text.write_all(bytes).is_err() {
+            return self.refused(" is too long");
         }
         Ok(())
     }
 
+    // A part of the input.
+    fn add_part(&mut self, text: &mut Text, part: &[u8]) -> Result<(), Said> {
+        let mut rest = part;
+        while let Some(end) = rest.iter().position(|b| *b == b'\n') {
+            self.hold(text, &rest[..end])?;
+            self.end_line(text)?;
+            rest = &rest[end + 1..];
+        }
+        self.hold(text, rest)
+    }
+
     // What is left at the end of the input: a line without its line end, and a block that is not full.
-    fn end(&mut self) -> Result<(), Said> {
-        if self.text.position() != 0 {
-            self.end_line()?;
+    fn end(&mut self, text: &mut Text) -> Result<(), Said> {
+        if text.position() != 0 {
+            self.end_line(text)?;
         }
         match self.sheet {
             Some(sheet) => self.write_block(sheet),
@@ -127,14 +133,14 @@ fn write_all(streams: Streams, to: &mut File) -> Result<(), Said> {
         stderr: streams.stderr,
         sheet: None,
         number: 0,
-        text: Cursor::new([0; 512]),
         line: 1,
     };
+    let mut text: Text = Cursor::new([0; 512]);
     let mut part = [0u8; 65536];
     for _ in 0..u64::MAX {
         match stdin.read(&mut part) {
-            Ok(0) => return writing.end(),
-            Ok(n) => writing.add_part(&part[..n])?,
+            Ok(0) => return writing.end(&mut text),
+            Ok(n) => writing.add_part(&mut text, &part[..n])?,
             Err(_) => return writing.refused(": standard input cannot be read"),
         }
     }

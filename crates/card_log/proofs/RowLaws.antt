@@ -14,6 +14,7 @@ use Rattle.std.proofs.lemmas.List.{take-append-le, drop-append-le}
 use Rattle.cards.specs.Moments.{Record}
 use Rattle.cards.specs.Blocks.{block_bytes}
 use Rattle.cards.specs.Counting.{Open, closed, belongs, next}
+use Rattle.cards.proofs.Tests.{and_no}
 use Rattle.card_block.specs.declared.Reason.{Reason}
 use Rattle.card_block.specs.declared.moments.Moment.{Moment}
 use Rattle.card_block.specs.Judging.{open_at, may_belong, went_on}
@@ -88,9 +89,9 @@ module _ {rows rest : List ℕ} {held : Option Moment} (w : Checking rows held r
   pub checking_many : 3 < f.count → false ≡ right_from closed (length rows / 7) rows
   checking_many m = sym (cut_right c (open_at held) ∙ rw (sym k, lt-leb f.count 3 m)) ∙ w.leads
 
-  pub checking_broken : f.count ≤ 3 → (why : Reason) → Err why ≡ went_on (open_at held) f.stamp f.last → false ≡ right_from closed (length rows / 7) rows
-  checking_broken m why b =
-      sym (cut_right c (open_at held) ∙ rw (sym k, le-leb f.count 3 m, belongs_is, (went_err (open_at held) f.stamp f.last why b).0)) ∙ w.leads
+  pub checking_broken : (why : Reason) → Err why ≡ went_on (open_at held) f.stamp f.last → false ≡ right_from closed (length rows / 7) rows
+  checking_broken why b =
+      sym (cut_right c (open_at held) ∙ rw (belongs_is, (went_err (open_at held) f.stamp f.last why b).0) (and_no (leb (get_or row 2 0) 3))) ∙ w.leads
 
   pub checking_on : f.count ≤ 3 → (after : Option Moment) → Ok after ≡ went_on (open_at held) f.stamp f.last → Checking rows after left
   checking_on m after b =

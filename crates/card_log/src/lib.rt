@@ -10,7 +10,7 @@ ghost use Rattle.card_writer.specs.Sheets.{block_with};
 ghost use Rattle.card_log.specs.Rows.{row_record, rows_in, right_from};
 ghost use Rattle.card_log.specs.Logging.{WritesTo};
 
-use card_block::moments::go_on;
+use card_block::moments::went_on;
 use card_records::Fact;
 use card_writer::{Sheet, copy_block};
 
@@ -49,7 +49,7 @@ fn rows_right(rows: &[u32]) -> bool
         if VALUES < f.count {
             return false;
         }
-        let Ok(next) = go_on(held, f.stamp, f.last) else {
+        let Ok(next) = went_on(held, f.stamp, f.last) else {
             return false;
         };
         held = next;

@@ -10,7 +10,7 @@ use card_records::{Fact, fact_at};
 use card_text::{Page, Said, Streams, open_read, opened, page, read_full, turn, write_out};
 use std::fs::File;
 use std::io;
-use std::io::Write;
+use std::io::{Stderr, Write};
 use std::rt::Files;
 
 // A record: behind the stamp where it begins a moment, and with a line end where it is the last of its moment.
@@ -83,11 +83,16 @@ fn show_all(file: &mut File, streams: Streams) -> Result<(), Said> {
     Err(Said)
 }
 
-// Shows the card of this name, if it is one that the reader takes; or says what is wrong.
+// The card of this name is one that the reader takes; or what is wrong is said. The file is closed again.
+fn taken<R: Files<File = File>>(rt: &R, stderr: Stderr, name: &[u8]) -> Result<(), Said> {
+    let mut file = opened(stderr, name, open_read(rt, name))?;
+    fine(&mut file, stderr, name)
+}
+
+// Shows the card of this name. No more than one file is open at a time.
 pub fn show<R: Files<File = File>>(rt: &R, streams: Streams, name: &[u8]) -> Result<(), Said> {
     let stderr = streams.stderr;
-    let mut file = opened(stderr, name, open_read(rt, name))?;
-    fine(&mut file, stderr, name)?;
+    taken(rt, stderr, name)?;
     let mut file = opened(stderr, name, open_read(rt, name))?;
     show_all(&mut file, streams)
 }

@@ -1,4 +1,5 @@
 use mathlib.Core.Path.{refl, sym, ◌∙◌}
+use native.Mathlib.Omega.{arith}
 use Rattle.card_log.proofs.RowLaws.{cut_of, checking_start, checking_many, checking_broken, checking_on, checking_end}
 use Rattle.card_log.proofs.rows_right.Goals as goal
 
@@ -10,13 +11,13 @@ loop-row-init c =
 pub returns-then-f-gt-VALUES : goal.returns-then-f-gt-VALUES
 returns-then-f-gt-VALUES c =
     let s = c.in-Some.ensures.steps in
-    checking_many c.loop-row.invariant.checking _ _ (cut_of _ _ _ _ c.loop-row.invariant.size s.1.0 s.1.1) _ c.fact_of-f.ensures.result_value c.fact_of-f.ensures.count_value c.if-f-gt-VALUES.true
+    checking_many c.loop-row.invariant.checking _ _ (cut_of _ _ _ _ c.loop-row.invariant.size s.1.0 s.1.1) _ c.fact_of-f.ensures.result_value c.fact_of-f.ensures.count_value (omega (arith, c.if-f-gt-VALUES.true))
 
 pub returns-in_default : goal.returns-in_default
 returns-in_default c =
     let s = c.in-Some.ensures.steps in
-    checking_broken c.loop-row.invariant.checking _ _ (cut_of _ _ _ _ c.loop-row.invariant.size s.1.0 s.1.1) _ c.fact_of-f.ensures.result_value c.fact_of-f.ensures.count_value c.if-f-gt-VALUES.false _
-    (sym c.in_default.is ∙ c.go_on.ensures)
+    checking_broken c.loop-row.invariant.checking _ _ (cut_of _ _ _ _ c.loop-row.invariant.size s.1.0 s.1.1) _ c.fact_of-f.ensures.result_value c.fact_of-f.ensures.count_value _
+    (sym c.in_default.is ∙ c.went_on.ensures)
 
 pub loop-row-preserved : goal.loop-row-preserved
 loop-row-preserved c =
@@ -24,8 +25,8 @@ loop-row-preserved c =
     record {
       size = s.0 ∙ c.loop-row.invariant.size;
       checking =
-          checking_on c.loop-row.invariant.checking _ _ (cut_of _ _ _ _ c.loop-row.invariant.size s.1.0 s.1.1) _ c.fact_of-f.ensures.result_value c.fact_of-f.ensures.count_value c.if-f-gt-VALUES.false _
-          (sym c.in-Ok.is ∙ c.go_on.ensures);
+          checking_on c.loop-row.invariant.checking _ _ (cut_of _ _ _ _ c.loop-row.invariant.size s.1.0 s.1.1) _ c.fact_of-f.ensures.result_value c.fact_of-f.ensures.count_value (omega (arith, c.if-f-gt-VALUES.false)) _
+          (sym c.in-Ok.is ∙ c.went_on.ensures);
     }
 
 pub returns : goal.returns
