@@ -7,9 +7,9 @@ use mathlib.Core.Bool.{Bool, true, false, cond, ◌&&◌}
 use mathlib.Core.List.{List, [], ◌∷◌, ◌++◌}
 use mathlib.Core.Logic.{⊎_elim}
 use lib.Dec.{eqb, ltb}
-use lib.ListN.{length, take, set, length-append}
-use lib.Seq.{take-suc-set, length-take-le}
-use borrow.Author.Tests.{lt-ltb, le-ltb, ltb-true, ltb-false}
+use lib.ListN.{length, get_or, take, drop, set, length-append}
+use lib.Seq.{drop-cons, drop-length, take-suc-set, length-take-le}
+use borrow.Author.Tests.{eq-eqb, ne_eqb, lt-ltb, le-ltb, ltb-true, ltb-false}
 use Rattle.std.specs.Prelude.{Option, Some, None, position, nat_eq}
 use Rattle.std.specs.List.{position_or_len}
 use Rattle.std.specs.Cmp.Lexicographic.{pointwise}
@@ -49,6 +49,23 @@ find_is x = is_position_or_len (λ rows. find_row rows x) (λ y. pointwise nat_e
     by : (b : Bool) (n : ℕ) → elim b [ true ↦ 0 | false ↦ suc n ] ≡ cond b 0 (1 + n)
     by true n = refl
     by false n = omega arith
+
+-- what is left to compare
+module _ (a b : List ℕ) (i : ℕ) (l : pointwise nat_eq a b ≡ pointwise nat_eq (drop i a) (drop i b)) where
+  compared : i < length a → i < length b → pointwise nat_eq a b ≡ (eqb (get_or a i 0) (get_or b i 0) && pointwise nat_eq (drop (suc i) a) (drop (suc i) b))
+  compared h k = l ∙ rw (drop-cons a i 0 h, drop-cons b i 0 k)
+
+  pub alike_more : i < length a → i < length b → get_or a i 0 ≡ get_or b i 0 → pointwise nat_eq a b ≡ pointwise nat_eq (drop (i + 1) a) (drop (i + 1) b)
+  alike_more h k e = rw (add-one i) (compared h k ∙ rw (eq-eqb (get_or a i 0) (get_or b i 0) e))
+
+  pub alike_other : i < length a → i < length b → (get_or a i 0 ≡ get_or b i 0 → ⊥) → false ≡ pointwise nat_eq a b
+  alike_other h k n = sym (compared h k ∙ rw (ne_eqb (get_or a i 0) (get_or b i 0) n))
+
+  pub alike_all : i ≡ length a → i ≡ length b → true ≡ pointwise nat_eq a b
+  alike_all h k =
+      let e : drop i a ≡ [] = rw (h, drop-length a) in
+      let f : drop i b ≡ [] = rw (k, drop-length b) in
+      sym (l ∙ rw (e, f))
 
 module _ (rows : List (List ℕ)) (x : List ℕ) where
   some_place : (n k row : ℕ) → Some row ≡ cond (ltb k n) (Some k) None → (k < n) × (row ≡ k)

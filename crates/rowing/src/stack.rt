@@ -9,9 +9,9 @@ use crate::table::Table;
 use std::marker::Model;
 
 // The limit below which all frames but parentheses have room, and that below which all have.
-const UP_TO_PARENTHESIS: u8 = 5;
+const UP_TO_PARENTHESIS: u16 = 5;
 
-const TO_THE_END: u8 = 10;
+const TO_THE_END: u16 = 10;
 
 // At most N frames.
 #[derive(Drop)]
@@ -49,14 +49,14 @@ impl<const N: usize> Stack<N> {
     }
 
     // The last frame goes, where its room is below the limit.
-    pub fn pop_below(&mut self, limit: u8) -> Option<Frame>
+    pub fn pop_below(&mut self, limit: u16) -> Option<Frame>
         ensures { Pops limit self.old self.new result }
     {
         if self.top == 0 {
             return None;
         }
         let frame = self.frames[self.top - 1];
-        if limit <= frame.room() {
+        if limit <= u16::from(frame.room()) {
             return None;
         }
         self.top -= 1;
@@ -68,7 +68,7 @@ impl<const N: usize> Stack<N> {
 pub fn fill<const N: usize>(
     table: &mut Table,
     stack: &mut Stack<N>,
-    limit: u8,
+    limit: u16,
     row: u8,
 ) -> Option<u8>
     ensures fills { Fills limit table.old row stack.old table.new result stack.new }
@@ -92,7 +92,7 @@ pub fn push<const N: usize>(
     ensures pushes { Pushes (binary_of operator) table.old row stack.old table.new result stack.new }
     ensures near { length stack.new ≤ length stack.old + 1 }
 {
-    let left = fill(table, stack, operator.level(), row)?;
+    let left = fill(table, stack, u16::from(operator.level()), row)?;
     let kept = early(table, operator, left)?;
     stack.push(operator.frame(kept));
     Some(())

@@ -20,11 +20,23 @@ impl Model for Table {
     ghost invariant = { λ t. t.count ≤ 64 };
 }
 
+// Whether two rows have the same numbers: rows that differ do so early.
+fn is_same(row: &[u32; 9], nine: &[u32; 9]) -> bool
+    ensures { result ≡ pointwise nat_eq row.now nine.now }
+{
+    for i in 0..9 {
+        if row[i] != nine[i] {
+            return false;
+        }
+    }
+    true
+}
+
 // The place of the first row with these numbers.
 fn find(rows: &[[u32; 9]], nine: &[u32; 9]) -> Option<usize>
     ensures { result ≡ position (λ row. pointwise nat_eq row nine.now) rows.now }
 {
-    rows.iter().position(|row| row == nine)
+    rows.iter().position(|row| is_same(row, nine))
 }
 
 impl Table {

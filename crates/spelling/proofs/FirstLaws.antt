@@ -1,20 +1,15 @@
 -- The first word of a text that spells words: its first byte says what it is, and where it ends. Assumes nothing.
 use Prim.Native.Nat.{ℕ, suc, ◌+◌, ◌≤◌, ◌<◌}
 use native.Mathlib.Omega.{arith}
-use mathlib.Core.Path.{◌≡◌, refl, ◌∙◌}
-use mathlib.Core.Bool.{Bool, true, false, cond, not}
+use native.Mathlib.Numerals.{add-one}
+use mathlib.Core.Path.{◌≡◌, refl}
+use mathlib.Core.Bool.{Bool, true, false}
 use mathlib.Core.List.{List, [], ◌∷◌, ◌++◌}
-use lib.Dec.{eqb, ltb}
-use lib.ListN.{length, drop, get_or, length-drop}
-use lib.Seq.{drop-drop, get_or-drop}
-use borrow.Author.Tests.{eqb-true, eqb-false}
+use lib.ListN.{length, drop, get_or}
+use lib.Seq.{drop-cons}
 use Rattle.trees.proofs.Tests.{false_true, and_true_l}
 use Rattle.text.specs.Words.{is_letter, is_digit, all, Word, name, number, constant, prefix, binary, quantifier, opening, closing, comma, dot, once, historically, previously, negation, sinces, ands, ors, implies, universal, existential, bytes_of, led, some, Proper, Spelled, nothing, space, word}
-use Rattle.std.specs.Prelude.{Option, Some, None}
-use Rattle.std.specs.Option.{unwrap_or}
-use Rattle.std.specs.List.{position_or_len}
 use Rattle.spelling.specs.Codes.{Spells, Skips}
-use Rattle.spelling.proofs.RunLaws.{first_or}
 
 -- no word begins with a space
 no_space : (w : Word) (rest bs : List ℕ) → Proper w → bytes_of w ++ rest ≡ 32 ∷ bs → ⊥
@@ -46,46 +41,34 @@ unspace bs nothing e = let z : ◌≡◌ {A = ℕ} 0 1 = cc in absurd (omega ari
 unspace bs (space {ws = ws} {bs = ys} s) e = let z : ys ≡ bs = cc in rw (← z) s
 unspace bs (word w {bs = rest} p a s) e = absurd (no_space w rest bs p e)
 
--- the first n bytes are spaces, past which the words stay, and the next is none
-record Blank (xs : List ℕ) (n : ℕ) : Type 0 where
-  pub short : n ≤ length xs
-  pub words : (ws : List Word) → Spells ws xs → Spells ws (drop n xs)
-  pub stop : n < length xs → get_or xs n 0 ≡ 32 → ⊥
+-- the words from a place on are those from another on, spaces being passed
+pub record Skipped (text : List ℕ) (at i : ℕ) : Type 0 where
+  pub low : at ≤ i
+  pub high : i ≤ length text
+  pub words : (ws : List Word) → Spells ws (drop at text) → Spells ws (drop i text)
 
-blank_more : (x : ℕ) (xs : List ℕ) (n : ℕ) → x ≡ 32 → Blank xs n → Blank (x ∷ xs) (1 + n)
-blank_more x xs n e f =
-    let z : 1 + n ≡ suc n = omega arith in
-    rw z (one f)
-  where
-    one : Blank xs n → Blank (x ∷ xs) (suc n)
-    one f = record {
-      short = omega (arith, f.short);
-      words = λ ws s. f.words ws (record { after = false; spelled = unspace xs s.spelled (rw e refl) });
-      stop = λ l q. f.stop (omega (arith, l)) q;
-    }
+pub skip_none : (text : List ℕ) (at : ℕ) → at ≤ length text → Skipped text at at
+skip_none text at h = record { low = omega arith; high = h; words = λ ws s. s }
 
-blank_ends : (x : ℕ) (xs : List ℕ) → (x ≡ 32 → ⊥) → Blank (x ∷ xs) 0
-blank_ends x xs e = record { short = omega arith; words = λ ws s. s; stop = λ l q. e q }
+module _ (text : List ℕ) (at i : ℕ) (k : Skipped text at i) where
+  pub skip_more : i < length text → get_or text i 0 ≡ 32 → Skipped text at (i + 1)
+  skip_more h e = record {
+    low = omega (arith, k.low);
+    high = omega arith;
+    words = λ ws s.
+        let t : Spells ws (drop i text) = k.words ws s in
+        record { after = false; spelled = rw (add-one i) (unspace (drop (suc i) text) t.spelled (rw e at (drop-cons text i 0 h))) };
+  }
 
--- the spaces reach to the first other byte
-blank : (xs : List ℕ) → Blank xs (position_or_len (λ b. not (eqb b 32)) xs)
-blank [] = record { short = omega arith; words = λ ws s. s; stop = λ l q. absurd (omega arith) }
-blank (x ∷ xs) = go (blank xs) (eqb x 32) refl
-  where
-    go : Blank xs (position_or_len (λ b. not (eqb b 32)) xs) → (t : Bool) → eqb x 32 ≡ t → Blank (x ∷ xs) (cond (not (not t)) (1 + position_or_len (λ b. not (eqb b 32)) xs) 0)
-    go f true e = blank_more x xs (position_or_len (λ b. not (eqb b 32)) xs) (eqb-true x 32 e) f
-    go f false e = blank_ends x xs (eqb-false x 32 e)
+  pub skip_stops : (get_or text i 0 ≡ 32 → ⊥) → Skips text at i
+  skip_stops n = record { low = k.low; high = k.high; words = k.words; stop = λ h e. n e }
 
-pub spaces_skip : (text xs : List ℕ) (at : ℕ) {r : Option ℕ} {n : ℕ} → at ≤ length text → xs ≡ drop at text
-    → r ≡ cond (ltb (position_or_len (λ b. not (eqb b 32)) xs) (length xs)) (Some (position_or_len (λ b. not (eqb b 32)) xs)) None
-    → n ≡ unwrap_or r (length xs) → Skips text at (at + n)
-spaces_skip text xs at {r} {n} h x e q =
-    let f : Blank xs (position_or_len (λ b. not (eqb b 32)) xs) = blank xs in
-    let k : n ≡ position_or_len (λ b. not (eqb b 32)) xs = first_or _ _ f.short e q in
-    let g : Blank (drop at text) n = rw (k, ← x) f in
-    record {
-      low = omega arith;
-      high = omega (arith, h, g.short, length-drop at text);
-      words = λ ws s. rw (← (drop-drop n at text)) (g.words ws s);
-      stop = λ l z. g.stop (omega (arith, l, length-drop at text)) (get_or-drop at text n 0 ∙ z);
-    }
+  pub skip_ends : length text ≤ i → Skips text at (length text)
+  skip_ends h =
+      let e : i ≡ length text = omega (arith, k.high) in
+      record {
+        low = omega (arith, k.low);
+        high = omega arith;
+        words = rw (← e) k.words;
+        stop = λ l q. absurd (omega arith);
+      }

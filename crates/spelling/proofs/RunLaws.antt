@@ -2,20 +2,15 @@
 use Prim.Native.Nat.{ℕ, zero, suc, ◌+◌, ◌-◌, ◌≤◌, ◌<◌, ◌*◌}
 use native.Mathlib.Omega.{arith}
 use mathlib.Core.Path.{◌≡◌, refl, sym, ap, ◌∙◌}
-use mathlib.Core.Bool.{Bool, true, false, cond, not}
+use mathlib.Core.Bool.{true, false}
 use mathlib.Core.List.{List, [], ◌∷◌, ◌++◌}
-use lib.Dec.{ltb}
 use lib.ListN.{length, take, drop, get_or, length-drop}
-use lib.Seq.{drop-cons, drop-length, drop-drop, take-length}
-use borrow.Author.Tests.{ltb-false}
+use lib.Seq.{drop-cons, drop-length, take-suc, get_or-drop}
 use native.Mathlib.Numerals.{add-one}
 use Rattle.trees.proofs.Tests.{false_true, and_true_l, and_true_r}
 use Rattle.text.specs.Words.{is_word_byte, all}
 use Rattle.text.specs.Unfold.{value_after}
 use Rattle.text.proofs.LexLaws.{value_grows}
-use Rattle.std.specs.Prelude.{Option, Some, None}
-use Rattle.std.specs.Option.{unwrap_or}
-use Rattle.std.specs.List.{position_or_len}
 use Rattle.spelling.specs.Codes.{Stops, Ends}
 
 -- the run of word bytes at the front is as long as the word
@@ -32,61 +27,43 @@ run_same (b ∷ x) rest (suc n) a s l r e =
     (run_same x rest n (and_true_r (is_word_byte b) (all is_word_byte x) a) s (omega (arith, l))
     (and_true_r (is_word_byte b) (all is_word_byte (take n (x ++ rest))) r) e)
 
--- the first n bytes are letters, digits and `_`, and the next is none
-record Front (xs : List ℕ) (n : ℕ) : Type 0 where
-  pub short : n ≤ length xs
-  pub run : all is_word_byte (take n xs) ≡ true
-  pub stop : Stops (drop n xs)
+-- the bytes from a place on up to another are letters, digits and `_`
+pub record Run (text : List ℕ) (at i : ℕ) : Type 0 where
+  pub low : at ≤ i
+  pub high : i ≤ length text
+  pub run : all is_word_byte (take (i - at) (drop at text)) ≡ true
 
-front_more : (x : ℕ) (xs : List ℕ) (n : ℕ) → is_word_byte x ≡ true → Front xs n → Front (x ∷ xs) (1 + n)
+all_snoc : (xs : List ℕ) (b : ℕ) → all is_word_byte xs ≡ true → is_word_byte b ≡ true → all is_word_byte (xs ++ (b ∷ [])) ≡ true
 unfolding all
-front_more x xs n e f =
-    let z : 1 + n ≡ suc n = omega arith in
-    rw z (one f)
-  where
-    one : Front xs n → Front (x ∷ xs) (suc n)
-    one f = record { short = omega (arith, f.short); run = rw e f.run; stop = f.stop }
+all_snoc [] b h e = rw e
+all_snoc (x ∷ xs) b h e =
+    rw (and_true_l (is_word_byte x) (all is_word_byte xs) h) (all_snoc xs b (and_true_r (is_word_byte x) (all is_word_byte xs) h) e)
 
-front_ends : (x : ℕ) (xs : List ℕ) → is_word_byte x ≡ false → Front (x ∷ xs) 0
+pub run_none : (text : List ℕ) (at : ℕ) → at ≤ length text → Run text at at
 unfolding all
-front_ends x xs e = record { short = omega arith; run = refl; stop = e }
+run_none text at h =
+    let z : at - at ≡ 0 = omega arith in
+    record { low = omega arith; high = h; run = rw z }
 
--- the front reaches to the first other byte
-front : (xs : List ℕ) → Front xs (position_or_len (λ b. not (is_word_byte b)) xs)
-unfolding all
-front [] = record { short = omega arith; run = refl; stop = tt }
-front (x ∷ xs) = go (front xs) (is_word_byte x) refl
-  where
-    go : Front xs (position_or_len (λ b. not (is_word_byte b)) xs) → (t : Bool) → is_word_byte x ≡ t → Front (x ∷ xs) (cond (not (not t)) (1 + position_or_len (λ b. not (is_word_byte b)) xs) 0)
-    go f true e = front_more x xs (position_or_len (λ b. not (is_word_byte b)) xs) e f
-    go f false e = front_ends x xs e
+module _ (text : List ℕ) (at i : ℕ) (r : Run text at i) where
+  pub run_more : i < length text → is_word_byte (get_or text i 0) ≡ true → Run text at (i + 1)
+  run_more h e =
+      let n : (i + 1) - at ≡ suc (i - at) = omega (arith, r.low) in
+      let m : at + (i - at) ≡ i = omega (arith, r.low) in
+      let l : i - at < length (drop at text) = simp length-drop (omega (arith, r.low)) in
+      record {
+        low = omega (arith, r.low);
+        high = omega arith;
+        run = rw (n, take-suc (drop at text) (i - at) 0 l, get_or-drop at text (i - at) 0, m) (all_snoc _ _ r.run e);
+      }
 
--- the first place, or the length where there is none
-pub first_or : {r : Option ℕ} {n : ℕ} (k m : ℕ) → k ≤ m → r ≡ cond (ltb k m) (Some k) None → n ≡ unwrap_or r m → n ≡ k
-first_or {r} {n} k m l e h = go (ltb k m) refl e
-  where
-    go : (t : Bool) → ltb k m ≡ t → r ≡ cond t (Some k) None → n ≡ k
-    go true q i = rw i at h
-    go false q i = rw i at h ∙ omega (arith, l, ltb-false k m q)
+  pub run_stops : i < length text → is_word_byte (get_or text i 0) ≡ false → Ends text at i
+  run_stops h e = record { low = r.low; high = r.high; run = r.run; stop = rw (drop-cons text i 0 h) e }
 
--- the rest of a text is a slice of it
-pub rest_is : (text : List ℕ) (at : ℕ) → take (length text - at) (drop at text) ≡ drop at text
-rest_is text at = rw (← (length-drop at text)) (take-length (drop at text))
-
-pub run_ends : (text xs : List ℕ) (at : ℕ) {r : Option ℕ} {n : ℕ} → at ≤ length text → xs ≡ drop at text
-    → r ≡ cond (ltb (position_or_len (λ b. not (is_word_byte b)) xs) (length xs)) (Some (position_or_len (λ b. not (is_word_byte b)) xs)) None
-    → n ≡ unwrap_or r (length xs) → Ends text at (at + n)
-run_ends text xs at {r} {n} h x e q =
-    let f : Front xs (position_or_len (λ b. not (is_word_byte b)) xs) = front xs in
-    let k : n ≡ position_or_len (λ b. not (is_word_byte b)) xs = first_or _ _ f.short e q in
-    let g : Front (drop at text) n = rw (k, ← x) f in
-    let m : (at + n) - at ≡ n = omega arith in
-    record {
-      low = omega arith;
-      high = omega (arith, h, g.short, length-drop at text);
-      run = rw m g.run;
-      stop = rw (← (drop-drop n at text)) g.stop;
-    }
+  pub run_ends : length text ≤ i → Ends text at (length text)
+  run_ends h =
+      let e : i ≡ length text = omega (arith, r.high) in
+      record { low = omega (arith, r.low); high = omega arith; run = rw (← e) r.run; stop = rw (drop-length text) tt }
 
 -- the digits left, read after the value, give the value of all
 pub record Reading (digits : List ℕ) (i value : ℕ) : Type 0 where

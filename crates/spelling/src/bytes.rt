@@ -16,31 +16,77 @@ pub enum Beginning {
     Foreign,
 }
 
-#[tactic(auto, unfolding(crate::specs::Codes::class_number, crate::specs::Codes::code_of, text::specs::Reader::class_of, text::specs::Reader::sign_among, text::specs::Reader::signs, text::specs::Words::is_letter, text::specs::Words::is_digit, text::specs::Words::same, text::specs::Words::bytes_of))]
+// Each by a short name, for the table.
+const X: Beginning = Beginning::Foreign;
+
+const L: Beginning = Beginning::Word(Kind::Name);
+
+const D: Beginning = Beginning::Word(Kind::Constant);
+
+const SPACE: Beginning = Beginning::Space;
+
+const DASH: Beginning = Beginning::Word(Kind::Implies);
+
+const AT: Beginning = Beginning::Word(Kind::Before);
+
+const BANG: Beginning = Beginning::Word(Kind::Not);
+
+const AND: Beginning = Beginning::Word(Kind::And);
+
+const BAR: Beginning = Beginning::Word(Kind::Or);
+
+const OPEN: Beginning = Beginning::Word(Kind::Open);
+
+const CLOSE: Beginning = Beginning::Word(Kind::Close);
+
+const COMMA: Beginning = Beginning::Word(Kind::Comma);
+
+const DOT: Beginning = Beginning::Word(Kind::Dot);
+
+// What each byte begins.
+static CLASS: [Beginning; 256] = [
+    X, X, X, X, X, X, X, X, X, X, X, X, X, X, X, X, X, X, X, X, X, X, X, X, X, X, X, X, X, X, X, X,
+    SPACE, BANG, X, X, X, X, AND, X, OPEN, CLOSE, X, X, COMMA, DASH, DOT, X, D, D, D, D, D, D, D,
+    D, D, D, X, X, X, X, X, X, AT, L, L, L, L, L, L, L, L, L, L, L, L, L, L, L, L, L, L, L, L, L,
+    L, L, L, L, L, X, X, X, X, X, X, L, L, L, L, L, L, L, L, L, L, L, L, L, L, L, L, L, L, L, L, L,
+    L, L, L, L, L, X, BAR, X, X, X, X, X, X, X, X, X, X, X, X, X, X, X, X, X, X, X, X, X, X, X, X,
+    X, X, X, X, X, X, X, X, X, X, X, X, X, X, X, X, X, X, X, X, X, X, X, X, X, X, X, X, X, X, X, X,
+    X, X, X, X, X, X, X, X, X, X, X, X, X, X, X, X, X, X, X, X, X, X, X, X, X, X, X, X, X, X, X, X,
+    X, X, X, X, X, X, X, X, X, X, X, X, X, X, X, X, X, X, X, X, X, X, X, X, X, X, X, X, X, X, X, X,
+    X, X, X, X, X, X, X, X, X, X, X,
+];
+
 pub fn class_of(b: u8) -> Beginning
     ensures { beginning_code result ≡ class_number (class_of b) }
 {
-    match b {
-        b'A'..=b'Z' | b'a'..=b'z' => Beginning::Word(Kind::Name),
-        b'0'..=b'9' => Beginning::Word(Kind::Constant),
-        b' ' => Beginning::Space,
-        b'-' => Beginning::Word(Kind::Implies),
-        b'@' => Beginning::Word(Kind::Before),
-        b'!' => Beginning::Word(Kind::Not),
-        b'&' => Beginning::Word(Kind::And),
-        b'|' => Beginning::Word(Kind::Or),
-        b'(' => Beginning::Word(Kind::Open),
-        b')' => Beginning::Word(Kind::Close),
-        b',' => Beginning::Word(Kind::Comma),
-        b'.' => Beginning::Word(Kind::Dot),
-        _ => Beginning::Foreign,
-    }
+    CLASS[b as usize]
 }
 
-// Whether a word of letters goes on with the byte.
-#[tactic(auto, unfolding(text::specs::Words::is_word_byte, text::specs::Words::is_letter, text::specs::Words::is_digit))]
+// Whether a word of letters goes on with each byte.
+static WORDY: [bool; 256] = [
+    false, false, false, false, false, false, false, false, false, false, false, false, false,
+    false, false, false, false, false, false, false, false, false, false, false, false, false,
+    false, false, false, false, false, false, false, false, false, false, false, false, false,
+    false, false, false, false, false, false, false, false, false, true, true, true, true, true,
+    true, true, true, true, true, false, false, false, false, false, false, false, true, true,
+    true, true, true, true, true, true, true, true, true, true, true, true, true, true, true, true,
+    true, true, true, true, true, true, true, true, false, false, false, false, true, false, true,
+    true, true, true, true, true, true, true, true, true, true, true, true, true, true, true, true,
+    true, true, true, true, true, true, true, true, true, false, false, false, false, false, false,
+    false, false, false, false, false, false, false, false, false, false, false, false, false,
+    false, false, false, false, false, false, false, false, false, false, false, false, false,
+    false, false, false, false, false, false, false, false, false, false, false, false, false,
+    false, false, false, false, false, false, false, false, false, false, false, false, false,
+    false, false, false, false, false, false, false, false, false, false, false, false, false,
+    false, false, false, false, false, false, false, false, false, false, false, false, false,
+    false, false, false, false, false, false, false, false, false, false, false, false, false,
+    false, false, false, false, false, false, false, false, false, false, false, false, false,
+    false, false, false, false, false, false, false, false, false, false, false, false, false,
+    false, false, false, false, false, false, false, false, false, false,
+];
+
 pub fn is_word_byte(b: u8) -> bool
     ensures { result ≡ is_word_byte b }
 {
-    matches!(b, b'A'..=b'Z' | b'a'..=b'z' | b'0'..=b'9' | b'_')
+    WORDY[b as usize]
 }

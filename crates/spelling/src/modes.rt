@@ -19,49 +19,51 @@ pub enum Mode {
     Nothing,
 }
 
+// Each by a short name, for the table.
+const OPERAND: Mode = Mode::Operand;
+
+const OPERATOR: Mode = Mode::Operator;
+
+const NAMED: Mode = Mode::AfterName;
+
+const VARIABLE: Mode = Mode::Variable;
+
+const QUANTIFIED: Mode = Mode::AfterVariable;
+
+const ARGUMENT: Mode = Mode::Argument;
+
+const ARGUED: Mode = Mode::AfterArgument;
+
+const X: Mode = Mode::Nothing;
+
+// Where each word leads, from each mode: the words of `Kind` in their order.
+static NEXT: [[Mode; 18]; 8] = [
+    [
+        NAMED, X, OPERATOR, OPERATOR, OPERAND, OPERAND, OPERAND, OPERAND, X, X, X, X, VARIABLE,
+        VARIABLE, OPERAND, X, X, X,
+    ],
+    [
+        X, X, X, X, X, X, X, X, OPERAND, OPERAND, OPERAND, OPERAND, X, X, X, OPERATOR, X, X,
+    ],
+    [
+        X, X, X, X, X, X, X, X, OPERAND, OPERAND, OPERAND, OPERAND, X, X, ARGUMENT, OPERATOR, X, X,
+    ],
+    [
+        QUANTIFIED, X, X, X, X, X, X, X, X, X, X, X, X, X, X, X, X, X,
+    ],
+    [X, X, X, X, X, X, X, X, X, X, X, X, X, X, X, X, X, OPERAND],
+    [
+        ARGUED, ARGUED, X, X, X, X, X, X, X, X, X, X, X, X, X, X, X, X,
+    ],
+    [
+        X, X, X, X, X, X, X, X, X, X, X, X, X, X, X, OPERATOR, ARGUMENT, X,
+    ],
+    [X, X, X, X, X, X, X, X, X, X, X, X, X, X, X, X, X, X],
+];
+
 // The mode after a word. A `)` that closes nothing is not told apart here.
-#[tactic(auto, unfolding(crate::specs::Codes::next_mode, crate::specs::Codes::nexts, crate::specs::Codes::kinds))]
 pub fn next_mode(mode: Mode, word: Kind) -> Mode
     ensures { mode_code result ≡ next_mode (mode_code mode) (kind_code word) }
 {
-    match mode {
-        Mode::Operand => match word {
-            Kind::Name => Mode::AfterName,
-            Kind::True | Kind::False => Mode::Operator,
-            Kind::Once | Kind::Historically | Kind::Before | Kind::Not | Kind::Open => {
-                Mode::Operand
-            }
-            Kind::Forall | Kind::Exists => Mode::Variable,
-            _ => Mode::Nothing,
-        },
-        Mode::Operator => match word {
-            Kind::Since | Kind::And | Kind::Or | Kind::Implies => Mode::Operand,
-            Kind::Close => Mode::Operator,
-            _ => Mode::Nothing,
-        },
-        Mode::AfterName => match word {
-            Kind::Since | Kind::And | Kind::Or | Kind::Implies => Mode::Operand,
-            Kind::Open => Mode::Argument,
-            Kind::Close => Mode::Operator,
-            _ => Mode::Nothing,
-        },
-        Mode::Variable => match word {
-            Kind::Name => Mode::AfterVariable,
-            _ => Mode::Nothing,
-        },
-        Mode::AfterVariable => match word {
-            Kind::Dot => Mode::Operand,
-            _ => Mode::Nothing,
-        },
-        Mode::Argument => match word {
-            Kind::Name | Kind::Constant => Mode::AfterArgument,
-            _ => Mode::Nothing,
-        },
-        Mode::AfterArgument => match word {
-            Kind::Close => Mode::Operator,
-            Kind::Comma => Mode::Argument,
-            _ => Mode::Nothing,
-        },
-        Mode::Nothing => Mode::Nothing,
-    }
+    NEXT[mode as usize][word as usize]
 }

@@ -38,11 +38,12 @@ fn word_end(text: &[u8], at: usize) -> usize
     requires { at ≤ length text.now }
     ensures { Ends text.now at result }
 {
-    let rest = &text[at..];
-    at + rest
-        .iter()
-        .position(|b| !is_word_byte(*b))
-        .unwrap_or(rest.len())
+    for i in at..text.len() {
+        if !is_word_byte(text[i]) {
+            return i;
+        }
+    }
+    text.len()
 }
 
 // The end of the spaces from `at` on.
@@ -50,11 +51,16 @@ fn spaces_end(text: &[u8], at: usize) -> usize
     requires { at ≤ length text.now }
     ensures { Skips text.now at result }
 {
-    let rest = &text[at..];
-    at + rest.iter().position(|b| *b != b' ').unwrap_or(rest.len())
+    for i in at..text.len() {
+        if text[i] != b' ' {
+            return i;
+        }
+    }
+    text.len()
 }
 
 // The first word from `at` on, or none where no word is left, for a text that spells words from there.
+#[inline(always)]
 pub fn next_word(text: &[u8], at: usize) -> Option<Taken>
     requires { at ≤ length text.now }
     ensures { (v : Bool) (ws : List Word) → Spelled v ws (drop at text.now) → Next text.now at ws result }

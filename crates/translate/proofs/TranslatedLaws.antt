@@ -3,10 +3,9 @@ use Prim.Native.Nat.{ℕ, ◌≤◌, ◌<◌}
 use native.Mathlib.Omega.{arith}
 use mathlib.Core.Path.{◌≡◌, refl, sym, ap, ◌∙◌}
 use mathlib.Core.Bool.{Bool, true, false}
-use mathlib.Core.List.{List, ◌++◌}
-use lib.ListN.{length, take, drop, replicate, length-take}
+use mathlib.Core.List.{List}
+use lib.ListN.{length, take, length-take}
 use Rattle.std.specs.Option.{ok_or}
-use Rattle.translate.proofs.LayingLaws.{laid_is}
 use Rattle.std.specs.List.{flat_map}
 use Rattle.std.specs.Prelude.{Option, Some, None, Err}
 use Rattle.text.specs.Grammar.{Reading, RuleText, HasReading, Place}
@@ -100,11 +99,10 @@ module _ (text before : List ℕ) (h : HasReading text) (l : length text ≤ 409
                 ∙ rw (count_is, ← (told_rows (formula_of h.reading) table (rows h.reading h.text)), ← (q.names h.reading h.text), ← (v.names h.reading h.text)))
 
             -- what was written, as the code lays it
-            pub rows_written : (made : List (List ℕ)) (numbers copied zeros : List ℕ) (pn vn : List Span) → made ≡ table → numbers ≡ flat_map (λ x. x) made → copied ≡ numbers
-                → zeros ≡ replicate (length before) 0 → Table text ps → Table text vs → pn ≡ laid nowhere 64 ps → vn ≡ laid nowhere 4 vs
-                → Says (length before) text (makes (copied ++ drop (length numbers) zeros) (length made) (names_at text (take (length ps) pn)) (names_at text (take (length vs) vn)))
+            pub rows_written : (made : List (List ℕ)) (numbers to : List ℕ) (pn vn : List Span) → made ≡ table → numbers ≡ flat_map (λ x. x) made
+                → to ≡ laid 0 (length before) numbers → Table text ps → Table text vs → pn ≡ laid nowhere 64 ps → vn ≡ laid nowhere 4 vs
+                → Says (length before) text (makes to (length made) (names_at text (take (length ps) pn)) (names_at text (take (length vs) vn)))
                 × Named text pn (length ps) 64 × Named text vn (length vs) 4
-            rows_written made numbers copied zeros pn vn m n e o t u b c =
-                let l : copied ++ drop (length numbers) zeros ≡ laid 0 576 (flat_map (λ x. x) table) =
-                laid_is 0 576 copied numbers zeros e (o ∙ ap (λ (k : ℕ). replicate k 0) z) ∙ rw (n, m) refl in
+            rows_written made numbers to pn vn m n e t u b c =
+                let l : to ≡ laid 0 576 (flat_map (λ x. x) table) = e ∙ rw (z, n, m) refl in
                 rw (l, m, b, c, laid_names text ps 64 few_names, laid_names text vs 4 v.few) (says_rows, laid_named text ps 64 few_names t, laid_named text vs 4 v.few u)

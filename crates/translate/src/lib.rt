@@ -2,6 +2,7 @@
 // the promise is specs/Translated.antt. Total: any bytes, and a row slice of any length. Assumes nothing.
 #![tactic(auto)]
 
+mod laying;
 mod reading;
 pub mod refusals;
 

@@ -8,6 +8,7 @@ ghost use Rattle.drive.specs.Driving.{Passed};
 ghost use Rattle.translate.specs.Translated.{laid, Limits, Translated};
 
 use crate::Translation;
+use crate::laying::lay;
 use crate::refusals::Refusal;
 use census::calls::too_many;
 use census::constants::too_large;
@@ -39,7 +40,7 @@ fn placed<const N: usize>(from: &[Span]) -> [Span; N]
     ensures { result ≡ laid nowhere N from.now }
 {
     let mut to = [Span::NOWHERE; N];
-    to[..from.len()].copy_from_slice(from);
+    lay(from, Span::NOWHERE, &mut to);
     to
 }
 
@@ -60,8 +61,7 @@ fn with_known(known: Known, rows: &mut [u32]) -> Result<Translation, Refusal>
     rows_of(known, &mut table).ok_or(Refusal::ManyRows)?;
     let made = table.rows();
     let numbers = made.as_flattened();
-    rows.fill(0);
-    rows[..numbers.len()].copy_from_slice(numbers);
+    lay(numbers, 0, rows);
     Ok(Translation {
         rows: made.len(),
         predicates: known.predicates.len(),

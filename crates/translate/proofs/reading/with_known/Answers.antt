@@ -17,11 +17,11 @@ returns-in_err-ok_or c =
     let p = err_from_is_err_and c.from_residual.result c.from_residual.ensures.1 in
     rw (p.1, p.2) (says_9 c.args.known.text.now c.args.rows.now c.requires.has_reading.0 c.requires.has_reading.1 c.requires.rows_len c.requires.has_reading.2 _ c.requires.names.1 _ (rw c.predicate_names.ensures.0 at c.clashes.ensures) c.if-clashes.false _ (rw c.variable_names.ensures.0 at c.has_free.ensures) c.if-has_free.false _ _ _ c.rows_of.ensures c.in_err-ok_or.ensures.value, refl)
 
-pub slice_bounds-copy_from_slice-end : goal.slice_bounds-copy_from_slice-end
-slice_bounds-copy_from_slice-end c = omega (arith, c.as_flattened-numbers.ensures.len, c.rows-made.ensures.few, ap length c.rows-made.ensures.rows, c.fill.ensures.len, c.requires.rows_len)
+pub lay-requires : goal.lay-requires
+lay-requires c = omega (arith, c.as_flattened-numbers.ensures.len, c.rows-made.ensures.few, ap length c.rows-made.ensures.rows, c.requires.rows_len)
 
 pub placed-requires : goal.placed-requires
 placed-requires c = (omega arith, few_names c.args.known.text.now c.args.rows.now c.requires.has_reading.0 c.requires.has_reading.1 c.requires.rows_len c.requires.has_reading.2 _ c.requires.names.1 _ (rw c.predicate_names.ensures.0 at c.clashes.ensures) c.if-clashes.false _ (rw c.variable_names.ensures.0 at c.has_free.ensures) c.if-has_free.false _ _ (rw c.in_ok-ok_or.ensures.ok_part at c.rows_of.ensures) c.rows-made.ensures.few _ c.requires.names.0)
 
 pub returns : goal.returns
-returns c = rows_written c.args.known.text.now c.args.rows.now c.requires.has_reading.0 c.requires.has_reading.1 c.requires.rows_len c.requires.has_reading.2 _ c.requires.names.1 _ (rw c.predicate_names.ensures.0 at c.clashes.ensures) c.if-clashes.false _ (rw c.variable_names.ensures.0 at c.has_free.ensures) c.if-has_free.false _ _ (rw c.in_ok-ok_or.ensures.ok_part at c.rows_of.ensures) c.rows-made.ensures.few _ c.requires.names.0 _ _ _ _ _ _ c.rows-made.ensures.rows c.as_flattened-numbers.ensures.value c.copy_from_slice.ensures.after (c.fill.ensures.after (λ y e. e)) c.args.known.called c.args.known.bound c.placed.ensures c.placed-2.ensures
+returns c = rows_written c.args.known.text.now c.args.rows.now c.requires.has_reading.0 c.requires.has_reading.1 c.requires.rows_len c.requires.has_reading.2 _ c.requires.names.1 _ (rw c.predicate_names.ensures.0 at c.clashes.ensures) c.if-clashes.false _ (rw c.variable_names.ensures.0 at c.has_free.ensures) c.if-has_free.false _ _ (rw c.in_ok-ok_or.ensures.ok_part at c.rows_of.ensures) c.rows-made.ensures.few _ c.requires.names.0 _ _ _ _ _ c.rows-made.ensures.rows c.as_flattened-numbers.ensures.value c.lay.ensures c.args.known.called c.args.known.bound c.placed.ensures c.placed-2.ensures

@@ -1,0 +1,35 @@
+-- A rule of a table, proved at all of its entries by one test that is computed, one entry after the other. Assumes nothing.
+use mathlib.Core.Path.{◌∙◌, subst, sym}
+use mathlib.Core.Bool.{Bool, true, false}
+use mathlib.Core.List.{List, [], ◌∷◌}
+use Prim.Native.Nat.{ℕ, zero, suc, ◌+◌, ◌<◌}
+use native.Mathlib.Nat.{add-zero, zero-add, add-suc, suc-add, le_of_suc-le-suc, not-suc-le-zero}
+use lib.Dec.{T}
+use lib.ListN.{length, get_or}
+
+abbrev pub both : Bool → Bool → Bool
+both true b = b
+both false b = false
+
+both_left : (a b : Bool) → T (both a b) → T a
+both_left true b t = tt
+both_left false b t = t
+
+both_right : (a b : Bool) → T (both a b) → T b
+both_right true b t = t
+both_right false b t = absurd t
+
+-- the test passes at each entry of the list and its place, counted from i
+abbrev pub every : {A : Type 0} → (ℕ → A → Bool) → ℕ → List A → Bool
+every f i [] = true
+every f i (x ∷ xs) = both (f i x) (every f (suc i) xs)
+
+from : {A : Type 0} (f : ℕ → A → Bool) (xs : List A) (z : A) (i : ℕ) → T (every f i xs) → (k : ℕ) → k < length xs → T (f (i + k) (get_or xs k z))
+from f [] z i t k h = absurd (not-suc-le-zero h)
+from f (x ∷ xs) z i t zero h = subst (λ (m : ℕ). T (f m x)) (sym (add-zero i)) (both_left (f i x) (every f (suc i) xs) t)
+from f (x ∷ xs) z i t (suc k) h =
+    subst (λ (m : ℕ). T (f m (get_or xs k z))) (suc-add i k ∙ sym (add-suc i k))
+    (from f xs z (suc i) (both_right (f i x) (every f (suc i) xs) t) k (le_of_suc-le-suc h))
+
+pub at : {A : Type 0} (f : ℕ → A → Bool) (xs : List A) (z : A) → T (every f 0 xs) → (k : ℕ) → k < length xs → T (f k (get_or xs k z))
+at f xs z t k h = subst (λ (m : ℕ). T (f m (get_or xs k z))) (zero-add k) (from f xs z 0 t k h)
