@@ -11,7 +11,7 @@ ghost use Rattle.aging.specs.Dates.{limit_of, Short, age_of, Chain, Under, ReadB
 
 use crate::Bound;
 use making::lent::Lent;
-use nodes::Node;
+use nodes::{Node, read};
 
 // The nodes of `count` bits of the age m, from the level `base` on: at each level one side is no.
 fn make_bits(lent: &mut Lent<'_>, c: usize, base: u32, count: u32, m: u32) -> Option<u32>
@@ -54,31 +54,40 @@ pub fn make_age(lent: &mut Lent<'_>, c: usize, k: u32, age: Option<u32>) -> Opti
 }
 
 // The number whose `count` bits, from the level `base` on, are the diagram of p.
-fn read_bits(lent: &Lent<'_>, base: u32, count: u32, p: u32) -> u32
-    requires table { Table lent.now.nodes.now lent.now.count }
-    requires p_bound { (p < lent.now.count + 2) × (count ≤ 11) × (base + count < 4294967296) × Chain base count (at (trees_of lent.now.nodes.now lent.now.count) p) }
-    ensures { ReadBits base count (at (trees_of lent.now.nodes.now lent.now.count) p) result }
+fn read_bits(nodes: &[u32], n: u32, base: u32, count: u32, p: u32) -> u32
+    requires table { Table nodes.now n }
+    requires p_bound { (p < n + 2) × (count ≤ 11) × (base + count < 4294967296) × Chain base count (at (trees_of nodes.now n) p) }
+    ensures { ReadBits base count (at (trees_of nodes.now n) p) result }
 {
     if count == 0 {
         return 0;
     }
-    let x = lent.read(p);
+    let x = read(nodes, n, p);
     if x.low == 0 {
-        return 2 * read_bits(lent, base + 1, count - 1, x.high) + 1;
+        return 2 * read_bits(nodes, n, base + 1, count - 1, x.high) + 1;
     }
-    2 * read_bits(lent, base + 1, count - 1, x.low)
+    2 * read_bits(nodes, n, base + 1, count - 1, x.low)
 }
 
 // The age that the diagram of p, which asks no binding's level, shows.
-pub fn read_age(lent: &Lent<'_>, k: u32, p: u32) -> Option<u32>
-    requires table { Table lent.now.nodes.now lent.now.count }
-    requires p_bound { (p < lent.now.count + 2) × (k ≤ 10) × Under k (at (trees_of lent.now.nodes.now lent.now.count) p) }
-    ensures { ReadAge k (at (trees_of lent.now.nodes.now lent.now.count) p) result }
+pub fn read_age(nodes: &[u32], n: u32, k: u32, p: u32) -> Option<u32>
+    requires table { Table nodes.now n }
+    requires p_bound { (p < n + 2) × (k ≤ 10) × Under k (at (trees_of nodes.now n) p) }
+    ensures { ReadAge k (at (trees_of nodes.now n) p) result }
 {
     if p == 0 {
         return None;
     }
-    Some(read_bits(lent, 4 * k, 11, p))
+    Some(read_bits(nodes, n, 4 * k, 11, p))
+}
+
+// The same, of the nodes that are lent.
+pub fn old_age(lent: &Lent<'_>, k: u32, p: u32) -> Option<u32>
+    requires table { Table lent.now.nodes.now lent.now.count }
+    requires p_bound { (p < lent.now.count + 2) × (k ≤ 10) × Under k (at (trees_of lent.now.nodes.now lent.now.count) p) }
+    ensures { ReadAge k (at (trees_of lent.now.nodes.now lent.now.count) p) result }
+{
+    read_age(lent.nodes, lent.count, k, p)
 }
 
 // An old age after a step of t: within d there is none if over d, and longer than d has d + 1 for any longer. No age is over 1,024, so a

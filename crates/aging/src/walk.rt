@@ -5,7 +5,6 @@
 // The memory of results is the walks' own, cleared before and after: while a walk lasts it stands for this task alone.
 ghost use Rattle.std.specs.Prelude.{◌+◌, ◌*◌, ◌<◌, ◌≤◌, length};
 ghost use Rattle.trees.specs.Table.{at, trees_of};
-ghost use Rattle.nodes.specs.Nodes.{Zeroed};
 ghost use Rattle.making.specs.Tables.{Added, Shelf, Shelved};
 ghost use Rattle.making.specs.Loans.{SameLoans, made};
 ghost use Rattle.walks.specs.Walks.{Within};
@@ -15,11 +14,11 @@ ghost use Rattle.aging.specs.Dates.{limit_of, Short, Under, Dated, Plain, Ageing
 ghost use Rattle.aging.specs.Tasks.{bound_of, does, Eased};
 ghost use Rattle.aging.specs.Slates.{applied, Slate, Slated};
 
-use crate::age::{is_ripe, make_age, next_age, read_age};
+use crate::age::{is_ripe, make_age, next_age, old_age};
 use crate::{Bound, Task};
 use making::lent::{Layout, Lent};
 use making::memory::{Key, spot};
-use nodes::Node;
+use nodes::{Node, zero};
 use walks::parting::{Three, part};
 
 // What the references alone tell: where the left side is no, or within d where the right side is yes, the old ages do not matter.
@@ -40,7 +39,7 @@ fn ended(lent: &mut Lent<'_>, c: usize, k: u32, task: Task, x: Three) -> Option<
     ensures same { SameLoans lent.old lent.new }
     ensures added { Added (λ ns j. Shelved lent.old.work.now ns j lent.new.work.now c) lent.old.nodes.now lent.new.nodes.now lent.old.count (applied (does k task) (trees_of lent.old.nodes.now lent.old.count) x.l x.r x.o) (made lent.new.count result) }
 {
-    let old = read_age(lent, k, x.o);
+    let old = old_age(lent, k, x.o);
     match task {
         Task::Ages(b, t) => {
             let age = next_age(b, t, x.l == 1, x.r == 1, old);
@@ -81,14 +80,6 @@ fn walk(lent: &mut Lent<'_>, layout: Layout, k: u32, task: Task, left: u32, x: T
     lent.keep(layout.c, i, key, node)
 }
 
-// Clears the numbers from `from` on and before `to`.
-fn wipe(work: &mut [u32], from: usize, to: usize)
-    requires { (from ≤ to) × (to ≤ length work.old) }
-    ensures { Zeroed from to work.old work.new }
-{
-    work[from..to].fill(0);
-}
-
 // The task on three diagrams, with the memory cleared before, so that it stands for this task alone, and after, so that it stands for the other
 // walks' results again.
 fn run(lent: &mut Lent<'_>, layout: Layout, k: u32, task: Task, x: Three) -> Option<u32>
@@ -99,10 +90,10 @@ fn run(lent: &mut Lent<'_>, layout: Layout, k: u32, task: Task, x: Three) -> Opt
 {
     let from = 5 * layout.c;
     let work = &mut *lent.work;
-    wipe(work, from, 5 * layout.c + 4 * layout.slots);
+    zero(work, from, 5 * layout.c + 4 * layout.slots);
     let reference = walk(lent, layout, k, task, 4 * k, x);
     let work = &mut *lent.work;
-    wipe(work, from, from + 4 * layout.slots);
+    zero(work, from, from + 4 * layout.slots);
     reference
 }
 

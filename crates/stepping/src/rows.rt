@@ -22,6 +22,7 @@ use diagram::row::{row, unvisited};
 use diagram::{Done, Refused};
 use making::lent::{Layout, Lent};
 use nodes::table::Nodes;
+use nodes::zero;
 use rule::Row;
 use sweeping::renew;
 use walks::Seen;
@@ -111,7 +112,8 @@ pub fn worked(
     };
     let layout = Layout { c, slots };
     let Some(visits) = work_rows(&mut lent, layout, k, moment, refs, &mut news) else {
-        nodes[3 * (kept as usize)..].fill(0);
+        let end = nodes.len();
+        zero(nodes, 3 * (kept as usize), end);
         work[0..16 * c + 1024].fill(0);
         return Err(Refused::Full);
     };

@@ -1,5 +1,6 @@
 -- The laws of the canonical sweep.
 pub mod NoteLaws
+pub mod CopyLaws
 pub mod SweepLaws
 pub mod RowsLaws
 pub mod Visited

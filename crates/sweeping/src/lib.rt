@@ -7,7 +7,7 @@ ghost use Rattle.std.specs.Prelude.{◌≡◌, ℕ, ◌+◌, ◌*◌, ◌-◌, �
 ghost use Rattle.nodes.specs.Nodes.{Table, Rows};
 ghost use Rattle.sweeping.specs.Sweeps.{Noted, Ordered, Known, Emitted, Awaits, Copied, Renewal};
 
-use nodes::{Node, read};
+use nodes::{Node, read, zero};
 
 // What the sweep of a diagram answers: the count of nodes of the new table, the diagram's reference there, and how many
 // visits the sweep took: one for each reference that it followed.
@@ -135,8 +135,11 @@ fn copy_back(work: &[u32], nodes: &mut [u32], n: u32)
     ensures { nodes.new ≡ take (3 * n) work.now ++ replicate (length nodes.old - 3 * n) 0 }
 {
     let k = 3 * (n as usize);
-    nodes[..k].copy_from_slice(&work[..k]);
-    nodes[k..].fill(0);
+    for i in 0..k {
+        nodes[i] = work[i];
+    }
+    let end = nodes.len();
+    zero(nodes, k, end);
 }
 
 // Makes the nodes the canonical table of the diagrams of the first `count` references: the rows in order, each diagram

@@ -34,8 +34,8 @@ returns-in_default-clause-leaves c =
     let slots = c.slots_for-slots.result in
     let z = filled (4 * C) (5 * C + 4 * slots) c.args.work.now _ (omega arith) (omega (arith, f.room, c.slots_for-slots.ensures.1)) (c.fill.ensures.after (λ y h. h)) in
     full_leaves s.k (count_of_rows s.moment.rows.now) (planned s.moment.rows.now s.moment.event.now s.moment.given.now) s.refs.now s.kept s.nodes.now s.work.now f s.sizes.now c.requires.ready.0 (c.in_default.ensures.all)
-    (zeroed_back (filled _ _ _ _ (omega arith) (omega arith) (c.fill-in_default.ensures.after (λ y h. h))) (search rules))
-    (lent_cleared s.nodes.now f _ c.slots_for-slots.ensures.1 z _ (c.fill-in_default-2.ensures.after (λ y h. h)) (search rules))
+    (zeroed_back c.zero.ensures (search rules))
+    (lent_cleared s.nodes.now f _ c.slots_for-slots.ensures.1 z _ (c.fill-in_default.ensures.after (λ y h. h)) (search rules))
 
 pub overflow_cast-count : goal.overflow_cast-count
 overflow_cast-count c = omega (arith, few_rows _ c.args.moment.right.0)
