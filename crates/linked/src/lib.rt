@@ -95,6 +95,6 @@ pub fn moheguzari_lookup(
     }
     let before = packing::unpack(state);
     let found = numbers::look_up(before.k, before.counts, values, variable, Value(value));
-    answer.copy_from_slice(&packing::told(found));
+    packing::put_found(found, answer);
     true
 }

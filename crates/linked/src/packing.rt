@@ -67,7 +67,7 @@ pub fn answered(answer: Answer, complements: u32, swept: u32, numbered: [u32; 4]
 }
 
 // The 2 numbers of what looking a value up tells.
-pub fn told(found: Lookup) -> [u32; 2]
+fn told(found: Lookup) -> [u32; 2]
     ensures { result ≡ packed_lookup found }
 {
     match found {
@@ -76,4 +76,14 @@ pub fn told(found: Lookup) -> [u32; 2]
         Lookup::NoneLeft => [2, 0],
         Lookup::Misfit => [3, 0],
     }
+}
+
+// Writes what looking a value up tells. One by one: from an array in a register the search would put the answer together at every place.
+pub fn put_found(found: Lookup, numbers: &mut [u32])
+    requires { length numbers.old ≡ 2 }
+    ensures { numbers.new ≡ packed_lookup found }
+{
+    let [which, number] = told(found);
+    numbers[0] = which;
+    numbers[1] = number;
 }

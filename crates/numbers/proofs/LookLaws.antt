@@ -1,69 +1,48 @@
 -- Laws of looking a value up. Assumes nothing.
-use Prim.Native.Nat.{ℕ, suc, ◌*◌, ◌+◌, ◌-◌, ◌≤◌, ◌<◌}
+use Prim.Native.Nat.{ℕ, ◌*◌, ◌+◌, ◌-◌, ◌≤◌, ◌<◌}
 use mathlib.Core.Path.{◌≡◌, refl, ap, sym, ◌∙◌}
-use mathlib.Core.Bool.{Bool, true, false, cond, not, ◌&&◌, and-false}
-use mathlib.Core.List.{List, [], ◌∷◌}
+use mathlib.Core.Bool.{Bool, true, false, cond, ◌&&◌, and-false}
+use mathlib.Core.List.{List}
 use native.Mathlib.Omega.{arith}
 use lib.Dec.{eqb, ltb, leb}
-use lib.ListN.{length, get_or, take, drop, length-map}
+use lib.ListN.{length, get_or, take, drop}
 use lib.Seq.{take-take}
 use borrow.Author.Tests.{lt-ltb, le-ltb, leb-true, ltb-true, eqb-true, eq-eqb, ne_eqb}
-use Rattle.std.specs.Prelude.{Option, Some, None}
-use Rattle.std.specs.List.{position_or_len}
+use Rattle.std.specs.Prelude.{Option, None}
 use Rattle.trees.proofs.Tests.{and_true_l, and_true_r}
-use Rattle.meaning.specs.Numbering.{place, listed}
+use Rattle.meaning.specs.Numbering.{place, listed, Unseen}
+use Rattle.meaning.proofs.ValuesLaws.{Placed, here, nowhere, placed}
+use Rattle.numbers.proofs.PlaceLaws.{place_first}
 use Rattle.meaning.specs.Tables.{most, part, list_of}
 use Rattle.meaning.specs.Outcome.{k_right, values_right}
 use Rattle.numbers.specs.declared.Lookup.{Lookup}
 use Rattle.numbers.specs.declared.Lookup.TheVariants.{Has, OneLeft, NoneLeft, Misfit}
 use Rattle.making.specs.declared.Number.{Number}
-use Rattle.meaning.specs.declared.Value.{Value}
-use Rattle.numbers.specs.Asking.{number_in, numbered, bare, part_of}
+use Rattle.numbers.specs.Asking.{number_in, numbered, part_of}
 use Rattle.numbers.specs.Looking.{looked_up, readable, look_up, number_told}
 use Rattle.numbers.proofs.StartLaws.{most_le}
 
--- the first position of a value is its place
-position_is : (xs : List ℕ) (y : ℕ) → position_or_len (λ x. eqb x y) xs ≡ place xs y
-unfolding place
-position_is [] y = refl
-position_is (x ∷ xs) y = rw (position_is xs y) (go (eqb x y))
+-- the first place of a value is its number
+pub looked_first : (m : ℕ) (xs : List ℕ) (y i : ℕ) → i < length xs → get_or xs i 0 ≡ y → ((k : ℕ) → k < i → get_or xs k 0 ≡ y → ⊥) → looked_up m xs y ≡ Has (record { 0 = i })
+unfolding looked_up listed
+looked_first m xs y i h e none = rw (place_first xs y i h e none, lt-ltb i (length xs) h)
+
+-- a value that has no place has no number: one is left, or none
+unlisted : (xs : List ℕ) (y : ℕ) → Unseen xs y → listed xs y ≡ false
+unfolding listed
+unlisted xs y none = go (place xs y) (placed xs y)
   where
-    go : (t : Bool) → cond (not t) (1 + place xs y) 0 ≡ cond t 0 (suc (place xs y))
-    go true = refl
-    go false = omega arith
+    go : (n : ℕ) → Placed xs y n → ltb n (length xs) ≡ false
+    go n (here h e) = absurd (none n h e)
+    go n (nowhere h u) = le-ltb n (length xs) (omega arith)
 
--- what looking for the position of a value tells: its number, or that one is left, or none
-module _ (m : ℕ) (xs : List ℕ) (y : ℕ) where
-  found_if : {r : Option ℕ} → r ≡ cond (ltb (position_or_len (λ x. eqb x y) xs) (length xs)) (Some (position_or_len (λ x. eqb x y) xs)) None
-      → r ≡ cond (listed xs y) (Some (place xs y)) None
-  unfolding listed
-  found_if e = rw (position_is xs y) at e
+pub looked_left : (m : ℕ) (xs : List ℕ) (y : ℕ) → Unseen xs y → length xs < m → looked_up m xs y ≡ OneLeft
+unfolding looked_up
+looked_left m xs y none h = rw (unlisted xs y none, lt-ltb (length xs) m h)
 
-  pub looked_some : {r : Option ℕ} (i : ℕ) → r ≡ cond (ltb (position_or_len (λ x. eqb x y) xs) (length xs)) (Some (position_or_len (λ x. eqb x y) xs)) None
-      → r ≡ Some i → Has (record { 0 = i }) ≡ looked_up m xs y
-  unfolding looked_up
-  looked_some i e is = go (listed xs y) (sym is ∙ found_if e)
-    where
-      go : (t : Bool) → Some i ≡ cond t (Some (place xs y)) None → Has (record { 0 = i }) ≡ cond t (Has (record { 0 = place xs y })) (cond (ltb (length xs) m) OneLeft NoneLeft)
-      go true q = let z : i ≡ place xs y = cc in rw z
-      go false q = cc
-
-  pub looked_else : {r : Option ℕ} → r ≡ cond (ltb (position_or_len (λ x. eqb x y) xs) (length xs)) (Some (position_or_len (λ x. eqb x y) xs)) None
-      → r ≡ None → cond (ltb (length xs) m) OneLeft NoneLeft ≡ looked_up m xs y
-  unfolding looked_up
-  looked_else e is = go (listed xs y) (sym is ∙ found_if e)
-    where
-      go : (t : Bool) → None ≡ cond t (Some (place xs y)) None → cond (ltb (length xs) m) OneLeft NoneLeft ≡ cond t (Has (record { 0 = place xs y })) (cond (ltb (length xs) m) OneLeft NoneLeft)
-      go true q = cc
-      go false q = refl
-
-  pub looked_left : {r : Option ℕ} → r ≡ cond (ltb (position_or_len (λ x. eqb x y) xs) (length xs)) (Some (position_or_len (λ x. eqb x y) xs)) None
-      → r ≡ None → length xs < m → OneLeft ≡ looked_up m xs y
-  looked_left e is h = rw (sym (looked_else e is), lt-ltb (length xs) m h)
-
-  pub looked_none : {r : Option ℕ} → r ≡ cond (ltb (position_or_len (λ x. eqb x y) xs) (length xs)) (Some (position_or_len (λ x. eqb x y) xs)) None
-      → r ≡ None → m ≤ length xs → NoneLeft ≡ looked_up m xs y
-  looked_none e is h = rw (sym (looked_else e is), le-ltb (length xs) m h)
+pub looked_none : (m : ℕ) (xs : List ℕ) (y : ℕ) → Unseen xs y → m ≤ length xs → looked_up m xs y ≡ NoneLeft
+unfolding looked_up
+looked_none m xs y none h = rw (unlisted xs y none, le-ltb (length xs) m h)
 
 -- what is told is the number of the value, or that it has none
 pub told_number : (m : ℕ) (xs : List ℕ) (y : ℕ) → number_told (looked_up m xs y) ≡ number_in xs y
@@ -77,38 +56,6 @@ told_number m xs y = go (listed xs y) (ltb (length xs) m)
 
 pub told_is : (m : ℕ) (xs : List ℕ) (y : ℕ) {n : Option Number} {found : Lookup} → found ≡ looked_up m xs y → n ≡ number_told found → number_in xs y ≡ n
 told_is m xs y e h = sym (h ∙ (ap number_told e ∙ told_number m xs y))
-
--- the position of a value among fresh ones is its number among them
-fresh_position : (xs : List Value) (y : ℕ) → position_or_len (λ (x : Value). eqb x.0 y) xs ≡ place (bare xs) y
-unfolding place
-fresh_position [] y = refl
-fresh_position (x ∷ xs) y = rw (fresh_position xs y) (go (eqb x.0 y))
-  where
-    go : (t : Bool) → cond (not t) (1 + place (bare xs) y) 0 ≡ cond t 0 (suc (place (bare xs) y))
-    go true = refl
-    go false = omega arith
-
-module _ (xs : List Value) (y : ℕ) {r : Option ℕ}
-    (e : r ≡ cond (ltb (position_or_len (λ (x : Value). eqb x.0 y) xs) (length xs)) (Some (position_or_len (λ (x : Value). eqb x.0 y) xs)) None) where
-  fresh_found : r ≡ cond (listed (bare xs) y) (Some (place (bare xs) y)) None
-  unfolding listed
-  fresh_found = rw length-map (rw (fresh_position xs y) at e)
-
-  pub fresh_some : (i : ℕ) → r ≡ Some i → number_in (bare xs) y ≡ numbered i
-  unfolding number_in
-  fresh_some i is = go (listed (bare xs) y) (sym is ∙ fresh_found)
-    where
-      go : (t : Bool) → Some i ≡ cond t (Some (place (bare xs) y)) None → cond t (numbered (place (bare xs) y)) None ≡ numbered i
-      go true q = let z : i ≡ place (bare xs) y = cc in rw z
-      go false q = cc
-
-  pub fresh_none : r ≡ None → number_in (bare xs) y ≡ None
-  unfolding number_in
-  fresh_none is = go (listed (bare xs) y) (sym is ∙ fresh_found)
-    where
-      go : (t : Bool) → None ≡ cond t (Some (place (bare xs) y)) None → cond t (numbered (place (bare xs) y)) None ≡ None
-      go true q = cc
-      go false q = refl
 
 -- a k that is right is small
 pub small : (k : ℕ) → k_right k ≡ true → k ≤ 10

@@ -1,6 +1,6 @@
 // What an event asks: fact by fact, the walk over the rows, and the numbers that it gives out. Nothing is written to the value slice here.
 // What each function promises is in specs/Asking.antt.
-ghost use Rattle.std.specs.Prelude.{◌≡◌, ◌+◌, ◌<◌, ◌≤◌, length, get_or};
+ghost use Rattle.std.specs.Prelude.{◌≡◌, ◌+◌, ◌<◌, ◌≤◌, length, get_or, take};
 ghost use Rattle.meaning.specs.Rows.{argument_at, right, check_rows, count_of_rows, rule_of};
 ghost use Rattle.meaning.specs.Numbering;
 ghost use Rattle.meaning.specs.Numbering.{ask_arguments, ask_rows};
@@ -8,7 +8,7 @@ ghost use Rattle.meaning.specs.Outcome.{fact_of};
 ghost use Rattle.numbers.specs.Matching.{Sized, arguments_of};
 ghost use Rattle.numbers.specs.Asking.{number_in, Parted, part_of, with_fresh, bare, sheet, nothing_given, Steady, Carried, Pair, ask_one, AtPlace, AtPlaces, Asking, AskedBy, Put, Askable, Asks};
 
-use super::looking::Parts;
+use super::looking::{Parts, look_in};
 use super::matching::matches;
 use super::{Asked, most, value_at};
 use making::Number;
@@ -23,6 +23,18 @@ struct Noted {
     numbers: [Option<Number>; 12],
 }
 
+// The values as numbers, in front of a list of 24.
+fn plain(fresh: &[Value]) -> [u32; 24]
+    requires { length fresh.now ≤ 24 }
+    ensures { take (length fresh.now) result ≡ bare fresh.now }
+{
+    let mut numbers = [0; 24];
+    for i in 0..fresh.len() {
+        numbers[i] = fresh[i].0;
+    }
+    numbers
+}
+
 impl Noted {
     // The number of y among the values of variable v, those of this event included.
     fn known(&self, parts: &Parts, v: usize, y: Value) -> Option<Number>
@@ -35,8 +47,9 @@ impl Noted {
         let before = parts.counts[v];
         let from = 24 * v;
         let to = from + (self.counts[v] - before) as usize;
-        let i = self.fresh[from..to].iter().position(|x| x.0 == y.0)?;
-        Some(Number(before + i as u32))
+        let fresh = &self.fresh[from..to];
+        let n = look_in(&plain(fresh)[..fresh.len()], 24, y).number()?;
+        Some(Number(before + n.0))
     }
 
     // Variable v asks a number for the fact's value j. A list is searched only here, where a matching atom asks.

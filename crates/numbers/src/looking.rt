@@ -14,11 +14,15 @@ pub fn look_in(list: &[u32], m: usize, y: Value) -> Lookup
     requires { length list.now ≤ 1023 }
     ensures { result ≡ looked_up m list.now y.0 }
 {
-    match list.iter().position(|x| *x == y.0) {
-        Some(i) => Lookup::Has(Number(i as u32)),
-        None if list.len() < m => Lookup::OneLeft,
-        None => Lookup::NoneLeft,
+    for i in 0..list.len() {
+        if list[i] == y.0 {
+            return Lookup::Has(Number(i as u32));
+        }
     }
+    if list.len() < m {
+        return Lookup::OneLeft;
+    }
+    Lookup::NoneLeft
 }
 
 // The value slice in its four parts of m values, of which the first `counts[v]` of the part v have numbers.
