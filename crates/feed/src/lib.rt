@@ -2,7 +2,7 @@
 // No right line is longer than 100 bytes, so a longer one is known to be bad by its first 101 bytes, and the rest is not held.
 #![tactic(auto)]
 
-ghost use Rattle.std.specs.Prelude.{◌≡◌, ◌≤◌, ◌==◌, take, position, replicate};
+ghost use Rattle.std.specs.Prelude.{◌≡◌, ◌≤◌, ◌==◌, length, take, position, replicate};
 ghost use Rattle.lines.specs.Format.{Reads};
 ghost use Rattle.feed.specs.Feeds.{holding, hold_bytes, Passed};
 
@@ -21,6 +21,14 @@ fn line_end(bytes: &[u8]) -> Option<usize>
     ensures { result ≡ position (λ b. b == 10) bytes.now }
 {
     bytes.iter().position(|b| *b == b'\n')
+}
+
+// The line that the first `held` bytes are, read.
+pub fn read(line: &[u8], held: usize) -> Option<Line>
+    requires { held ≤ length line.now }
+    ensures { Reads (take held line.now) result }
+{
+    lines::read_line(&line[..held])
 }
 
 impl Held {
@@ -72,6 +80,6 @@ impl Held {
     pub fn read(&self) -> Option<Line>
         ensures { Reads (take self.now.count self.now.line) result }
     {
-        lines::read_line(&self.line[..self.count])
+        read(&self.line, self.count)
     }
 }

@@ -70,7 +70,12 @@ impl Desk {
         ensures ended { Ended (shown self.old) out.old (shown self.new) out.new result }
     {
         let next = self.last(out);
-        let after = session::ready(self.session, &mut self.tables);
+        let after = session::ready(
+            self.session,
+            &self.tables.rows,
+            &mut self.tables.nodes,
+            &mut self.tables.values,
+        );
         self.session = after.session;
         self.held.clear();
         answers::put_told(out, next, after.told)

@@ -218,14 +218,18 @@ fn begin(s: Session, rows: &[u32], nodes: &mut [u32], values: &mut [u32]) -> Aft
 }
 
 // What is due before an event and at the end of the input: a missing first line is a bad line, and a rule that has come is started.
-pub fn ready(s: Session, tables: &mut Tables) -> After
+pub fn ready(
+    s: Session,
+    rows: &[u32; 585],
+    nodes: &mut [u32; 1536],
+    values: &mut [u32; 4092],
+) -> After
     requires { Sound s }
-    ensures begins { Begins (ready_as s.part s tables.old.rows tables.old.nodes tables.old.values) result tables.new.nodes tables.new.values }
-    ensures kept { (tables.new.rows ≡ tables.old.rows) × (tables.new.work ≡ tables.old.work) }
+    ensures { Begins (ready_as s.part s rows.now nodes.old values.old) result nodes.new values.new }
 {
     match s.part {
         Part::First => bad(s),
-        Part::Rows => begin(s, &tables.rows, &mut tables.nodes, &mut tables.values),
+        Part::Rows => begin(s, rows, nodes, values),
         Part::Events | Part::Over => quiet(s),
     }
 }
@@ -294,7 +298,7 @@ fn event(s: Session, event: Event, tables: &mut Tables) -> After
     ensures judges { Judges (event_left s event tables.old.rows tables.old.nodes tables.old.values tables.old.work) result tables.new.nodes tables.new.values tables.new.work }
     ensures kept { tables.new.rows ≡ tables.old.rows }
 {
-    let begun = ready(s, tables);
+    let begun = ready(s, &tables.rows, &mut tables.nodes, &mut tables.values);
     match begun.session.part {
         Part::Events => happen(
             begun.session,
