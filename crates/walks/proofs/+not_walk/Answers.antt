@@ -40,7 +40,9 @@ bounds-lent-j t c =
     omega (arith, k.table.fits, k.table.small, k.size, k.long, c.requires.left_le_levels.1.below)
 
 pub returns-in-Some-clause-complemented : goal.returns-in-Some-clause-complemented
-returns-in-Some-clause-complemented t c = (complement_hit c.requires.desk _ _ (omega arith) c.requires.left_le_levels.1.below _ c.in-Some.ensures.0 c.in-Some.ensures.1)
+returns-in-Some-clause-complemented t c =
+    let e = c.in-Some.ensures in
+    complement_hit c.requires.desk _ _ (omega arith) c.requires.left_le_levels.1.below _ (omega (arith, e.0)) (omega (arith, e.0, e.1))
 
 pub read-x-requires : goal.read-x-requires
 read-x-requires t c =
