@@ -8,7 +8,7 @@ use mathlib.Core.List.{List, [], ◌∷◌}
 use lib.Dec.{eqb, ltb}
 use lib.ListN.{take, drop, get_or}
 use lib.Seq.{drop-drop, take-take, get_or-drop, get_or-take}
-use borrow.Author.Tests.{ne_eqb, lt-ltb, le-ltb, eqb-true, ltb-true}
+use borrow.Author.Tests.{eq-eqb, ne_eqb, lt-ltb, le-ltb, eqb-true, ltb-true}
 use Rattle.std.proofs.Common.{Option, Some, None, Result, Ok, Err}
 use Rattle.cards.specs.Bytes.{number_of}
 use Rattle.cards.specs.Moments.{Record}
@@ -18,7 +18,7 @@ use Rattle.card_block.specs.declared.Reason.{Reason}
 use Rattle.card_block.specs.declared.Reason.TheVariants.{Shape}
 use Rattle.card_block.specs.declared.moments.Moment.{Moment}
 use Rattle.card_block.specs.Shapes.{records_from}
-use Rattle.card_block.specs.Judging.{open_at, held_by, held, may_belong, onward, went_by, went_on, walked_by}
+use Rattle.card_block.specs.Judging.{open_at, held_by, held, left_by, may_belong, onward, went_by, went_on, walked_by}
 
 -- what is open is held as it is
 pub held_open : (x : Option Moment) → held (open_at x) ≡ x
@@ -76,6 +76,25 @@ pub went_right : (o : Open) (new : ℕ) (last : Bool) (h : Option Moment) → ma
     → Ok h ≡ went_on o new last
 unfolding went_on went_by
 went_right o new last h e f = rw (e, sym f) (ap Ok (sym (held_open h)))
+
+-- the same of each open moment: none, one that takes a record more, one that has its eight, and one of another stamp
+pub went_first : (stamp : ℕ) (last : Bool) → Ok (left_by last 0 stamp) ≡ went_on (open_at None) stamp last
+unfolding went_on went_by may_belong onward open_at held held_by closed more
+went_first stamp true = refl
+went_first stamp false = refl
+
+pub went_more : (m : Moment) (stamp : ℕ) (last : Bool) → m.more < 7 → m.stamp ≡ stamp → Ok (left_by last (m.more + 1) stamp) ≡ went_on (open_at (Some m)) stamp last
+unfolding went_on went_by may_belong onward open_at held held_by closed more
+went_more m stamp true h e = rw (ne_eqb (suc m.more) 0 (λ z. omega arith), lt-ltb (suc m.more) 8 (omega arith), eq-eqb stamp m.stamp (sym e))
+went_more m stamp false h e = rw (ne_eqb (suc m.more) 0 (λ z. omega arith), lt-ltb (suc m.more) 8 (omega arith), eq-eqb stamp m.stamp (sym e), add-one, e)
+
+pub went_ninth : (m : Moment) (stamp : ℕ) (last : Bool) → 7 ≤ m.more → Err Shape ≡ went_on (open_at (Some m)) stamp last
+unfolding went_on went_by may_belong open_at
+went_ninth m stamp last h = rw (ne_eqb (suc m.more) 0 (λ z. omega arith), le-ltb (suc m.more) 8 (omega arith))
+
+pub went_other : (m : Moment) (stamp : ℕ) (last : Bool) → m.more < 7 → (m.stamp ≡ stamp → ⊥) → Err Shape ≡ went_on (open_at (Some m)) stamp last
+unfolding went_on went_by may_belong open_at
+went_other m stamp last k h = rw (ne_eqb (suc m.more) 0 (λ z. omega arith), lt-ltb (suc m.more) 8 (omega arith), ne_eqb stamp m.stamp (λ e. h (sym e)))
 
 -- a record that belongs leaves the next moment open, and one that does not is a bad shape
 pub went_ok : (o : Open) (new : ℕ) (last : Bool) (h : Option Moment) → Ok h ≡ went_on o new last

@@ -24,6 +24,11 @@ held_by (suc more) stamp = Some (record { stamp = stamp; more = more })
 unfoldable pub held : Open → Option Moment
 held o = held_by o.count o.stamp
 
+-- what a record of this stamp leaves open, which has so many before it in its moment
+abbrev pub left_by : Bool → ℕ → ℕ → Option Moment
+left_by true more stamp = None
+left_by false more stamp = Some (record { stamp = stamp; more = more })
+
 -- a record of this stamp can belong to the open moment, or begin one
 unfoldable pub may_belong : ℕ → ℕ → ℕ → Bool
 may_belong count stamp new = eqb count 0 || (ltb count 8 && eqb new stamp)
