@@ -79,22 +79,18 @@ went_right o new last h e f = rw (e, sym f) (ap Ok (sym (held_open h)))
 
 -- the same of each open moment: none, one that takes a record more, one that has its eight, and one of another stamp
 pub went_first : (stamp : ℕ) (last : Bool) → Ok (left_by last 0 stamp) ≡ went_on (open_at None) stamp last
-unfolding went_on went_by may_belong onward open_at held held_by closed more
-went_first stamp true = refl
-went_first stamp false = refl
+went_first stamp true = went_right _ _ _ None (sym (begins stamp)) (onward_ends None stamp)
+went_first stamp false = went_right _ _ _ _ (sym (begins stamp)) (onward_first stamp)
 
 pub went_more : (m : Moment) (stamp : ℕ) (last : Bool) → m.more < 7 → m.stamp ≡ stamp → Ok (left_by last (m.more + 1) stamp) ≡ went_on (open_at (Some m)) stamp last
-unfolding went_on went_by may_belong onward open_at held held_by closed more
-went_more m stamp true h e = rw (ne_eqb (suc m.more) 0 (λ z. omega arith), lt-ltb (suc m.more) 8 (omega arith), eq-eqb stamp m.stamp (sym e))
-went_more m stamp false h e = rw (ne_eqb (suc m.more) 0 (λ z. omega arith), lt-ltb (suc m.more) 8 (omega arith), eq-eqb stamp m.stamp (sym e), add-one, e)
+went_more m stamp true h e = went_right _ _ _ None (sym (follows m stamp h) ∙ eq-eqb stamp m.stamp (sym e)) (onward_ends (Some m) stamp)
+went_more m stamp false h e = rw (← e) (went_right _ _ _ _ (sym (follows m m.stamp h) ∙ eq-eqb m.stamp m.stamp refl) (onward_more m m.stamp))
 
 pub went_ninth : (m : Moment) (stamp : ℕ) (last : Bool) → 7 ≤ m.more → Err Shape ≡ went_on (open_at (Some m)) stamp last
-unfolding went_on went_by may_belong open_at
-went_ninth m stamp last h = rw (ne_eqb (suc m.more) 0 (λ z. omega arith), le-ltb (suc m.more) 8 (omega arith))
+went_ninth m stamp last h = went_wrong _ _ _ (sym (ninth m stamp h) ∙ le-ltb m.more 7 h)
 
 pub went_other : (m : Moment) (stamp : ℕ) (last : Bool) → m.more < 7 → (m.stamp ≡ stamp → ⊥) → Err Shape ≡ went_on (open_at (Some m)) stamp last
-unfolding went_on went_by may_belong open_at
-went_other m stamp last k h = rw (ne_eqb (suc m.more) 0 (λ z. omega arith), lt-ltb (suc m.more) 8 (omega arith), ne_eqb stamp m.stamp (λ e. h (sym e)))
+went_other m stamp last k h = went_wrong _ _ _ (sym (follows m stamp k) ∙ ne_eqb stamp m.stamp (λ e. h (sym e)))
 
 -- a record that belongs leaves the next moment open, and one that does not is a bad shape
 pub went_ok : (o : Open) (new : ℕ) (last : Bool) (h : Option Moment) → Ok h ≡ went_on o new last
